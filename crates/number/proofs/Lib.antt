@@ -1,0 +1,5 @@
+pub mod Table
+pub mod TenPowers
+pub mod Negation
+pub mod Products
+pub mod Rounding

@@ -1,0 +1,7 @@
+pub mod Signed
+pub mod Range
+pub mod Valid
+pub mod ValidParts
+pub mod Decimals
+pub mod Answers
+pub mod Shown

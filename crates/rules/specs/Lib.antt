@@ -1,0 +1,4 @@
+pub mod Stops
+pub mod Values
+pub mod Arithmetic
+pub mod Moves

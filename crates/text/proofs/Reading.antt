@@ -1,0 +1,66 @@
+-- Laws of reading a decimal, one for each way through the loop of `text::read` and each way out of it, and the ten characters of a digit.
+-- Assumes nothing.
+use mathlib.Core.Path.{_≡_, refl, sym, ap, _∙_}
+use mathlib.Core.Bool.{true, false}
+use mathlib.Core.List.{List, [], _∷_}
+use Prim.Native.Nat.{ℕ, suc, _+_, _-_, _*_, _^_, _≤_, _<_}
+use native.Mathlib.Nat.{pow-suc}
+use native.Mathlib.Numerals.{add-one}
+use native.Mathlib.Omega.{arith}
+use lib.ListN.{length, getD, drop, drop-of-length-le}
+use lib.Seq.{drop-cons}
+use borrow.Author.Tests.{lt-ltb, le-ltb, le-leb, lt-leb}
+use Rattle.rules.specs.declared.Num.the-variants.{Failed}
+use Rattle.rules.specs.declared.Fault.the-variants as fault
+use Rattle.rules.specs.Values.{isFrom, lastOf, readFrom, readOf}
+
+-- ---- one of ten characters
+
+pub from-yes : (z b : ℕ) → z ≤ b → b < z + 10 → isFrom z b ≡ true
+from-yes z b h k = simp (le-leb z b h, lt-ltb b (z + 10) k)
+
+pub from-low : (z b : ℕ) → b < z → isFrom z b ≡ false
+from-low z b h = simp (lt-leb z b h)
+
+pub from-high : (z b : ℕ) → z + 10 ≤ b → isFrom z b ≡ false
+from-high z b h = simp (le-leb z b (omega arith), le-ltb b (z + 10) h)
+
+-- ---- before the loop
+
+pub read-empty : (limit base : ℕ) (s : List ℕ) → length s ≡ 0 → readOf limit base s ≡ Failed fault.BadDigit
+unfolding readOf
+read-empty limit base [] e = refl
+read-empty limit base (b ∷ bs) e = absurd (omega arith)
+
+pub read-long : (limit base : ℕ) (s : List ℕ) → limit < length s → readOf limit base s ≡ Failed fault.TooLong
+unfolding readOf
+read-long limit base [] h = absurd (omega arith)
+read-long limit base (b ∷ bs) h = simp (lt-ltb limit (suc (length bs)) h)
+
+pub read-start : (limit base : ℕ) (s : List ℕ) → (length s ≡ 0 → ⊥) → length s ≤ limit → readOf limit base s ≡ readFrom base 0 (getD s 0 0) (drop 1 s)
+unfolding readOf
+read-start limit base [] n h = absurd (n refl)
+read-start limit base (b ∷ bs) n h = simp (le-ltb limit (suc (length bs)) h)
+
+-- ---- one character
+
+-- `drop-cons` in the code's terms: `j + 1` is stuck, where `suc j` would compute under `drop`'s binder
+pub drop-next : (s : List ℕ) (j : ℕ) → j < length s → drop j s ≡ getD s j 0 ∷ drop (j + 1) s
+drop-next s j h = drop-cons s j 0 h ∙ ap (λ (n : ℕ). getD s j 0 ∷ drop n s) (sym (add-one j))
+
+module _ (base acc : ℕ) (s : List ℕ) (i : ℕ) where
+  pub read-bad : i + 1 < length s → isFrom 48 (getD s i 0) ≡ false → readFrom base acc (getD s i 0) (drop (i + 1) s) ≡ Failed fault.BadDigit
+  unfolding readFrom
+  read-bad h e = rw (drop-next s (i + 1) h) (simp e)
+
+  pub read-more : i + 1 < length s → isFrom 48 (getD s i 0) ≡ true → readFrom base acc (getD s i 0) (drop (i + 1) s) ≡ readFrom base (acc * 10 + (getD s i 0 - 48)) (getD s (i + 1) 0) (drop (i + 1 + 1) s)
+  unfolding readFrom
+  read-more h e = rw (drop-next s (i + 1) h) (simp e)
+
+  pub read-last : length s ≤ i + 1 → readFrom base acc (getD s i 0) (drop (i + 1) s) ≡ lastOf base acc (getD s i 0)
+  unfolding readFrom
+  read-last h = rw (drop-of-length-le s h)
+
+-- one digit more
+pub more-digits : (acc i d : ℕ) → acc < 10 ^ i → d < 10 → acc * 10 + d < 10 ^ (i + 1)
+more-digits acc i d h k = rw (add-one i, pow-suc 10 i) (omega arith)

@@ -1,0 +1,98 @@
+-- `text::read` meets its contract: each character is read as the rule reads it, and each way out answers what the rule answers there.
+-- The invariant: what is still to be read, after the digits of acc, answers as the whole does, and acc has at most i digits.
+-- The measure: the characters before the last that are still to be read.
+-- Assumes nothing.
+use mathlib.Core.Path.{_≡_, ap, sym, _∙_}
+use Prim.Native.Nat.{_+_, _-_, _^_, _≤_, _<_}
+use native.Mathlib.Nat.{pow-le-pow-right, lt-of-lt-of-le}
+use native.Mathlib.Omega.{arith}
+use borrow.Author.Needs.{needs}
+use lib.Dec.{lit<}
+use lib.ListN.{length, getD, drop}
+use Rattle.rules.specs.Values.{lastOf, readFrom, readOf}
+use Rattle.text.proofs.Reading.{from-yes, from-low, from-high, read-empty, read-long, read-start, read-bad, read-more, read-last, more-digits}
+use Rattle.text.proofs.read.Statement.{statement}
+use Rattle.text.proofs.read.Tie as tie
+
+abbrev Inv-loop : tie.InvT-loop
+Inv-loop limit base s n end acc₀ i₀ acc i =
+    (i ≤ end) × (acc < 10 ^ i) × (readOf limit base s ≡ readFrom base acc (getD s i 0) (drop (i + 1) s))
+
+abbrev μ-loop : tie.MeasureT-loop
+μ-loop limit base s n end acc₀ i₀ acc i = end - i
+
+returns : tie.Need-returns Inv-loop μ-loop
+returns c = let a = c .before .before .args in sym (read-empty (a .limit) (a .base) (a .s .now) (c .if1 .taken))
+
+returns-2 : tie.Need-returns-2 Inv-loop μ-loop
+returns-2 c = let a = c .before .before .before .args in sym (read-long (a .limit) (a .base) (a .s .now) (c .if2 .taken))
+
+sub-end : tie.Need-sub-end Inv-loop μ-loop
+sub-end c = omega arith
+
+loop-holds : tie.Need-loop-holds Inv-loop μ-loop
+loop-holds c =
+    let a = c .before .before .before .args in
+    (omega arith, lit< tt, read-start (a .limit) (a .base) (a .s .now) (c .before .if1 .left) (c .if2 .left))
+
+shared-slice-read-wide : tie.Need-shared-slice-read-wide Inv-loop μ-loop
+shared-slice-read-wide c = omega arith
+
+wide-requires : tie.Need-wide-requires Inv-loop μ-loop
+wide-requires c κs = search needs
+
+returns-3 : tie.Need-returns-3 Inv-loop μ-loop
+returns-3 c =
+    let l = c .before .before .before .before in
+    let a = l .before .before .before .before .args in
+    sym (l .loop .inv .2 ∙ read-bad (a .base) (l .loop .acc) (a .s .now) (l .loop .i) (omega arith) (from-low 48 _ (rw (c .before .wide .ensures) at (c .if3 .taken))))
+
+returns-4 : tie.Need-returns-4 Inv-loop μ-loop
+returns-4 c =
+    let l = c .before .before .before .before .before in
+    let a = l .before .before .before .before .args in
+    sym (l .loop .inv .2 ∙ read-bad (a .base) (l .loop .acc) (a .s .now) (l .loop .i) (omega arith) (from-high 48 _ (rw (c .before .before .wide .ensures) at (c .if4 .taken))))
+
+small : (c : tie.At-loop Inv-loop μ-loop) → c .loop .acc < 10 ^ 17
+small c = lt-of-lt-of-le (c .loop .inv .1) (pow-le-pow-right (lit< tt) {i = c .loop .i} {j = 17} (omega arith))
+
+mul-acc : tie.Need-mul-acc Inv-loop μ-loop
+mul-acc c = omega (arith, small (c .before .before .before .before .before))
+
+add-acc : tie.Need-add-acc Inv-loop μ-loop
+add-acc c = omega (arith, small (c .before .before .before .before .before))
+
+add-i : tie.Need-add-i Inv-loop μ-loop
+add-i c = omega arith
+
+loop-less : tie.Need-loop-less Inv-loop μ-loop
+loop-less c = omega arith
+
+loop-again : tie.Need-loop-again Inv-loop μ-loop
+loop-again c =
+    let l = c .before .before .before .before .before in
+    let a = l .before .before .before .before .args in
+    let b : c .before .before .wide .result ≡ getD (a .s .now) (l .loop .i) 0 = c .before .before .wide .ensures in
+    rw b
+    (omega arith, more-digits _ _ _ (l .loop .inv .1) (omega arith), l .loop .inv .2 ∙ read-more (a .base) (l .loop .acc) (a .s .now) (l .loop .i) (omega arith) (from-yes 48 (getD (a .s .now) (l .loop .i) 0) (omega arith) (omega arith)))
+
+shared-slice-read-wide-2 : tie.Need-shared-slice-read-wide-2 Inv-loop μ-loop
+shared-slice-read-wide-2 c = omega arith
+
+wide-requires-2 : tie.Need-wide-requires-2 Inv-loop μ-loop
+wide-requires-2 c κs = search needs
+
+last-requires : tie.Need-last-requires Inv-loop μ-loop
+last-requires c κs = (c .before .before .before .before .before .before .before .pre .1, small (c .before .before .before))
+
+returns-5 : tie.Need-returns-5 Inv-loop μ-loop
+returns-5 c =
+    let l = c .before .before .before .before in
+    let a = l .before .before .before .before .args in
+    let e : length (a .s .now) - 1 ≡ l .loop .i = omega arith in
+    let b : c .before .wide2 .result ≡ getD (a .s .now) (l .loop .i) 0 = c .before .wide2 .ensures ∙ ap (λ k. getD (a .s .now) k 0) e in
+    c .last .ensures ∙ ap (lastOf (a .base) (l .loop .acc)) b
+    ∙ sym (l .loop .inv .2 ∙ read-last (a .base) (l .loop .acc) (a .s .now) (l .loop .i) (omega arith))
+
+pub read-spec : {M : Type 1} → statement M
+read-spec = tie.close (tie.spec Inv-loop μ-loop returns returns-2 sub-end loop-holds shared-slice-read-wide wide-requires returns-3 returns-4 mul-acc add-acc add-i loop-less loop-again shared-slice-read-wide-2 wide-requires-2 last-requires returns-5)

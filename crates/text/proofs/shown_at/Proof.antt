@@ -1,0 +1,27 @@
+-- `text::shown_at` meets its contract: at each `return` the tests that led there say which of the three characters stands there.
+-- Assumes nothing.
+use borrow.Author.Needs.{needs}
+use borrow.Author.Tests.{lt-ltb, le-ltb, eq-eqb, ne-eqb}
+use Rattle.text.proofs.shown_at.Statement.{statement}
+use Rattle.text.proofs.shown_at.Tie as tie
+
+add-result : tie.Need-add-result
+add-result c = search needs
+
+cast-result : tie.Need-cast-result
+cast-result c = search needs
+
+returns : tie.Need-returns
+returns c = simp (lt-ltb _ _ (c .if1 .taken))
+
+returns-2 : tie.Need-returns-2
+returns-2 c = simp (le-ltb _ _ (c .before .before .if1 .left), c .before .if2 .taken, eq-eqb _ _ (c .if3 .taken))
+
+returns-3 : tie.Need-returns-3
+returns-3 c = simp (le-ltb _ _ (c .before .before .if1 .left), c .before .if2 .taken, ne-eqb _ _ (c .if3 .left))
+
+returns-4 : tie.Need-returns-4
+returns-4 c = simp (le-ltb _ _ (c .before .if1 .left), c .if2 .left)
+
+pub shown-at-spec : {M : Type 1} → statement M
+shown-at-spec = tie.close (tie.spec add-result cast-result returns returns-2 returns-3 returns-4)

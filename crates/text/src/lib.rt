@@ -1,0 +1,263 @@
+// Digits and letters in bytes: reading and writing decimals, number to alpha, alpha to number, alpha to alpha, case, filling.
+use rules::Fault;
+use rules::Num;
+ghost use mathlib.Core.Path.{_≡_};
+ghost use mathlib.Core.Bool.{cond, _&&_};
+ghost use Prim.Native.Nat.{_+_, _%_, _^_, _≤_, _<_, min};
+ghost use lib.Dec.{ltb, eqb};
+ghost use lib.ListN.{length, replicate};
+ghost use Rattle.rules.specs.Values.{Val, Top, Limit, Letters, lastOf, readOf};
+ghost use Rattle.rules.specs.Moves.{placed, digitAt, written, width, shown, alphaOf, fitted, upper, lower, upcased, locased};
+
+// A byte as a number that a sum may be made with.
+fn wide(x: u8) -> u64
+    ensures { λ r. ⌜ r ≡ x ⌝ }
+{
+    x as u64
+}
+
+// The number of a decimal whose last character is b, after the digits of acc; 22 where b is neither a digit nor a sign letter.
+fn last(base: u64, acc: u64, b: u64) -> Num
+    requires { ⌜ Letters base ⌝ }
+    requires { ⌜ acc < 10 ^ 17 ⌝ }
+    ensures { λ r. ⌜ r ≡ lastOf base acc b ⌝ }
+{
+    if b < 48 {
+        return Num::Failed(Fault::BadDigit);
+    }
+    if b < 58 {
+        return Num::Value(number::with_sign(false, acc * 10 + (b - 48)));
+    }
+    if b < base {
+        return Num::Failed(Fault::BadDigit);
+    }
+    if b < base + 10 {
+        return Num::Value(number::with_sign(true, acc * 10 + (b - base)));
+    }
+    Num::Failed(Fault::BadDigit)
+}
+
+// Reads a decimal: 20 where it is longer than limit, 22 where it is not valid.
+pub fn read(limit: usize, base: u64, s: &[u8]) -> Num
+    requires { ⌜ Limit limit ⌝ }
+    requires { ⌜ Letters base ⌝ }
+    ensures { λ r. ⌜ r ≡ readOf limit base (now (s .entry)) ⌝ }
+{
+    let n = s.len();
+    if n == 0 {
+        return Num::Failed(Fault::BadDigit);
+    }
+    if limit < n {
+        return Num::Failed(Fault::TooLong);
+    }
+    let end = n - 1;
+    let mut acc: u64 = 0;
+    let mut i = 0;
+    while i < end {
+        let b = wide(s[i]);
+        if b < 48 {
+            return Num::Failed(Fault::BadDigit);
+        }
+        if 57 < b {
+            return Num::Failed(Fault::BadDigit);
+        }
+        acc = acc * 10 + (b - 48);
+        i += 1;
+    }
+    last(base, acc, wide(s[end]))
+}
+
+// The last digits of m, as many as there is room for, from the right.
+fn put_digits(s: &mut [u8], m: u64)
+    ensures { λ _. ⌜ now (s .exit) ≡ placed (digitAt 48 m) (length (now (s .entry))) ⌝ }
+{
+    let mut left = m;
+    let mut i = s.len();
+    while 0 < i {
+        i -= 1;
+        s[i] = (48 + left % 10) as u8;
+        left = left / 10;
+    }
+}
+
+// Writes a number as a decimal.
+pub fn write(base: u8, s: &mut [u8], v: i64)
+    requires { ⌜ Letters base ⌝ }
+    requires { ⌜ length (now s) ≤ 18 ⌝ }
+    requires { ⌜ Val (10 ^ 18) v ⌝ }
+    ensures { λ _. ⌜ now (s .exit) ≡ written base (length (now (s .entry))) v ⌝ }
+{
+    let n = s.len();
+    let m = number::magnitude(v);
+    put_digits(s, m);
+    if number::is_neg(v) {
+        if 0 < m % number::power(n) {
+            s[n - 1] = base + (m % 10) as u8;
+        }
+    }
+}
+
+// How many digits m has.
+fn width_of(m: u64) -> usize
+    requires { ⌜ m < 10 ^ 18 ⌝ }
+    ensures { λ r. ⌜ r ≡ width m ⌝ }
+{
+    let t = number::powers();
+    let mut w = 1;
+    while w < 18 {
+        if m < t[w] {
+            return w;
+        }
+        w += 1;
+    }
+    w
+}
+
+// What stands at the place k, counted from the right, where a number of w digits is shown; left is the number without its last k digits.
+fn shown_at(neg: bool, left: u64, w: usize, k: usize) -> u8
+    ensures { λ r. ⌜ r ≡ cond (ltb k w) (48 + left % 10) (cond (neg && eqb k w) 45 32) ⌝ }
+{
+    if k < w {
+        return (48 + left % 10) as u8;
+    }
+    if neg {
+        if k == w {
+            return 45;
+        }
+    }
+    32
+}
+
+// Shows a number in alpha.
+pub fn show(s: &mut [u8], v: i64)
+    requires { ⌜ Val (10 ^ 18) v ⌝ }
+    ensures { λ _. ⌜ now (s .exit) ≡ shown (length (now (s .entry))) v ⌝ }
+{
+    let n = s.len();
+    let neg = number::is_neg(v);
+    let m = number::magnitude(v);
+    let w = width_of(m);
+    let mut left = m;
+    let mut i = n;
+    while 0 < i {
+        i -= 1;
+        s[i] = shown_at(neg, left, w, n - 1 - i);
+        left = left / 10;
+    }
+}
+
+// Alpha to number. From top on acc stands still: what is left can only turn 20 into 22.
+pub fn from_alpha(top: u64, s: &[u8]) -> Num
+    requires { ⌜ Top top ⌝ }
+    ensures { λ r. ⌜ r ≡ alphaOf top (now (s .entry)) ⌝ }
+{
+    let mut minus = false;
+    let mut acc: u64 = 0;
+    let mut i = 0;
+    while i < s.len() {
+        let b = wide(s[i]);
+        if b == 45 {
+            if minus {
+                return Num::Failed(Fault::BadDigit);
+            }
+            minus = true;
+        } else if b != 32 {
+            if b != 43 {
+                if b < 48 {
+                    return Num::Failed(Fault::BadDigit);
+                }
+                if 57 < b {
+                    return Num::Failed(Fault::BadDigit);
+                }
+                if acc < top {
+                    acc = acc * 10 + (b - 48);
+                }
+            }
+        }
+        i += 1;
+    }
+    if acc < top {
+        return Num::Value(number::with_sign(minus, acc));
+    }
+    Num::Failed(Fault::TooLong)
+}
+
+// UPCASE of a byte.
+fn upper_of(b: u8) -> u8
+    ensures { λ r. ⌜ r ≡ upper b ⌝ }
+{
+    if b < 0x61 {
+        return b;
+    }
+    if 0x7a < b {
+        return b;
+    }
+    b - 0x20
+}
+
+// LOCASE of a byte.
+fn lower_of(b: u8) -> u8
+    ensures { λ r. ⌜ r ≡ lower b ⌝ }
+{
+    if b < 0x41 {
+        return b;
+    }
+    if 0x5a < b {
+        return b;
+    }
+    b + 0x20
+}
+
+// UPCASE.
+pub fn upcase(s: &mut [u8])
+    ensures { λ _. ⌜ now (s .exit) ≡ upcased (now (s .entry)) ⌝ }
+{
+    let mut i = 0;
+    while i < s.len() {
+        s[i] = upper_of(s[i]);
+        i += 1;
+    }
+}
+
+// LOCASE.
+pub fn locase(s: &mut [u8])
+    ensures { λ _. ⌜ now (s .exit) ≡ locased (now (s .entry)) ⌝ }
+{
+    let mut i = 0;
+    while i < s.len() {
+        s[i] = lower_of(s[i]);
+        i += 1;
+    }
+}
+
+// Writes b to every byte: CLEAR of alpha by a space, of decimal by a zero.
+pub fn fill(s: &mut [u8], b: u8)
+    ensures { λ _. ⌜ now (s .exit) ≡ replicate (length (now (s .entry))) b ⌝ }
+{
+    let mut i = 0;
+    while i < s.len() {
+        s[i] = b;
+        i += 1;
+    }
+}
+
+// The lesser of two lengths.
+fn least(a: usize, b: usize) -> usize
+    ensures { λ r. ⌜ r ≡ min a b ⌝ }
+{
+    if a < b { a } else { b }
+}
+
+// Alpha to alpha, from text that lies elsewhere: what fits is copied, and spaces fill the rest.
+pub fn fit(s: &mut [u8], from: &[u8])
+    ensures { λ _. ⌜ now (s .exit) ≡ fitted (length (now (s .entry))) (now (from .entry)) ⌝ }
+{
+    let n = s.len();
+    let m = least(n, from.len());
+    let mut i = 0;
+    while i < m {
+        s[i] = from[i];
+        i += 1;
+    }
+    fill(&mut s[m..n], 32)
+}
