@@ -1,1 +1,3 @@
 pub mod BenchValues
+pub mod Settled
+pub mod Units

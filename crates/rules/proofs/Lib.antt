@@ -1,4 +1,5 @@
 pub mod Signed
+pub mod Walk
 pub mod Range
 pub mod Valid
 pub mod ValidParts

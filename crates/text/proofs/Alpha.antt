@@ -15,7 +15,8 @@ use Rattle.rules.specs.Values.{signed}
 use Rattle.rules.specs.Arithmetic.{kept}
 use Rattle.rules.specs.Moves.{alphaFrom}
 use Rattle.rules.proofs.Signed.{abs-signed}
-use Rattle.text.proofs.Reading.{from-yes, from-low, from-high, drop-next}
+use Rattle.rules.proofs.Decimals.{from-yes, from-low, from-high}
+use Rattle.text.proofs.Reading.{drop-next}
 
 -- ---- one character
 

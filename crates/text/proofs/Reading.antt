@@ -1,29 +1,17 @@
--- Laws of reading a decimal, one for each way through the loop of `text::read` and each way out of it, and the ten characters of a digit.
+-- Laws of reading a decimal, one for each way through the loop of `text::read` and each way out of it.
 -- Assumes nothing.
 use mathlib.Core.Path.{_≡_, refl, sym, ap, _∙_}
 use mathlib.Core.Bool.{true, false}
 use mathlib.Core.List.{List, [], _∷_}
-use Prim.Native.Nat.{ℕ, suc, _+_, _-_, _*_, _^_, _≤_, _<_}
-use native.Mathlib.Nat.{pow-suc}
+use Prim.Native.Nat.{ℕ, suc, _+_, _-_, _*_, _≤_, _<_}
 use native.Mathlib.Numerals.{add-one}
 use native.Mathlib.Omega.{arith}
 use lib.ListN.{length, getD, drop, drop-of-length-le}
 use lib.Seq.{drop-cons}
-use borrow.Author.Tests.{lt-ltb, le-ltb, le-leb, lt-leb}
+use borrow.Author.Tests.{lt-ltb, le-ltb}
 use Rattle.rules.specs.declared.Num.the-variants.{Failed}
 use Rattle.rules.specs.declared.Fault.the-variants as fault
 use Rattle.rules.specs.Values.{isFrom, lastOf, readFrom, readOf}
-
--- ---- one of ten characters
-
-pub from-yes : (z b : ℕ) → z ≤ b → b < z + 10 → isFrom z b ≡ true
-from-yes z b h k = simp (le-leb z b h, lt-ltb b (z + 10) k)
-
-pub from-low : (z b : ℕ) → b < z → isFrom z b ≡ false
-from-low z b h = simp (lt-leb z b h)
-
-pub from-high : (z b : ℕ) → z + 10 ≤ b → isFrom z b ≡ false
-from-high z b h = simp (le-leb z b (omega arith), le-ltb b (z + 10) h)
 
 -- ---- before the loop
 
@@ -60,7 +48,3 @@ module _ (base acc : ℕ) (s : List ℕ) (i : ℕ) where
   pub read-last : length s ≤ i + 1 → readFrom base acc (getD s i 0) (drop (i + 1) s) ≡ lastOf base acc (getD s i 0)
   unfolding readFrom
   read-last h = rw (drop-of-length-le s h)
-
--- one digit more
-pub more-digits : (acc i d : ℕ) → acc < 10 ^ i → d < 10 → acc * 10 + d < 10 ^ (i + 1)
-more-digits acc i d h k = rw (add-one i, pow-suc 10 i) (omega arith)

@@ -99,7 +99,6 @@ pub fn write(base: u8, s: &mut [u8], v: i64)
 
 // How many digits m has.
 fn width_of(m: u64) -> usize
-    requires { ⌜ m < 10 ^ 18 ⌝ }
     ensures { λ r. ⌜ r ≡ width m ⌝ }
 {
     let t = number::powers();

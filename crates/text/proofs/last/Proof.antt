@@ -5,7 +5,7 @@ use native.Mathlib.Omega.{arith}
 use borrow.Author.Needs.{needs}
 use Rattle.rules.specs.declared.Num.the-variants.{Value}
 use Rattle.rules.proofs.Signed.{back}
-use Rattle.text.proofs.Reading.{from-yes, from-low, from-high}
+use Rattle.rules.proofs.Decimals.{from-yes, from-low, from-high}
 use Rattle.text.proofs.last.Statement.{statement}
 use Rattle.text.proofs.last.Tie as tie
 

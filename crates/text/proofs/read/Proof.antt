@@ -10,7 +10,8 @@ use borrow.Author.Needs.{needs}
 use lib.Dec.{lit<}
 use lib.ListN.{length, getD, drop}
 use Rattle.rules.specs.Values.{lastOf, readFrom, readOf}
-use Rattle.text.proofs.Reading.{from-yes, from-low, from-high, read-empty, read-long, read-start, read-bad, read-more, read-last, more-digits}
+use Rattle.rules.proofs.Decimals.{from-yes, from-low, from-high, more-digits}
+use Rattle.text.proofs.Reading.{read-empty, read-long, read-start, read-bad, read-more, read-last}
 use Rattle.text.proofs.read.Statement.{statement}
 use Rattle.text.proofs.read.Tie as tie
 

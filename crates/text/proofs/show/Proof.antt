@@ -33,7 +33,7 @@ magnitude-requires : tie.Need-magnitude-requires Inv-loop μ-loop
 magnitude-requires c κs = let s = c .before .before in rw (back (s .fits .v)) (omega (arith, s .pre .small))
 
 width-of-requires : tie.Need-width-of-requires Inv-loop μ-loop
-width-of-requires c κs = rw (m-is c) (c .before .before .before .pre .small)
+width-of-requires c κs = search needs
 
 loop-holds : tie.Need-loop-holds Inv-loop μ-loop
 loop-holds c =

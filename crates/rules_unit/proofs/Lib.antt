@@ -1,0 +1,5 @@
+pub mod Items
+pub mod Tells
+pub mod Fields
+pub mod Statements
+pub mod Sound

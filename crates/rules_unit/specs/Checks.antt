@@ -1,0 +1,155 @@
+-- The checks 1 to 5 (document 01, "Stops and their numbers").
+--   filledb u                 check 1
+--   rangesb p                 check 2
+--   entryb c i floor          check 3 of the entry i; goodFields counts the entries that pass, from the first on
+--   shapeb c i                check 5 of the statement i; foundOf c i is 5 before 4
+--   checkOf u                 the check
+--   refusalNumber, refusalPlace    the table's number and place of a refusal
+-- Assumes nothing.
+use Prim.Native.Nat.{ℕ, zero, suc, _+_, _-_}
+use mathlib.Core.Bool.{Bool, true, false, cond, not}
+use lib.Dec.{ltb, leb, eqb}
+use mathlib.Core.List.{List}
+use lib.ListN.{length, getD}
+use Rattle.rules_unit.specs.declared.Parts.{Parts}
+use Rattle.rules_unit.specs.declared.Statement.{Statement}
+use Rattle.rules_unit.specs.declared.Statement.the-variants as statement
+use Rattle.rules_unit.specs.declared.Found.{Found}
+use Rattle.rules_unit.specs.declared.Found.the-variants as found
+use Rattle.rules_unit.specs.declared.Refusal.{Refusal}
+use Rattle.rules_unit.specs.declared.Refusal.the-variants as refusal
+use Rattle.rules_unit.specs.declared.Checked.{Checked}
+use Rattle.rules_unit.specs.declared.Checked.the-variants as checked
+use Rattle.rules_unit.specs.Codes.{Code, isBad, decimalb, recordb, offsetOf, sizeOf, countOf, endOf}
+use Rattle.rules_unit.specs.Decode.{partsOf, fullLength, codeOf}
+use Rattle.rules_unit.specs.Expressions.{usesOf, usesb}
+
+-- "3 | .. | first such entry", "4 | .. | statement", "5 | .. | statement"
+abbrev pub refusalNumber : Refusal → ℕ
+refusalNumber refusal.NotFilled = 1
+refusalNumber refusal.BadRange = 2
+refusalNumber (refusal.BadField i) = 3
+refusalNumber (refusal.BadExpression i) = 4
+refusalNumber (refusal.BadStatement i) = 5
+
+abbrev pub refusalPlace : Refusal → ℕ
+refusalPlace refusal.NotFilled = 0
+refusalPlace refusal.BadRange = 0
+refusalPlace (refusal.BadField i) = i
+refusalPlace (refusal.BadExpression i) = i
+refusalPlace (refusal.BadStatement i) = i
+
+-- "1 | length under 12 or over 57,353, wrong mark, or parts don't fill the unit"
+unfoldable pub filledb : List ℕ → Bool
+filledb u =
+    cond (ltb (length u) 12) false
+    (cond (ltb 57353 (length u)) false
+    (cond (eqb (getD u (length u - 2) 0) 0x44)
+    (cond (eqb (getD u (length u - 1) 0) 0x42) (eqb (fullLength (partsOf u)) (length u)) false) false))
+
+-- "D is 1 to 16,383; F 0 to 512; E 0 to 16,383; P 0 to 4,095; N 1 to 2,048."
+unfoldable pub rangesb : Parts → Bool
+rangesb p =
+    cond (ltb (p .d) 1) false
+    (cond (ltb 16383 (p .d)) false
+    (cond (ltb 512 (p .f)) false
+    (cond (ltb 16383 (p .e)) false
+    (cond (ltb 4095 (p .p)) false
+    (cond (ltb (p .n) 1) false (leb (p .n) 2048))))))
+
+-- ---- fields
+
+-- "Size and count are at least 1; a decimal's size is at most 18; a record's count is 1; offset + size x count is at most D. Alpha and decimal
+-- entries stand in rising offset and share no byte; gaps are allowed. Records may cover anything and stand anywhere in the list." The floor is
+-- the end of the last alpha or decimal entry before.
+unfoldable pub entryb : Code → ℕ → ℕ → Bool
+entryb c i floor =
+    cond (isBad (c .field i .kind)) false
+    (cond (eqb (c .field i .zero) 0)
+    (cond (leb 1 (sizeOf c i))
+    (cond (leb 1 (countOf c i))
+    (cond (leb (endOf c i) (c .size))
+    (cond (recordb c i) (eqb (countOf c i) 1)
+    (cond (leb floor (offsetOf c i)) (cond (decimalb c i) (leb (sizeOf c i) (c .limit)) true) false))
+    false) false) false) false)
+
+abbrev pub floorAfter : Code → ℕ → ℕ → ℕ
+floorAfter c i floor = cond (recordb c i) floor (endOf c i)
+
+-- The first entry, of the k from i on, that breaks its rule; i + k where none does.
+unfoldable pub goodFields : Code → ℕ → ℕ → ℕ → ℕ
+goodFields c zero i floor = i
+goodFields c (suc k) i floor = let rest = goodFields c k (i + 1) (floorAfter c i floor) in cond (entryb c i floor) rest i
+
+-- ---- statements
+
+abbrev pub isGoto : Statement → Bool
+isGoto (statement.Set place source) = false
+isGoto (statement.Clear place) = false
+isGoto (statement.Incr place) = false
+isGoto (statement.Decr place) = false
+isGoto (statement.Upcase place) = false
+isGoto (statement.Locase place) = false
+isGoto (statement.Goto target) = true
+isGoto (statement.IfZero number target) = false
+isGoto (statement.Call target) = false
+isGoto statement.Return = false
+isGoto statement.Stop = false
+isGoto (statement.Computed count number) = false
+isGoto statement.Bad = false
+
+-- The k statements from i on are GOTO statements.
+unfoldable pub gotosb : Code → ℕ → ℕ → Bool
+gotosb c zero i = true
+gotosb c (suc k) i = let rest = gotosb c k (i + 1) in cond (isGoto (c .statement i)) rest false
+
+-- "a = n from 1 to 255"; "Code 12 at statement i needs n GOTO statements right after it inside the unit"
+unfoldable pub tableb : Code → ℕ → ℕ → Bool
+tableb c i n =
+    cond (ltb n 1) false (cond (ltb 255 n) false (cond (ltb (i + n) (c .statements)) (gotosb c n (i + 1)) false))
+
+-- "Targets are below N."
+abbrev pub formb : Code → ℕ → Statement → Bool
+formb c i (statement.Set place source) = true
+formb c i (statement.Clear place) = true
+formb c i (statement.Incr place) = true
+formb c i (statement.Decr place) = true
+formb c i (statement.Upcase place) = true
+formb c i (statement.Locase place) = true
+formb c i (statement.Goto target) = ltb target (c .statements)
+formb c i (statement.IfZero number target) = ltb target (c .statements)
+formb c i (statement.Call target) = ltb target (c .statements)
+formb c i statement.Return = true
+formb c i statement.Stop = true
+formb c i (statement.Computed count number) = tableb c i count
+formb c i statement.Bad = false
+
+-- "5 | statement code, zero part, count or target wrong"
+unfoldable pub shapeb : Code → ℕ → Bool
+shapeb c i = cond (eqb (c .unused i) 0) (formb c i (c .statement i)) false
+
+-- "5 before a's 4 before b's 4": both 4 name the statement
+unfoldable pub foundOf : Code → ℕ → Found
+foundOf c i = cond (shapeb c i) (cond (usesb c (usesOf (c .statement i))) found.Good found.BadExpression) found.BadShape
+
+-- ---- the check
+
+abbrev pub onward : ℕ → Found → Checked → Checked
+onward i found.Good rest = rest
+onward i found.BadShape rest = checked.Refused (refusal.BadStatement i)
+onward i found.BadExpression rest = checked.Refused (refusal.BadExpression i)
+
+-- "then each statement in turn": the k statements from i on
+unfoldable pub statementsFrom : List ℕ → Parts → ℕ → ℕ → Checked
+statementsFrom u p zero i = checked.Passed p
+statementsFrom u p (suc k) i = let rest = statementsFrom u p k (i + 1) in onward i (foundOf (codeOf u p) i) rest
+
+-- "Checks 1, 2, 3 run in order; then each statement in turn"
+unfoldable pub partsCheck : List ℕ → Parts → Checked
+partsCheck u p =
+    let rest = statementsFrom u p (p .n) 0 in
+    let good = goodFields (codeOf u p) (p .f) 0 0 in
+    cond (rangesb p) (cond (ltb good (p .f)) (checked.Refused (refusal.BadField good)) rest) (checked.Refused refusal.BadRange)
+
+unfoldable pub checkOf : List ℕ → Checked
+checkOf u = let rest = partsCheck u (partsOf u) in cond (filledb u) rest (checked.Refused refusal.NotFilled)

@@ -1,0 +1,217 @@
+-- The bytes of a unit, decoded (document 01, "The coded unit"). Nothing is checked here: what the checks refuse decodes to Bad, or to anything.
+--   wordAt u at            a number of two bytes
+--   partsOf u              the trailer; Dialect p, what is asked of its dialect
+--   fieldsAt .. fullLength where each part starts, and the length that they fill; Fills u p says that they do
+--   fieldAt, statementAt, unusedAt u at    an entry at an offset of the unit
+--   itemAt s at            an item at an offset of the expressions s; itemsAt the expression that starts there
+--   codeOf u p             the whole
+-- Assumes nothing.
+use mathlib.Core.Path.{_≡_}
+use Prim.Native.Nat.{ℕ, zero, suc, _+_, _-_, _*_, _^_}
+use mathlib.Core.Bool.{cond}
+use mathlib.Core.List.{List, [], _∷_}
+use lib.Dec.{ltb, leb, eqb}
+use lib.ListN.{length, getD, take, drop}
+use Rattle.rules.specs.Values.{Limit, Letters, Top}
+use Rattle.rules_unit.specs.declared.Parts.{Parts}
+use Rattle.rules_unit.specs.declared.Kind.{Kind}
+use Rattle.rules_unit.specs.declared.Kind.the-variants as kind
+use Rattle.rules_unit.specs.declared.Field.{Field}
+use Rattle.rules_unit.specs.declared.How.{How}
+use Rattle.rules_unit.specs.declared.How.the-variants as how
+use Rattle.rules_unit.specs.declared.Op.the-variants as op
+use Rattle.rules_unit.specs.declared.Item.{Item}
+use Rattle.rules_unit.specs.declared.Item.the-variants as item
+use Rattle.rules_unit.specs.declared.Statement.{Statement}
+use Rattle.rules_unit.specs.declared.Statement.the-variants as statement
+use Rattle.rules_unit.specs.Codes.{Code}
+
+-- "Numbers are unsigned, high byte first."
+abbrev pub wordAt : List ℕ → ℕ → ℕ
+wordAt u at = getD u at 0 * 256 + getD u (at + 1) 0
+
+-- ---- the parts
+
+-- "The last 12 bytes are a trailer that points back: lengths D, F, E, P, N (two bytes each), then the bytes 44 42 (hex)." That mark names
+-- the dialect of eighteen digits whose sign letters are p to y.
+unfoldable pub partsOf : List ℕ → Parts
+partsOf u =
+    let t = length u - 12 in
+    record {
+      d = wordAt u t;
+      f = wordAt u (t + 2);
+      e = wordAt u (t + 4);
+      p = wordAt u (t + 6);
+      n = wordAt u (t + 8);
+      digits = 18;
+      sign = 0x70;
+      top = 10 ^ 18;
+    }
+
+-- What is asked of a dialect's numbers.
+pub record Dialect (p : Parts) : Type 0 where
+  pub limit : Limit (p .digits)
+  pub letters : Letters (p .sign)
+  pub bound : Top (p .top)
+
+-- "Before it lie, in this order: data image (D bytes), fields (F entries of 8), expressions (E bytes), literals (P bytes), statements (N entries of 8)."
+abbrev pub fieldsAt : Parts → ℕ
+fieldsAt p = p .d
+
+abbrev pub expressionsAt : Parts → ℕ
+expressionsAt p = fieldsAt p + p .f * 8
+
+abbrev pub literalsAt : Parts → ℕ
+literalsAt p = expressionsAt p + p .e
+
+abbrev pub statementsAt : Parts → ℕ
+statementsAt p = literalsAt p + p .p
+
+-- "Together with the trailer they fill the unit exactly."
+abbrev pub fullLength : Parts → ℕ
+fullLength p = statementsAt p + p .n * 8 + 12
+
+pub record Fills (u : List ℕ) (p : Parts) : Type 0 where
+  pub whole : fullLength p ≡ length u
+
+-- ---- fields
+
+-- "kind (0 alpha, 1 decimal, 2 record)"
+unfoldable pub kindOf : ℕ → Kind
+kindOf b = cond (eqb b 0) kind.Alpha (cond (eqb b 1) kind.Decimal (cond (eqb b 2) kind.Record kind.Bad))
+
+-- "**Field**: kind .., zero byte, offset, size, count."
+unfoldable pub fieldAt : List ℕ → ℕ → Field
+fieldAt u at =
+    record { kind = kindOf (getD u at 0); zero = getD u (at + 1) 0; offset = wordAt u (at + 2); size = wordAt u (at + 4); count = wordAt u (at + 6) }
+
+-- ---- expressions
+
+-- "02 field; 03 field(subscript); 04 field(start,end); 05 field(pos:length); each followed by a field number (2 bytes)"
+unfoldable pub referenceAt : List ℕ → ℕ → How → Item
+referenceAt s at h = cond (ltb 2 (length s - at)) (item.Reference h (wordAt s (at + 1))) item.Bad
+
+-- "01 number literal: place in literals (2 bytes), length (1 byte ..)"
+unfoldable pub numberAt : List ℕ → ℕ → Item
+numberAt s at = cond (ltb 3 (length s - at)) (item.Number (wordAt s (at + 1)) (getD s (at + 3) 0)) item.Bad
+
+-- "06 alpha literal: place (2 bytes), length (2 bytes ..)"
+unfoldable pub textAt : List ℕ → ℕ → Item
+textAt s at = cond (ltb 4 (length s - at)) (item.Text (wordAt s (at + 1)) (wordAt s (at + 3))) item.Bad
+
+-- "Items (hex)": in the order of document 01
+unfoldable pub itemBy : List ℕ → ℕ → ℕ → Item
+itemBy s at code =
+    cond (eqb code 0x00) item.End
+    (cond (eqb code 0x01) (numberAt s at)
+    (cond (eqb code 0x02) (referenceAt s at how.Whole)
+    (cond (eqb code 0x03) (referenceAt s at how.Element)
+    (cond (eqb code 0x04) (referenceAt s at how.Range)
+    (cond (eqb code 0x05) (referenceAt s at how.Length)
+    (cond (eqb code 0x06) (textAt s at)
+    (cond (eqb code 0x10) (item.Operator op.Add)
+    (cond (eqb code 0x11) (item.Operator op.Subtract)
+    (cond (eqb code 0x12) (item.Operator op.Multiply)
+    (cond (eqb code 0x13) (item.Operator op.Divide)
+    (cond (eqb code 0x14) (item.Operator op.Round)
+    (cond (eqb code 0x15) (item.Operator op.Negate)
+    (cond (eqb code 0x16) (item.Operator op.Eq)
+    (cond (eqb code 0x17) (item.Operator op.Ne)
+    (cond (eqb code 0x18) (item.Operator op.Gt)
+    (cond (eqb code 0x19) (item.Operator op.Lt)
+    (cond (eqb code 0x1a) (item.Operator op.Ge)
+    (cond (eqb code 0x1b) (item.Operator op.Le)
+    (cond (eqb code 0x1c) (item.Operator op.Not)
+    (cond (eqb code 0x1d) (item.Operator op.And)
+    (cond (eqb code 0x1e) (item.Operator op.Or)
+    (cond (eqb code 0x1f) (item.Operator op.Xor)
+    item.Bad))))))))))))))))))))))
+
+unfoldable pub itemAt : List ℕ → ℕ → Item
+itemAt s at = cond (ltb at (length s)) (itemBy s at (getD s at 0)) item.Bad
+
+-- How many bytes an item takes.
+abbrev pub widthOf : Item → ℕ
+widthOf (item.Number place len) = 4
+widthOf (item.Reference h field) = 3
+widthOf (item.Text place len) = 5
+widthOf (item.Operator o) = 1
+widthOf item.End = 1
+widthOf item.Bad = 1
+
+-- "items in postfix order, closed by 00": the list ends before End, and with Bad.
+abbrev pub follow : Item → List Item → List Item
+follow (item.Number place len) is = item.Number place len ∷ is
+follow (item.Reference h field) is = item.Reference h field ∷ is
+follow (item.Text place len) is = item.Text place len ∷ is
+follow (item.Operator o) is = item.Operator o ∷ is
+follow item.End is = []
+follow item.Bad is = item.Bad ∷ []
+
+-- k items at the most: no expression has more items than there are bytes.
+unfoldable pub itemsIn : ℕ → List ℕ → ℕ → List Item
+itemsIn zero s at = item.Bad ∷ []
+itemsIn (suc k) s at = let more = itemsIn k s (at + widthOf (itemAt s at)) in follow (itemAt s at) more
+
+-- "starting at a given offset"
+unfoldable pub itemsAt : List ℕ → ℕ → List Item
+itemsAt s at = itemsIn (suc (length s)) s at
+
+-- ---- statements
+
+-- "Codes in decimal"
+unfoldable pub statementBy : ℕ → ℕ → ℕ → ℕ → Statement
+statementBy code a b c =
+    cond (eqb code 1) (statement.Set a b)
+    (cond (eqb code 2) (statement.Clear a)
+    (cond (eqb code 3) (statement.Incr a)
+    (cond (eqb code 4) (statement.Decr a)
+    (cond (eqb code 5) (statement.Upcase a)
+    (cond (eqb code 6) (statement.Locase a)
+    (cond (eqb code 7) (statement.Goto c)
+    (cond (eqb code 8) (statement.IfZero b c)
+    (cond (eqb code 9) (statement.Call c)
+    (cond (eqb code 10) statement.Return
+    (cond (eqb code 11) statement.Stop
+    (cond (eqb code 12) (statement.Computed a b) statement.Bad)))))))))))
+
+-- "**Statement**: code, zero byte, a, b, c."
+unfoldable pub statementAt : List ℕ → ℕ → Statement
+statementAt u at = statementBy (getD u at 0) (wordAt u (at + 2)) (wordAt u (at + 4)) (wordAt u (at + 6))
+
+-- The parts that a statement leaves unused, added up.
+abbrev pub unusedOf : Statement → ℕ → ℕ → ℕ → ℕ
+unusedOf (statement.Set place source) a b c = c
+unusedOf (statement.Clear place) a b c = b + c
+unusedOf (statement.Incr place) a b c = b + c
+unusedOf (statement.Decr place) a b c = b + c
+unusedOf (statement.Upcase place) a b c = b + c
+unusedOf (statement.Locase place) a b c = b + c
+unusedOf (statement.Goto target) a b c = a + b
+unusedOf (statement.IfZero number target) a b c = a
+unusedOf (statement.Call target) a b c = a + b
+unusedOf statement.Return a b c = a + b + c
+unusedOf statement.Stop a b c = a + b + c
+unusedOf (statement.Computed count number) a b c = c
+unusedOf statement.Bad a b c = 0
+
+-- "Unused parts are zero", and so is the zero byte: this is 0 exactly then.
+unfoldable pub unusedAt : List ℕ → ℕ → ℕ
+unusedAt u at = getD u (at + 1) 0 + unusedOf (statementAt u at) (wordAt u (at + 2)) (wordAt u (at + 4)) (wordAt u (at + 6))
+
+-- ---- the unit
+
+abbrev pub codeOf : List ℕ → Parts → Code
+codeOf u p = record {
+  limit = p .digits;
+  base = p .sign;
+  top = p .top;
+  size = p .d;
+  fields = p .f;
+  field = λ i. fieldAt u (fieldsAt p + i * 8);
+  literals = take (p .p) (drop (literalsAt p) u);
+  items = λ at. itemsAt (take (p .e) (drop (expressionsAt p) u)) at;
+  statements = p .n;
+  statement = λ i. statementAt u (statementsAt p + i * 8);
+  unused = λ i. unusedAt u (statementsAt p + i * 8);
+}

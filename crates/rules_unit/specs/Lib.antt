@@ -1,0 +1,7 @@
+pub mod Codes
+pub mod Decode
+pub mod Expressions
+pub mod Checks
+pub mod Literals
+pub mod Sound
+pub mod Answers

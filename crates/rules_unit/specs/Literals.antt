@@ -1,0 +1,63 @@
+-- The alpha literal of a statement (document 01, "Stops and their numbers").
+--   stretchOf u i    where the literal of the statement i lies in the unit; at 0, of no bytes, where there is none
+--   literalOf u i    that stretch of the unit
+-- Assumes nothing.
+use Prim.Native.Nat.{ℕ, _+_}
+use mathlib.Core.Bool.{cond}
+use mathlib.Core.List.{List, [], _∷_}
+use lib.Dec.{ltb}
+use lib.ListN.{take, drop}
+use Rattle.rules_unit.specs.declared.Parts.{Parts}
+use Rattle.rules_unit.specs.declared.Item.{Item}
+use Rattle.rules_unit.specs.declared.Item.the-variants as item
+use Rattle.rules_unit.specs.declared.Statement.{Statement}
+use Rattle.rules_unit.specs.declared.Statement.the-variants as statement
+use Rattle.rules_unit.specs.declared.Checked.{Checked}
+use Rattle.rules_unit.specs.declared.Checked.the-variants as checked
+use Rattle.rules_unit.specs.declared.Stretch.{Stretch}
+use Rattle.rules_unit.specs.Codes.{Code}
+use Rattle.rules_unit.specs.Decode.{literalsAt, codeOf}
+use Rattle.rules_unit.specs.Checks.{checkOf}
+
+abbrev pub nowhere : Stretch
+nowhere = record { at = 0; len = 0 }
+
+-- "whose source is a lone alpha literal"; the literals start at the place given
+abbrev pub loneText : ℕ → List Item → Stretch
+loneText from [] = nowhere
+loneText from (item.Number place len ∷ is) = nowhere
+loneText from (item.Reference h field ∷ is) = nowhere
+loneText from (item.Text place len ∷ []) = record { at = from + place; len = len }
+loneText from (item.Text place len ∷ (i ∷ is)) = nowhere
+loneText from (item.Operator o ∷ is) = nowhere
+loneText from (item.End ∷ is) = nowhere
+loneText from (item.Bad ∷ is) = nowhere
+
+-- "statement i is a SET"
+abbrev pub stretchBy : Code → ℕ → Statement → Stretch
+stretchBy c from (statement.Set place source) = loneText from (c .items source)
+stretchBy c from (statement.Clear place) = nowhere
+stretchBy c from (statement.Incr place) = nowhere
+stretchBy c from (statement.Decr place) = nowhere
+stretchBy c from (statement.Upcase place) = nowhere
+stretchBy c from (statement.Locase place) = nowhere
+stretchBy c from (statement.Goto target) = nowhere
+stretchBy c from (statement.IfZero number target) = nowhere
+stretchBy c from (statement.Call target) = nowhere
+stretchBy c from statement.Return = nowhere
+stretchBy c from statement.Stop = nowhere
+stretchBy c from (statement.Computed count number) = nowhere
+stretchBy c from statement.Bad = nowhere
+
+-- "when the unit passes checks 1 to 5 .. and an empty stretch otherwise"
+abbrev pub stretchIn : List ℕ → ℕ → Checked → Stretch
+stretchIn u i (checked.Passed p) =
+    cond (ltb i (p .n)) (stretchBy (codeOf u p) (literalsAt p) (codeOf u p .statement i)) nowhere
+stretchIn u i (checked.Refused r) = nowhere
+
+unfoldable pub stretchOf : List ℕ → ℕ → Stretch
+stretchOf u i = stretchIn u i (checkOf u)
+
+-- "that stretch of the unit itself"
+abbrev pub literalOf : List ℕ → ℕ → List ℕ
+literalOf u i = take (stretchOf u i .len) (drop (stretchOf u i .at) u)

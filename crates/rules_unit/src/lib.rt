@@ -1,0 +1,173 @@
+// The types of the coded unit (document 01, "The coded unit"). The rules themselves stand in specs/.
+ghost use mathlib.Core.Path.{_≡_};
+ghost use Rattle.rules_unit.specs.Checks.{refusalNumber, refusalPlace};
+
+// The lengths of a unit's parts, as its trailer names them, and the numbers of its dialect.
+pub struct Parts {
+    // Bytes of data.
+    pub d: u16,
+    // Fields.
+    pub f: u16,
+    // Bytes of expressions.
+    pub e: u16,
+    // Bytes of literals.
+    pub p: u16,
+    // Statements.
+    pub n: u16,
+    // The most digits that a number may have.
+    pub digits: u16,
+    // The character that stands for a last digit 0 with a minus.
+    pub sign: u8,
+    // The first magnitude that has more digits: 10 to the digits.
+    pub top: u64,
+}
+
+// What a field holds.
+pub enum Kind {
+    Alpha,
+    Decimal,
+    Record,
+    Bad,
+}
+
+// A field entry.
+pub struct Field {
+    pub kind: Kind,
+    pub zero: u8,
+    pub offset: u16,
+    pub size: u16,
+    pub count: u16,
+}
+
+// How a reference is bound: 02, 03, 04, 05.
+pub enum How {
+    Whole,
+    Element,
+    Range,
+    Length,
+}
+
+// The operators, 10 to 1F.
+pub enum Op {
+    Add,
+    Subtract,
+    Multiply,
+    Divide,
+    Round,
+    Negate,
+    Eq,
+    Ne,
+    Gt,
+    Lt,
+    Ge,
+    Le,
+    Not,
+    And,
+    Or,
+    Xor,
+}
+
+// An item of an expression. Bad is a code that is none, or an item that the end of the expressions cuts.
+pub enum Item {
+    Number { place: u16, len: u16 },
+    Reference { how: How, field: u16 },
+    Text { place: u16, len: u16 },
+    Operator(Op),
+    End,
+    Bad,
+}
+
+// A statement, by its code. What it holds are offsets of expressions, targets and a count.
+pub enum Statement {
+    Set { place: u16, source: u16 },
+    Clear { place: u16 },
+    Incr { place: u16 },
+    Decr { place: u16 },
+    Upcase { place: u16 },
+    Locase { place: u16 },
+    Goto { target: u16 },
+    IfZero { number: u16, target: u16 },
+    Call { target: u16 },
+    Return,
+    Stop,
+    Computed { count: u16, number: u16 },
+    Bad,
+}
+
+// The sort of an expression, by its last item; Wrong where it is badly formed.
+pub enum Sort {
+    Wrong,
+    Number,
+    Text,
+    Decimal,
+    Alpha,
+}
+
+// The sort that a use of an expression wants.
+pub enum Want {
+    Place,
+    DecimalPlace,
+    AlphaPlace,
+    Source,
+    Number,
+}
+
+// A statement's use of an expression; Nothing past its last one.
+pub enum Use {
+    Nothing,
+    Of { want: Want, at: u16, written: bool },
+}
+
+// What is found of one statement: it stands, or 5, or 4.
+pub enum Found {
+    Good,
+    BadShape,
+    BadExpression,
+}
+
+// Why a unit is refused, with the place.
+pub enum Refusal {
+    NotFilled,
+    BadRange,
+    BadField(u16),
+    BadExpression(u16),
+    BadStatement(u16),
+}
+
+// What the check answers.
+pub enum Checked {
+    Passed(Parts),
+    Refused(Refusal),
+}
+
+// A stretch of the unit: where it starts, and its length.
+pub struct Stretch {
+    pub at: usize,
+    pub len: usize,
+}
+
+// Document 01's number for a refusal.
+pub fn refusal_number(r: Refusal) -> u8
+    ensures { λ n. ⌜ n ≡ refusalNumber r ⌝ }
+{
+    match r {
+        Refusal::NotFilled => 1,
+        Refusal::BadRange => 2,
+        Refusal::BadField(i) => 3,
+        Refusal::BadExpression(i) => 4,
+        Refusal::BadStatement(i) => 5,
+    }
+}
+
+// The place that document 01 names with a refusal.
+pub fn refusal_place(r: Refusal) -> u16
+    ensures { λ n. ⌜ n ≡ refusalPlace r ⌝ }
+{
+    match r {
+        Refusal::NotFilled => 0,
+        Refusal::BadRange => 0,
+        Refusal::BadField(i) => i,
+        Refusal::BadExpression(i) => i,
+        Refusal::BadStatement(i) => i,
+    }
+}

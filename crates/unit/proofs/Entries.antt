@@ -1,0 +1,98 @@
+-- Laws of checks 1 and 3, as their code meets them: f is the entry that the code has read. Assumes nothing.
+use Prim.Native.Nat.{ℕ, _+_, _-_, _*_, _<_, _≤_}
+use native.Mathlib.Omega.{arith}
+use native.Mathlib.Nat.{mul-le-mul}
+use mathlib.Core.Path.{_≡_, sym, _∙_, subst}
+use mathlib.Core.Bool.{Bool, true, false, cond}
+use mathlib.Core.List.{List}
+use lib.Dec.{leb, eqb}
+use lib.ListN.{length, getD}
+use borrow.Author.Tests.{lt-leb, le-leb, le-ltb, eq-eqb, ne-eqb}
+use Rattle.rules.proofs.Walk.{cond-no, cond-yes, told-yes, told-no}
+use Rattle.rules_unit.specs.declared.Parts.{Parts}
+use Rattle.rules_unit.specs.declared.Field.{Field}
+use Rattle.rules_unit.specs.Codes.{Code, isBad, isDecimal, isRecord}
+use Rattle.rules_unit.specs.Decode.{partsOf, fullLength, codeOf}
+use Rattle.rules_unit.specs.Checks.{filledb, entryb, floorAfter, goodFields}
+use Rattle.rules_unit.proofs.Statements.{left-suc, left-none}
+
+-- the last test of check 1
+pub filled-by : (u : List ℕ) (q : Parts) (r : ℕ) → 12 ≤ length u → length u ≤ 57353 → getD u (length u - 2) 0 ≡ 0x44
+    → getD u (length u - 1) 0 ≡ 0x42 → q ≡ partsOf u → r ≡ fullLength q → eqb r (length u) ≡ filledb u
+unfolding filledb
+filled-by u q r a b c d e f =
+    rw (le-ltb (length u) 12 a, le-ltb 57353 (length u) b, eq-eqb (getD u (length u - 2) 0) 0x44 c, eq-eqb (getD u (length u - 1) 0) 0x42 d, f, e)
+
+-- a product of words
+pub product : (m n : ℕ) → m < 65536 → n < 65536 → m * n ≤ 65535 * 65535
+product m n h k = mul-le-mul {n₂ = 65535} {m₂ = 65535} (omega arith) (omega arith)
+
+-- ---- one entry
+
+-- what is tested of an entry after its own numbers, and before that
+abbrev restOf : ℕ → ℕ → Field → ℕ → Bool
+restOf limit size f floor =
+    cond (leb (f .offset + f .count * f .size) size)
+    (cond (isRecord (f .kind)) (eqb (f .count) 1)
+    (cond (leb floor (f .offset)) (cond (isDecimal (f .kind)) (leb (f .size) limit) true) false))
+    false
+
+abbrev entryOf : ℕ → ℕ → Field → ℕ → Bool
+entryOf limit size f floor =
+    cond (isBad (f .kind)) false
+    (cond (eqb (f .zero) 0) (cond (leb 1 (f .size)) (cond (leb 1 (f .count)) (restOf limit size f floor) false) false) false)
+
+module _ (u : List ℕ) (p : Parts) (i floor : ℕ) (f : Field) (read : f ≡ codeOf u p .field i) where
+  pub entry-by : (z : Bool) → z ≡ entryOf (p .digits) (p .d) f floor → z ≡ entryb (codeOf u p) i floor
+  unfolding entryb
+  entry-by z h = subst (λ (x : Field). z ≡ entryOf (p .digits) (p .d) x floor) read h
+
+  -- past the first four tests, with the data's length in hand and the entry's end
+  module _ (bad : Bool) (b₁ : bad ≡ isBad (f .kind)) (b₂ : bad ≡ false) (zero : f .zero ≡ 0) (some : 1 ≤ f .size) (many : 1 ≤ f .count)
+      (size end : ℕ) (s₁ : size ≡ p .d) (s₂ : end ≡ f .offset + f .count * f .size) where
+    past : (z : Bool) → z ≡ restOf (p .digits) size f floor → z ≡ entryb (codeOf u p) i floor
+    past z h = entry-by z (rw (← b₁, b₂, eq-eqb (f .zero) 0 zero, le-leb 1 (f .size) some, le-leb 1 (f .count) many, ← s₁) h)
+
+    pub entry-long : size < end → false ≡ entryb (codeOf u p) i floor
+    entry-long l = past false (rw (← s₂, lt-leb end size l))
+
+    module _ (fits : end ≤ size) (whole : Bool) (w₁ : whole ≡ isRecord (f .kind)) where
+      pub entry-record : whole ≡ true → eqb (f .count) 1 ≡ entryb (codeOf u p) i floor
+      entry-record t = past (eqb (f .count) 1) (rw (← s₂, le-leb end size fits, ← w₁, t))
+
+      module _ (w₂ : whole ≡ false) (start : ℕ) (o : start ≡ f .offset) where
+        pub entry-below : start < floor → false ≡ entryb (codeOf u p) i floor
+        entry-below l = past false (rw (← s₂, le-leb end size fits, ← w₁, w₂, ← o, lt-leb floor start l))
+
+        module _ (up : floor ≤ start) (number : Bool) (n₁ : number ≡ isDecimal (f .kind)) where
+          pub entry-decimal : number ≡ true → leb (f .size) (p .digits) ≡ entryb (codeOf u p) i floor
+          entry-decimal t = past (leb (f .size) (p .digits)) (rw (← s₂, le-leb end size fits, ← w₁, w₂, ← o, le-leb floor start up, ← n₁, t))
+
+          pub entry-alpha : number ≡ false → true ≡ entryb (codeOf u p) i floor
+          entry-alpha t = past true (rw (← s₂, le-leb end size fits, ← w₁, w₂, ← o, le-leb floor start up, ← n₁, t))
+
+  pub floor-stays : (b : Bool) → b ≡ isRecord (f .kind) → b ≡ true → floor ≡ floorAfter (codeOf u p) i floor
+  floor-stays b g h = subst (λ (x : Field). floor ≡ cond (isRecord (x .kind)) floor (x .offset + x .count * x .size)) read (rw (← g, h))
+
+  pub floor-rises : (b : Bool) (z : ℕ) → b ≡ isRecord (f .kind) → b ≡ false → z ≡ f .offset + f .count * f .size → z ≡ floorAfter (codeOf u p) i floor
+  floor-rises b z g h k = subst (λ (x : Field). z ≡ cond (isRecord (x .kind)) floor (x .offset + x .count * x .size)) read (rw (← g, h) k)
+
+pub ruleset entry-walk = (entry-by, cond-no, cond-yes, told-yes, told-no, eq-eqb, ne-eqb, lt-leb, le-leb)
+
+pub ruleset entry-laws = (entry-long, entry-record, entry-below, entry-decimal, entry-alpha)
+
+-- ---- the loop over the entries: n of them, of which i are passed, and z is what the whole loop answers
+
+module _ (c : Code) (n i floor z : ℕ) where
+  pub fields-on : (g : ℕ) → i < n → entryb c i floor ≡ true → g ≡ floorAfter c i floor → goodFields c (n - i) i floor ≡ z
+      → goodFields c (n - (i + 1)) (i + 1) g ≡ z
+  unfolding goodFields
+  fields-on g h e f w = rw f (sym (rw (left-suc n i h, e)) ∙ w)
+
+  pub fields-stop : i < n → entryb c i floor ≡ false → goodFields c (n - i) i floor ≡ z → i ≡ z
+  unfolding goodFields
+  fields-stop h e w = sym (rw (left-suc n i h, e)) ∙ w
+
+  pub fields-end : n ≤ i → goodFields c (n - i) i floor ≡ z → i ≡ z
+  unfolding goodFields
+  fields-end h w = sym (rw (left-none n i h)) ∙ w

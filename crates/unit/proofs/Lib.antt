@@ -1,0 +1,4 @@
+pub mod Entries
+pub mod Scans
+pub mod Whole
+pub mod Stretches

@@ -1,0 +1,35 @@
+-- `unit::found_of` meets its contract: the shape is asked for before the expressions, as `foundOf` asks.
+-- Assumes nothing.
+use borrow.Author.Needs.{needs}
+use Rattle.unit.proofs.Scans.{found-laws}
+use Rattle.unit.proofs.found_of.Statement.{statement}
+use Rattle.unit.proofs.found_of.Tie as tie
+
+shape-good-requires : tie.Need-shape-good-requires
+shape-good-requires c κs = search needs
+
+returns : tie.Need-returns
+returns c = search found-laws depth 3
+
+statement-requires : tie.Need-statement-requires
+statement-requires c κs = search needs
+
+uses-good-requires : tie.Need-uses-good-requires
+uses-good-requires c κs = search needs
+
+returns-2 : tie.Need-returns-2
+returns-2 c = search found-laws depth 3
+
+returns-3 : tie.Need-returns-3
+returns-3 c = search found-laws depth 3
+
+pub found-of-spec : {M : Type 1} → statement M
+found-of-spec =
+    tie.close
+    (tie.spec
+    shape-good-requires
+    returns
+    statement-requires
+    uses-good-requires
+    returns-2
+    returns-3)

@@ -1,0 +1,199 @@
+//! Batch lines: one question a line, one answer a line, for programs that compare interpreters.
+
+use crate::bench::bench;
+use crate::check::check;
+use crate::fence::{breach, fence, Fence};
+use crate::literal::literal_range;
+use crate::run::run;
+use crate::state::{State, CALLS_MOST};
+use crate::stop::Refusal;
+use std::str::FromStr;
+
+/// How an empty row of bytes or of return numbers is written.
+const EMPTY: &str = "-";
+
+/// The answer to one line, or in words what is wrong with the line.
+///
+/// | Line | Answer |
+/// |---|---|
+/// | `check UNIT` | `STOP PLACE`, or `0 0` for a unit that passes |
+/// | `run UNIT DATA AT DEPTH RETURNS ALLOWANCE` | `STOP PLACE COUNT AT DEPTH RETURNS DATA` |
+/// | `bench UNIT` | what the bench program writes, in hex |
+/// | `literal UNIT I` | `OFFSET LENGTH` in the unit, or `empty` |
+/// | `fence UNIT` | `yes`, `no I`, or `refused STOP PLACE` |
+/// | `breach UNIT I` | the number of the rule that statement I breaks, or 0 |
+///
+/// Bytes are in hex, return numbers are joined by commas and end with the last that is not zero,
+/// and `-` stands where there are none.
+pub fn answer(line: &str) -> Result<String, String> {
+    let words: Vec<&str> = line.split_whitespace().collect();
+    match words[..] {
+        ["check", unit] => Ok(check_answer(&bytes(unit)?)),
+        ["run", unit, data, at, depth, returns, allowance] => {
+            let state = State {
+                at: number(at)?,
+                depth: number(depth)?,
+                returns: return_numbers(returns)?,
+            };
+            run_answer(&bytes(unit)?, bytes(data)?, state, number(allowance)?)
+        }
+        ["bench", unit] => Ok(hex(&bench(&bytes(unit)?))),
+        ["literal", unit, i] => Ok(literal_answer(&bytes(unit)?, number(i)?)),
+        ["fence", unit] => Ok(fence_answer(&bytes(unit)?)),
+        ["breach", unit, i] => {
+            let breach = breach(&bytes(unit)?, number(i)?);
+            Ok(breach.map_or(0, |breach| breach.number()).to_string())
+        }
+        _ => Err("the line asks nothing that is known".to_string()),
+    }
+}
+
+fn check_answer(unit: &[u8]) -> String {
+    match check(unit) {
+        Ok(_) => "0 0".to_string(),
+        Err(Refusal { stop, place }) => format!("{stop} {place}"),
+    }
+}
+
+fn run_answer(
+    unit: &[u8],
+    mut data: Vec<u8>,
+    state: State,
+    allowance: u64,
+) -> Result<String, String> {
+    let outcome = run(unit, &mut data, state, allowance);
+    let State { at, depth, returns } = outcome.state;
+    Ok(format!(
+        "{} {} {} {at} {depth} {} {}",
+        outcome.stop,
+        outcome.place,
+        outcome.count,
+        joined(&returns),
+        hex(&data)
+    ))
+}
+
+fn literal_answer(unit: &[u8], i: usize) -> String {
+    match literal_range(unit, i) {
+        Some(range) => format!("{} {}", range.start, range.len()),
+        None => "empty".to_string(),
+    }
+}
+
+fn fence_answer(unit: &[u8]) -> String {
+    match fence(unit) {
+        Fence::Yes => "yes".to_string(),
+        Fence::No(i) => format!("no {i}"),
+        Fence::Refused(Refusal { stop, place }) => format!("refused {stop} {place}"),
+    }
+}
+
+fn number<T: FromStr>(text: &str) -> Result<T, String> {
+    text.parse()
+        .map_err(|_| format!("{text} is no number here"))
+}
+
+/// The bytes that are written in hex.
+fn bytes(text: &str) -> Result<Vec<u8>, String> {
+    if text == EMPTY {
+        return Ok(Vec::new());
+    }
+    let byte = |pair: &[u8]| {
+        let [high, low] = pair else { return None };
+        let digit = |character: u8| char::from(character).to_digit(16);
+        Some((digit(*high)? << 4 | digit(*low)?) as u8)
+    };
+    let bytes: Option<Vec<u8>> = text.as_bytes().chunks(2).map(byte).collect();
+    bytes.ok_or_else(|| format!("{text} is not hex"))
+}
+
+fn hex(bytes: &[u8]) -> String {
+    if bytes.is_empty() {
+        return EMPTY.to_string();
+    }
+    bytes.iter().map(|byte| format!("{byte:02X}")).collect()
+}
+
+/// The return numbers that are written with commas; those left out are zero.
+fn return_numbers(text: &str) -> Result<[u16; CALLS_MOST], String> {
+    let mut returns = [0; CALLS_MOST];
+    if text != EMPTY {
+        let mut entries = returns.iter_mut();
+        for word in text.split(',') {
+            let entry = entries.next().ok_or("there are 50 return numbers")?;
+            *entry = number(word)?;
+        }
+    }
+    Ok(returns)
+}
+
+fn joined(returns: &[u16]) -> String {
+    let used = returns.iter().rposition(|&number| number != 0);
+    match used {
+        None => EMPTY.to_string(),
+        Some(last) => {
+            let words: Vec<String> = returns[..=last].iter().map(u16::to_string).collect();
+            words.join(",")
+        }
+    }
+}
+
+#[cfg(test)]
+mod tests {
+    use super::answer;
+
+    /// The 42 bytes of the paper's example.
+    const EXAMPLE: &str = concat!(
+        "3431",
+        "0100000000020001",
+        "02000000",
+        "0300000000000000",
+        "0B00000000000000",
+        "000200010004000000024442"
+    );
+
+    /// The answer to a line, with the example for `UNIT`.
+    fn answered(line: &str) -> Result<String, String> {
+        answer(&line.replace("UNIT", EXAMPLE))
+    }
+
+    #[test]
+    fn each_line_has_its_answer() {
+        for (line, wanted) in [
+            ("check UNIT", "0 0"),
+            ("check -", "1 0"),
+            ("check 000000000000000000004442", "2 0"),
+            ("run UNIT 3431 0 0 - 100000", "0 2 2 2 0 - 3432"),
+            ("run UNIT 3431 0 0 - 1", "30 1 1 1 0 - 3432"),
+            ("run UNIT 3431 2 2 1,2 1", "0 2 0 2 2 1,2 3431"),
+            ("run UNIT 3431 0 1 0,1 1", "7 0 0 0 1 0,1 3431"),
+            ("run UNIT 34 0 0 - 1", "6 0 0 0 0 - 34"),
+            ("run UNIT 3a31 0 0 - 1", "22 0 0 0 0 - 3A31"),
+            ("run - - 9 0 - 1", "1 0 0 9 0 - -"),
+            ("bench UNIT", "30203220320A34320A"),
+            ("bench -", "31203020300A"),
+            ("literal UNIT 0", "empty"),
+            ("fence UNIT", "yes"),
+            ("fence -", "refused 1 0"),
+            ("breach UNIT 0", "0"),
+        ] {
+            assert_eq!(answered(line).as_deref(), Ok(wanted), "{line}");
+        }
+    }
+
+    #[test]
+    fn other_lines_are_told() {
+        for line in [
+            "",
+            "check",
+            "check 0",
+            "check 0x",
+            "check UNIT 1",
+            "run UNIT 3431 0 0 - -1",
+            "run UNIT 3431 0 0 65536 1",
+            "literal UNIT x",
+        ] {
+            assert!(answered(line).is_err(), "{line}");
+        }
+    }
+}

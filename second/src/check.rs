@@ -1,0 +1,360 @@
+//! Checks 1 to 5, in their order.
+
+use crate::decimal::DIGITS_MOST;
+use crate::expression::{sort_at, Sort};
+use crate::stop::Refusal;
+use crate::unit::{code, Field, Parts, Statement, ALPHA, DECIMAL, RECORD};
+use std::ops::RangeInclusive;
+
+const IMAGE_RANGE: RangeInclusive<usize> = 1..=16_383;
+const FIELD_RANGE: RangeInclusive<usize> = 0..=512;
+const EXPRESSION_RANGE: RangeInclusive<usize> = 0..=16_383;
+const LITERAL_RANGE: RangeInclusive<usize> = 0..=4_095;
+const STATEMENT_RANGE: RangeInclusive<usize> = 1..=2_048;
+
+/// The numbers of GOTO statements that a computed GOTO may have.
+const TABLE_RANGE: RangeInclusive<usize> = 1..=255;
+
+/// The parts of a unit that passes checks 1 to 5, or the first refusal.
+pub fn check(unit: &[u8]) -> Result<Parts<'_>, Refusal> {
+    let refuse = |stop, place| Err(Refusal { stop, place });
+    let Some(parts) = Parts::of(unit) else {
+        return refuse(1, 0);
+    };
+    if !in_range(&parts) {
+        return refuse(2, 0);
+    }
+    if let Some(entry) = bad_field(&parts) {
+        return refuse(3, entry);
+    }
+    for i in 0..parts.statement_count() {
+        let Some(statement) = parts.statement(i) else {
+            break;
+        };
+        if !statement_fits(&parts, i, &statement) {
+            return refuse(5, i);
+        }
+        if !expressions_fit(&parts, &statement) {
+            return refuse(4, i);
+        }
+    }
+    Ok(parts)
+}
+
+/// Check 2: D, F, E, P and N are each in range.
+fn in_range(parts: &Parts) -> bool {
+    IMAGE_RANGE.contains(&parts.image.len())
+        && FIELD_RANGE.contains(&parts.field_count())
+        && EXPRESSION_RANGE.contains(&parts.expressions.len())
+        && LITERAL_RANGE.contains(&parts.literals.len())
+        && STATEMENT_RANGE.contains(&parts.statement_count())
+}
+
+/// Check 3: the first field entry that breaks its rule, if there is one.
+fn bad_field(parts: &Parts) -> Option<usize> {
+    // The end of the last alpha or decimal entry so far.
+    let mut taken = 0;
+    for i in 0..parts.field_count() {
+        let field = parts.field(i)?;
+        if !field_fits(&field, parts.image.len()) {
+            return Some(i);
+        }
+        if field.kind != RECORD {
+            if field.offset < taken {
+                return Some(i);
+            }
+            taken = field.end();
+        }
+    }
+    None
+}
+
+/// The rules that a field entry keeps by itself, over an image of `length` bytes.
+fn field_fits(field: &Field, length: usize) -> bool {
+    let kind_fits = match field.kind {
+        ALPHA => true,
+        DECIMAL => field.size <= DIGITS_MOST,
+        RECORD => field.count == 1,
+        _ => false,
+    };
+    kind_fits && field.zero == 0 && field.size >= 1 && field.count >= 1 && field.end() <= length
+}
+
+/// Check 5: code, zero parts, count and target of statement `i`.
+fn statement_fits(parts: &Parts, i: usize, statement: &Statement) -> bool {
+    let Statement { a, b, c, .. } = *statement;
+    let target_fits = c < parts.statement_count();
+    let parts_fit = match statement.code {
+        code::SET => c == 0,
+        code::CLEAR..=code::LOCASE => b == 0 && c == 0,
+        code::GOTO | code::CALL => a == 0 && b == 0 && target_fits,
+        code::GOTO_IF_ZERO => a == 0 && target_fits,
+        code::RETURN | code::STOP => a == 0 && b == 0 && c == 0,
+        code::COMPUTED_GOTO => c == 0 && table_fits(parts, i, a),
+        _ => false,
+    };
+    statement.zero == 0 && parts_fit
+}
+
+/// The computed GOTO at `i` has `n` GOTO statements right after it. Only their code is looked at
+/// here: the rest of each is judged when its own turn comes.
+fn table_fits(parts: &Parts, i: usize, n: usize) -> bool {
+    TABLE_RANGE.contains(&n)
+        && (i + 1..=i + n).all(|j| {
+            parts
+                .statement(j)
+                .is_some_and(|entry| entry.code == code::GOTO)
+        })
+}
+
+/// Check 4: the expressions a and b of a statement that passes check 5.
+fn expressions_fit(parts: &Parts, statement: &Statement) -> bool {
+    let fits = |offset, wanted: fn(Sort) -> bool| sort_at(parts, offset).is_some_and(wanted);
+    let (a, b) = (statement.a, statement.b);
+    match statement.code {
+        code::SET => fits(a, Sort::is_place) && fits(b, |_| true),
+        code::CLEAR => fits(a, Sort::is_place),
+        code::INCR | code::DECR => fits(a, |sort| sort == Sort::DecimalPlace),
+        code::UPCASE | code::LOCASE => fits(a, |sort| sort == Sort::AlphaPlace),
+        code::GOTO_IF_ZERO | code::COMPUTED_GOTO => fits(b, Sort::is_number),
+        _ => true,
+    }
+}
+
+#[cfg(test)]
+mod tests {
+    use crate::sample::{answer, Sample, StatementEntry};
+    use crate::unit::LONGEST;
+
+    const PASSED: (u8, usize) = (0, 0);
+
+    #[test]
+    fn example_of_the_paper_passes() {
+        let unit = *b"41\x01\0\0\0\0\x02\0\x01\x02\0\0\0\x03\0\0\0\0\0\0\0\x0B\0\0\0\0\0\0\0\
+            \0\x02\0\x01\0\x04\0\0\0\x02\x44\x42";
+        assert_eq!(unit.len(), 42);
+        assert_eq!(answer(&unit), PASSED);
+        for length in 0..unit.len() {
+            assert_eq!(answer(&unit[..length]), (1, 0));
+        }
+    }
+
+    #[test]
+    fn shortest_unit_is_out_of_range_and_not_unfilled() {
+        let mut unit = vec![0; 12];
+        assert_eq!(answer(&unit), (1, 0));
+        unit[10..].copy_from_slice(&[0x44, 0x42]);
+        assert_eq!(answer(&unit), (2, 0));
+        unit[1] = 1;
+        assert_eq!(answer(&unit), (1, 0));
+    }
+
+    #[test]
+    fn longest_unit_passes_and_one_byte_more_is_1() {
+        let mut longest = Sample {
+            image: vec![b' '; 16_383],
+            fields: vec![(0, 0, 1, 1); 512],
+            expressions: vec![0; 16_383],
+            literals: vec![b' '; 4_095],
+            statements: vec![(11, 0, 0, 0); 2_048],
+        };
+        for (offset, field) in (0..).zip(&mut longest.fields) {
+            field.1 = offset;
+        }
+        assert_eq!(longest.unit().len(), LONGEST);
+        assert_eq!(longest.answer(), PASSED);
+        longest.literals.push(b' ');
+        assert_eq!(longest.answer(), (1, 0));
+    }
+
+    /// The answers for the least unit changed in one part.
+    fn answer_with(change: impl Fn(&mut Sample)) -> (u8, usize) {
+        let mut sample = Sample::least();
+        change(&mut sample);
+        sample.answer()
+    }
+
+    #[test]
+    fn both_sides_of_each_range() {
+        assert_eq!(answer_with(|sample| sample.image.clear()), (2, 0));
+        assert_eq!(answer_with(|_| ()), PASSED);
+        assert_eq!(
+            answer_with(|sample| sample.image.resize(16_383, b' ')),
+            PASSED
+        );
+        assert_eq!(
+            answer_with(|sample| sample.image.resize(16_384, b' ')),
+            (2, 0)
+        );
+        assert_eq!(
+            answer_with(|sample| sample.fields.resize(512, (2, 0, 1, 1))),
+            PASSED
+        );
+        assert_eq!(
+            answer_with(|sample| sample.fields.resize(513, (2, 0, 1, 1))),
+            (2, 0)
+        );
+        assert_eq!(
+            answer_with(|sample| sample.expressions.resize(16_383, 0)),
+            PASSED
+        );
+        assert_eq!(
+            answer_with(|sample| sample.expressions.resize(16_384, 0)),
+            (2, 0)
+        );
+        assert_eq!(
+            answer_with(|sample| sample.literals.resize(4_095, 0)),
+            PASSED
+        );
+        assert_eq!(
+            answer_with(|sample| sample.literals.resize(4_096, 0)),
+            (2, 0)
+        );
+        assert_eq!(answer_with(|sample| sample.statements.clear()), (2, 0));
+        assert_eq!(
+            answer_with(|sample| sample.statements.resize(2_048, (10, 0, 0, 0))),
+            PASSED
+        );
+        assert_eq!(
+            answer_with(|sample| sample.statements.resize(2_049, (10, 0, 0, 0))),
+            (2, 0)
+        );
+    }
+
+    #[test]
+    fn field_rules() {
+        let over_twenty = |fields: &[_]| {
+            answer_with(|sample| {
+                sample.image.resize(20, b'0');
+                sample.fields = fields.to_vec();
+            })
+        };
+        assert_eq!(over_twenty(&[(0, 0, 20, 1)]), PASSED);
+        assert_eq!(over_twenty(&[(0, 0, 21, 1)]), (3, 0));
+        assert_eq!(over_twenty(&[(0, 20, 1, 1)]), (3, 0));
+        assert_eq!(over_twenty(&[(0, 0, 0, 1)]), (3, 0));
+        assert_eq!(over_twenty(&[(0, 0, 1, 0)]), (3, 0));
+        assert_eq!(over_twenty(&[(0, 0, 65_535, 65_535)]), (3, 0));
+        assert_eq!(over_twenty(&[(1, 0, 18, 1)]), PASSED);
+        assert_eq!(over_twenty(&[(1, 0, 19, 1)]), (3, 0));
+        assert_eq!(over_twenty(&[(1, 0, 10, 2)]), PASSED);
+        assert_eq!(over_twenty(&[(2, 0, 10, 2)]), (3, 0));
+        assert_eq!(over_twenty(&[(3, 0, 1, 1)]), (3, 0));
+        assert_eq!(over_twenty(&[(0, 0, 2, 2), (1, 4, 1, 1)]), PASSED);
+        assert_eq!(over_twenty(&[(0, 0, 2, 2), (1, 3, 1, 1)]), (3, 1));
+        assert_eq!(
+            over_twenty(&[(0, 4, 1, 1), (2, 0, 20, 1), (1, 3, 1, 1)]),
+            (3, 2)
+        );
+        assert_eq!(
+            over_twenty(&[(2, 9, 9, 1), (0, 4, 1, 1), (2, 0, 1, 1), (1, 5, 1, 1)]),
+            PASSED
+        );
+    }
+
+    fn answer_to(statements: &[StatementEntry]) -> (u8, usize) {
+        // The expressions are a decimal place at 0, an alpha place at 4 and a number at 8.
+        let expressions = b"\x02\0\0\0\x02\0\x01\0\x01\0\0\x01\0";
+        let mut sample = Sample::fields((11, 0, 0, 0), expressions);
+        sample.statements = statements.to_vec();
+        sample.answer()
+    }
+
+    #[test]
+    fn unused_parts_are_zero() {
+        for (statement, used) in [
+            ((1, 0, 8, 0), [true, true, false]),
+            ((2, 0, 0, 0), [true, false, false]),
+            ((3, 0, 0, 0), [true, false, false]),
+            ((4, 0, 0, 0), [true, false, false]),
+            ((5, 4, 0, 0), [true, false, false]),
+            ((6, 4, 0, 0), [true, false, false]),
+            ((7, 0, 0, 0), [false, false, true]),
+            ((8, 0, 8, 0), [false, true, true]),
+            ((9, 0, 0, 0), [false, false, true]),
+            ((10, 0, 0, 0), [false, false, false]),
+            ((11, 0, 0, 0), [false, false, false]),
+            ((12, 1, 8, 0), [true, true, false]),
+        ] {
+            let goto = (7, 0, 0, 0);
+            assert_eq!(answer_to(&[statement, goto]), PASSED, "{statement:?}");
+            let (code, a, b, c) = statement;
+            let changed = [(code, 1, b, c), (code, a, 1, c), (code, a, b, 1)];
+            for (changed, used) in changed.into_iter().zip(used) {
+                if !used {
+                    assert_eq!(answer_to(&[changed, goto]), (5, 0), "{changed:?}");
+                }
+            }
+        }
+    }
+
+    #[test]
+    fn codes_and_targets() {
+        assert_eq!(answer_to(&[(0, 0, 0, 0)]), (5, 0));
+        assert_eq!(answer_to(&[(13, 0, 0, 0)]), (5, 0));
+        for code in [7, 9] {
+            assert_eq!(answer_to(&[(11, 0, 0, 0), (code, 0, 0, 1)]), PASSED);
+            assert_eq!(answer_to(&[(11, 0, 0, 0), (code, 0, 0, 2)]), (5, 1));
+        }
+        assert_eq!(answer_to(&[(8, 0, 8, 1)]), (5, 0));
+        assert_eq!(answer_to(&[(8, 0, 13, 1)]), (5, 0));
+        assert_eq!(answer_to(&[(8, 0, 13, 0)]), (4, 0));
+    }
+
+    #[test]
+    fn tables() {
+        let table = |n: u16, gotos: usize| {
+            let mut statements = vec![(12, n, 8, 0)];
+            statements.resize(gotos + 1, (7, 0, 0, 0));
+            answer_to(&statements)
+        };
+        assert_eq!(table(0, 1), (5, 0));
+        assert_eq!(table(1, 1), PASSED);
+        assert_eq!(table(2, 1), (5, 0));
+        assert_eq!(table(255, 255), PASSED);
+        assert_eq!(table(255, 254), (5, 0));
+        assert_eq!(table(256, 256), (5, 0));
+        assert_eq!(answer_to(&[(12, 1, 8, 0), (7, 0, 0, 2)]), (5, 1));
+        assert_eq!(answer_to(&[(12, 1, 4, 0), (7, 0, 0, 2)]), (4, 0));
+        assert_eq!(
+            answer_to(&[(12, 2, 8, 0), (7, 0, 0, 0), (11, 0, 0, 0)]),
+            (5, 0)
+        );
+    }
+
+    #[test]
+    fn sorts_wanted() {
+        // For each code: whether a decimal place, an alpha place and a number serve.
+        for (code, wanted) in [
+            (1, [true, true, false]),
+            (2, [true, true, false]),
+            (3, [true, false, false]),
+            (4, [true, false, false]),
+            (5, [false, true, false]),
+            (6, [false, true, false]),
+            (8, [true, false, true]),
+            (12, [true, false, true]),
+        ] {
+            for (offset, serves) in [0, 4, 8].into_iter().zip(wanted) {
+                let statement = match code {
+                    8 => (code, 0, offset, 0),
+                    12 => (code, 1, offset, 0),
+                    _ => (code, offset, 0, 0),
+                };
+                let answer = answer_to(&[statement, (7, 0, 0, 0)]);
+                assert_eq!(
+                    answer,
+                    if serves { PASSED } else { (4, 0) },
+                    "{statement:?}"
+                );
+            }
+        }
+    }
+
+    #[test]
+    fn five_goes_before_four_and_statements_in_turn() {
+        assert_eq!(answer_to(&[(3, 99, 1, 0)]), (5, 0));
+        assert_eq!(answer_to(&[(3, 99, 0, 0), (0, 0, 0, 0)]), (4, 0));
+        assert_eq!(answer_to(&[(3, 0, 0, 0), (0, 0, 0, 0)]), (5, 1));
+    }
+}

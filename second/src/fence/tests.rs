@@ -1,0 +1,232 @@
+//! Tests of the fence check.
+
+use super::*;
+use crate::sample::Sample;
+
+/// An alpha A4 (field 0), a D3 array of two (1), an alpha array of A2 (2), a gap of two bytes, a
+/// D2 (3), and records over everything (4) and over the alphas and the gap (5).
+fn sample() -> Sample {
+    Sample::over(
+        "abcd001002wxyz..07",
+        &[
+            (0, 0, 4, 1),
+            (1, 4, 3, 2),
+            (0, 10, 2, 2),
+            (1, 16, 2, 1),
+            (2, 0, 18, 1),
+            (2, 10, 6, 1),
+        ],
+    )
+}
+
+/// The number of the rule that the only statement breaks, or 0.
+fn broken(sample: Sample) -> u8 {
+    let unit = sample.unit();
+    let number = breach(&unit, 0).map_or(0, Breach::number);
+    let wanted = if number == 0 {
+        Fence::Yes
+    } else {
+        Fence::No(0)
+    };
+    assert_eq!(fence(&unit), wanted);
+    number
+}
+
+/// A read of a decimal reference, by the branch on zero.
+fn read(reference: &str) -> u8 {
+    broken(sample().by(code::GOTO_IF_ZERO, reference, 0))
+}
+
+/// A read of an alpha reference, by a SET of field 0.
+fn read_alpha(reference: &str) -> u8 {
+    broken(sample().set("%0", reference))
+}
+
+/// A write, by a CLEAR.
+fn written(place: &str) -> u8 {
+    broken(sample().on(code::CLEAR, place))
+}
+
+#[test]
+fn bounds_are_literals_or_negated_literals() {
+    assert_eq!(read("2 %1()"), 0);
+    assert_eq!(read("02 %1()"), 0);
+    assert_eq!(read("000000000000000002 %1()"), 0);
+    assert_eq!(read("%3 %1()"), 1);
+    assert_eq!(read("1 1 + %1()"), 1);
+    assert_eq!(read("1 neg neg %1()"), 1);
+    assert_eq!(read("0 NOT %1()"), 1);
+    assert_eq!(read("1 %1() %1()"), 1);
+    assert_eq!(read("4 6 %1(,)"), 0);
+    assert_eq!(read("%3 6 %1(,)"), 1);
+    assert_eq!(read("4 %3 %1(,)"), 1);
+    assert_eq!(read("4 3 3 + %1(,)"), 1);
+    assert_eq!(read("6 3 neg %1(:)"), 0);
+    assert_eq!(read("6 3 neg neg %1(:)"), 1);
+    assert_eq!(read("6 1 + 3 neg %1(:)"), 1);
+    assert_eq!(written("2 3 %0(,)"), 0);
+    assert_eq!(written("2 %3 %0(,)"), 1);
+}
+
+#[test]
+fn bounds_are_not_ones_that_21_is_given_for() {
+    assert_eq!(read("0 3 %1(,)"), 2);
+    assert_eq!(read("3 neg 3 %1(,)"), 2);
+    assert_eq!(read("3 2 %1(,)"), 2);
+    assert_eq!(read("3 3 neg %1(,)"), 2);
+    assert_eq!(read("3 3 %1(,)"), 0);
+    assert_eq!(read("0 1 %1(:)"), 2);
+    assert_eq!(read("1 neg 1 %1(:)"), 2);
+    assert_eq!(read("1 0 %1(:)"), 2);
+    assert_eq!(read("1 0 neg %1(:)"), 2);
+    assert_eq!(read("1 1 neg %1(:)"), 0);
+}
+
+#[test]
+fn a_span_lies_inside_its_field() {
+    for (subscript, rule) in [
+        ("1", 0),
+        ("2", 0),
+        ("3", 3),
+        ("0", 3),
+        ("1 neg", 3),
+        ("0 neg", 3),
+        ("999999999999999999", 3),
+        ("999999999999999999 neg", 3),
+    ] {
+        assert_eq!(read(&format!("{subscript} %1()")), rule, "{subscript}");
+    }
+    assert_eq!(read("6 6 %1(,)"), 0);
+    assert_eq!(read("6 7 %1(,)"), 3);
+    assert_eq!(read("7 7 %1(,)"), 3);
+    assert_eq!(read("1 2 neg %1(:)"), 3);
+    assert_eq!(read("6 1 %1(:)"), 0);
+    assert_eq!(read("6 2 %1(:)"), 3);
+    assert_eq!(read_alpha("1 4 %2(,)"), 0);
+    assert_eq!(read_alpha("1 5 %2(,)"), 3);
+    assert_eq!(read_alpha("2 %2()"), 0);
+    assert_eq!(read_alpha("3 %2()"), 3);
+    assert_eq!(read_alpha("2 %0()"), 3);
+    assert_eq!(read_alpha("1 %4()"), 0);
+    assert_eq!(read_alpha("2 %4()"), 3);
+    assert_eq!(written("1 5 %0(,)"), 3);
+}
+
+#[test]
+fn a_decimal_span_lies_in_one_element() {
+    assert_eq!(read("2 3 %1(,)"), 0);
+    assert_eq!(read("3 4 %1(,)"), 4);
+    assert_eq!(read("1 6 %1(,)"), 4);
+    assert_eq!(read("4 2 neg %1(:)"), 4);
+    assert_eq!(written("3 6 %1(,)"), 4);
+    assert_eq!(written("3 4 %1(,)"), 4);
+    assert_eq!(read_alpha("2 3 %2(,)"), 0);
+}
+
+#[test]
+fn a_decimal_destination_ends_at_the_last_character() {
+    assert_eq!(written("%1"), 0);
+    assert_eq!(written("2 %1()"), 0);
+    assert_eq!(written("2 3 %1(,)"), 0);
+    assert_eq!(written("6 6 %1(,)"), 0);
+    assert_eq!(written("1 2 %1(,)"), 5);
+    assert_eq!(written("4 5 %1(,)"), 5);
+    assert_eq!(written("1 1 %3(:)"), 5);
+    assert_eq!(read("1 2 %1(,)"), 0);
+    for statement in [code::INCR, code::DECR] {
+        assert_eq!(broken(sample().on(statement, "1 1 %3(,)")), 5);
+        assert_eq!(broken(sample().on(statement, "2 2 %3(,)")), 0);
+    }
+    assert_eq!(broken(sample().set("1 2 %1(,)", "5")), 5);
+}
+
+#[test]
+fn an_alpha_destination_shares_no_byte_with_a_decimal() {
+    assert_eq!(written("%0"), 0);
+    assert_eq!(written("%4"), 6);
+    assert_eq!(written("%5"), 0);
+    assert_eq!(written("1 4 %4(,)"), 0);
+    assert_eq!(written("1 5 %4(,)"), 6);
+    assert_eq!(written("10 10 %4(,)"), 6);
+    assert_eq!(written("11 16 %4(,)"), 0);
+    assert_eq!(written("16 2 %4(:)"), 6);
+    assert_eq!(written("15 2 %4(:)"), 0);
+    assert_eq!(read_alpha("%4"), 0);
+    for statement in [code::UPCASE, code::LOCASE] {
+        assert_eq!(broken(sample().on(statement, "%4")), 6);
+        assert_eq!(broken(sample().on(statement, "%5")), 0);
+    }
+    assert_eq!(broken(sample().set("%4", "\"x\"")), 6);
+}
+
+#[test]
+fn the_first_rule_broken_is_answered() {
+    // a before b, references left to right, the rules of each in their order.
+    assert_eq!(broken(sample().set("%4", "%3 %1()")), 6);
+    assert_eq!(broken(sample().set("%0", "9 %1() %3 %1() +")), 3);
+    assert_eq!(broken(sample().set("%0", "%3 %1() 9 %1() +")), 1);
+    assert_eq!(broken(sample().set("9 %1() %0()", "1")), 3);
+    assert_eq!(read("0 %3 %1(,)"), 1);
+    assert_eq!(read("9 0 %1(,)"), 2);
+    assert_eq!(read("3 9 %1(,)"), 3);
+    assert_eq!(written("3 5 %1(,)"), 4);
+    assert_eq!(written("1 19 %4(,)"), 3);
+}
+
+#[test]
+fn a_bound_that_is_a_reference_keeps_the_rules_first() {
+    // The inner reference is met first, and is no literal to the outer one.
+    assert_eq!(read("9 %1() %1()"), 3);
+    assert_eq!(read("1 %1() %1()"), 1);
+}
+
+#[test]
+fn statements_without_references_keep_the_rules() {
+    for statement in [code::GOTO, code::CALL, code::RETURN, code::STOP] {
+        assert_eq!(broken(sample().to(statement, 0)), 0);
+    }
+    assert_eq!(broken(sample().by(code::GOTO_IF_ZERO, "1 0 /", 0)), 0);
+    let computed = |number| {
+        sample()
+            .by(code::COMPUTED_GOTO, number, 1)
+            .to(code::GOTO, 0)
+    };
+    assert_eq!(broken(computed("1 %1()")), 0);
+    assert_eq!(broken(computed("3 %1()")), 3);
+}
+
+#[test]
+fn the_first_statement_is_named_reachable_or_not() {
+    let unit = sample()
+        .to(code::STOP, 0)
+        .on(code::CLEAR, "%4")
+        .on(code::CLEAR, "%3 %1()")
+        .unit();
+    assert_eq!(fence(&unit), Fence::No(1));
+    let numbers = [0, 1, 2, 3, 9].map(|i| breach(&unit, i).map_or(0, Breach::number));
+    assert_eq!(numbers, [0, 6, 1, 0, 0]);
+}
+
+#[test]
+fn refused_units_are_refused() {
+    let refused = |stop, place| Fence::Refused(Refusal { stop, place });
+    assert_eq!(fence(b""), refused(1, 0));
+    let unit = sample().on(code::CLEAR, "%4").to(code::GOTO, 2).unit();
+    assert_eq!(fence(&unit), refused(5, 1));
+    assert_eq!(breach(&unit, 0), None);
+    let unit = sample().on(code::INCR, "%0").unit();
+    assert_eq!(fence(&unit), refused(4, 0));
+}
+
+#[test]
+fn rules_are_numbered_in_order() {
+    let rules = [
+        Breach::Bound,
+        Breach::Bounds,
+        Breach::Outside,
+        Breach::Elements,
+        Breach::MidField,
+        Breach::OverDecimal,
+    ];
+    assert_eq!(rules.map(Breach::number), [1, 2, 3, 4, 5, 6]);
+}

@@ -1,0 +1,34 @@
+//! The independent second interpreter of coded DIBOL units.
+//!
+//! It is written from the papers alone and works straight from the coded bytes, so that its
+//! answers can stand beside those of the verified runtime and be compared.
+
+mod arithmetic;
+mod batch;
+mod bench;
+mod check;
+mod decimal;
+mod expression;
+mod fence;
+mod literal;
+mod run;
+#[cfg(test)]
+mod sample;
+mod span;
+mod state;
+mod stop;
+mod text;
+mod unit;
+#[cfg(test)]
+mod values;
+mod work;
+
+pub use batch::answer;
+pub use bench::{bench, image, read_unit, BENCH_ALLOWANCE};
+pub use check::check;
+pub use fence::{breach, fence, Breach, Fence};
+pub use literal::{literal, literal_range};
+pub use run::{run, Outcome};
+pub use state::{State, CALLS_MOST};
+pub use stop::{words, Refusal};
+pub use unit::{Field, Parts, Statement};

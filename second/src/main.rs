@@ -1,0 +1,119 @@
+//! The program `second`: the second interpreter's answers for units in files.
+
+mod table;
+mod timing;
+
+use second::{answer, bench, breach, image, literal_range, read_unit, run, words};
+use second::{State, BENCH_ALLOWANCE};
+use std::env::args_os;
+use std::ffi::{OsStr, OsString};
+use std::fs;
+use std::io::{self, BufRead, Write};
+use std::process::ExitCode;
+use std::str::FromStr;
+
+const USAGE: &str = "\
+usage: second check FILES..            what checks 1 to 5 say of each unit
+       second fence FILES..            what the fence check says of each unit
+       second breach FILE I            why statement I breaks the fence rules
+       second literal FILE I           where the alpha literal of statement I stands
+       second bench <FILE              the bench program
+       second run FILE [ALLOWANCE]     a run from the image, told in words
+       second time FILE N              how long N runs from the image take
+       second batch                    an answer for each line of standard input";
+
+fn main() -> ExitCode {
+    let args: Vec<OsString> = args_os().skip(1).collect();
+    let args: Vec<&OsStr> = args.iter().map(OsString::as_os_str).collect();
+    match answer_to(&args) {
+        Ok(()) => ExitCode::SUCCESS,
+        Err(error) => {
+            eprintln!("{error}");
+            ExitCode::from(2)
+        }
+    }
+}
+
+fn answer_to(args: &[&OsStr]) -> io::Result<()> {
+    let Some((word, rest)) = args.split_first() else {
+        return Err(io::Error::other(USAGE));
+    };
+    match (word.to_str().unwrap_or_default(), rest) {
+        ("check", files) => table::check_files(files),
+        ("fence", files) => table::fence_files(files),
+        ("breach", [file, i]) => show_breach(file, i),
+        ("literal", [file, i]) => show_literal(file, i),
+        ("bench", []) => io::stdout().write_all(&bench(&read_unit(io::stdin())?)),
+        ("run", [file]) => show_run(file, BENCH_ALLOWANCE),
+        ("run", [file, allowance]) => show_run(file, number(allowance)?),
+        ("time", [file, runs]) => timing::time(&read_file(file)?, number(runs)?),
+        ("batch", []) => batch(),
+        _ => Err(io::Error::other(USAGE)),
+    }
+}
+
+/// Prints how a run from the image stops, the calls still open, and the data.
+fn show_run(file: &OsStr, allowance: u64) -> io::Result<()> {
+    let unit = read_file(file)?;
+    let mut data = image(&unit);
+    let outcome = run(&unit, &mut data, State::START, allowance);
+    let mut out = io::stdout().lock();
+    writeln!(
+        out,
+        "stop {} at {} after {} statements: {}",
+        outcome.stop,
+        outcome.place,
+        outcome.count,
+        words(outcome.stop).unwrap_or_default()
+    )?;
+    let open = &outcome.state.returns[..outcome.state.depth];
+    if !open.is_empty() {
+        writeln!(out, "open calls, to return to {open:?}")?;
+    }
+    if !data.is_empty() {
+        out.write_all(&data)?;
+        writeln!(out)?;
+    }
+    Ok(())
+}
+
+/// Prints the number and the words of the rule that statement `i` breaks, or `0`.
+fn show_breach(file: &OsStr, i: &OsStr) -> io::Result<()> {
+    let mut out = io::stdout().lock();
+    match breach(&read_file(file)?, number(i)?) {
+        Some(breach) => writeln!(out, "{} {}", breach.number(), breach.words()),
+        None => writeln!(out, "0"),
+    }
+}
+
+/// Prints offset and length of the alpha literal of statement `i`, or `empty`.
+fn show_literal(file: &OsStr, i: &OsStr) -> io::Result<()> {
+    let mut out = io::stdout().lock();
+    match literal_range(&read_file(file)?, number(i)?) {
+        Some(range) => writeln!(out, "{} {}", range.start, range.len()),
+        None => writeln!(out, "empty"),
+    }
+}
+
+/// Answers each line of standard input with a line, at once. A line that cannot be answered gives
+/// `?` and what is wrong with it.
+fn batch() -> io::Result<()> {
+    let mut out = io::stdout().lock();
+    for line in io::stdin().lock().lines() {
+        let answer = answer(&line?).unwrap_or_else(|fault| format!("? {fault}"));
+        writeln!(out, "{answer}")?;
+        out.flush()?;
+    }
+    Ok(())
+}
+
+fn read_file(file: &OsStr) -> io::Result<Vec<u8>> {
+    let told = |error| io::Error::other(format!("{}: {error}", file.to_string_lossy()));
+    fs::read(file).map_err(told)
+}
+
+fn number<T: FromStr>(text: &OsStr) -> io::Result<T> {
+    let number = text.to_str().and_then(|text| text.parse().ok());
+    let told = || io::Error::other(format!("{} is no number here", text.to_string_lossy()));
+    number.ok_or_else(told)
+}

@@ -1,0 +1,196 @@
+//! Units for the tests, built from their parts.
+
+use crate::bench::{image, BENCH_ALLOWANCE};
+use crate::check::check;
+use crate::run::run;
+use crate::state::State;
+use crate::unit::code;
+
+pub type FieldEntry = (u8, u16, u16, u16);
+pub type StatementEntry = (u8, u16, u16, u16);
+
+/// The parts of a unit; the trailer follows from them.
+#[derive(Clone)]
+pub struct Sample {
+    pub image: Vec<u8>,
+    pub fields: Vec<FieldEntry>,
+    pub expressions: Vec<u8>,
+    pub literals: Vec<u8>,
+    pub statements: Vec<StatementEntry>,
+}
+
+impl Sample {
+    /// One byte of data and a STOP.
+    pub fn least() -> Sample {
+        Sample {
+            image: vec![b' '],
+            fields: vec![],
+            expressions: vec![],
+            literals: vec![],
+            statements: vec![(11, 0, 0, 0)],
+        }
+    }
+
+    /// Ten bytes of data under a decimal (field 0), an alpha (1) and a record (2), and the
+    /// literals `1234567890123456789`, with one statement to fill in.
+    pub fn fields(statement: StatementEntry, expressions: &[u8]) -> Sample {
+        Sample {
+            image: vec![b'0'; 10],
+            fields: vec![(1, 0, 2, 2), (0, 4, 6, 1), (2, 0, 10, 1)],
+            expressions: expressions.to_vec(),
+            literals: b"1234567890123456789".to_vec(),
+            statements: vec![statement],
+        }
+    }
+
+    /// An image with its fields, and no statement yet.
+    pub fn over(image: &str, fields: &[FieldEntry]) -> Sample {
+        Sample {
+            image: image.as_bytes().to_vec(),
+            fields: fields.to_vec(),
+            expressions: vec![],
+            literals: vec![],
+            statements: vec![],
+        }
+    }
+
+    /// The fields of the bench values: AM is field 0, NZ 1 and NUM 2.
+    pub fn bench_values() -> Sample {
+        Sample::over(
+            "abcdefghijklmnopqrstuvwxyz1234567890",
+            &[(0, 0, 13, 1), (0, 13, 13, 1), (1, 26, 10, 1)],
+        )
+    }
+
+    /// Adds an expression, told by its items in postfix order, and gives its offset. Items are
+    /// digits, text in quotes with `_` for a space, the references `%0`, `%0()`, `%0(,)` and
+    /// `%0(:)` to field 0, and the operators.
+    pub fn expression(&mut self, items: &str) -> u16 {
+        let offset = self.expressions.len() as u16;
+        for item in items.split_whitespace() {
+            let coded = self.item(item);
+            self.expressions.extend(coded);
+        }
+        self.expressions.push(0);
+        offset
+    }
+
+    fn item(&mut self, item: &str) -> Vec<u8> {
+        const OPERATORS: [&str; 16] = [
+            "+", "-", "*", "/", "#", "neg", "EQ", "NE", "GT", "LT", "GE", "LE", "NOT", "AND", "OR",
+            "XOR",
+        ];
+        if let Some(operator) = OPERATORS.iter().position(|&sign| sign == item) {
+            return vec![0x10 + operator as u8];
+        }
+        if let Some(reference) = item.strip_prefix('%') {
+            let digits = reference.trim_end_matches(['(', ')', ',', ':']);
+            let code = match &reference[digits.len()..] {
+                "" => 0x02,
+                "()" => 0x03,
+                "(,)" => 0x04,
+                _ => 0x05,
+            };
+            return vec![code, 0, digits.parse().unwrap()];
+        }
+        let place = self.literals.len() as u16;
+        let text = item.trim_matches('"').replace('_', " ");
+        self.literals.extend(text.bytes());
+        let [high, low] = place.to_be_bytes();
+        match item.starts_with('"') {
+            true => vec![0x06, high, low, 0, text.len() as u8],
+            false => vec![0x01, high, low, text.len() as u8],
+        }
+    }
+
+    /// Adds a SET.
+    pub fn set(mut self, place: &str, source: &str) -> Sample {
+        let (a, b) = (self.expression(place), self.expression(source));
+        self.statements.push((code::SET, a, b, 0));
+        self
+    }
+
+    /// Adds a statement with a place alone.
+    pub fn on(mut self, code: u8, place: &str) -> Sample {
+        let a = self.expression(place);
+        self.statements.push((code, a, 0, 0));
+        self
+    }
+
+    /// Adds a statement with a number, GOTO_IF_ZERO with its target or a computed GOTO with its n.
+    pub fn by(mut self, code: u8, number: &str, part: u16) -> Sample {
+        let b = self.expression(number);
+        self.statements.push(match code {
+            code::COMPUTED_GOTO => (code, part, b, 0),
+            _ => (code, 0, b, part),
+        });
+        self
+    }
+
+    /// Adds a statement with a target, or with a target of 0 one that has no parts.
+    pub fn to(mut self, code: u8, target: u16) -> Sample {
+        self.statements.push((code, 0, 0, target));
+        self
+    }
+
+    pub fn unit(&self) -> Vec<u8> {
+        let mut unit = self.image.clone();
+        for &(kind, offset, size, count) in &self.fields {
+            unit.extend(entry(kind, [offset, size, count]));
+        }
+        unit.extend(&self.expressions);
+        unit.extend(&self.literals);
+        for &(code, a, b, c) in &self.statements {
+            unit.extend(entry(code, [a, b, c]));
+        }
+        let (image, fields) = (self.image.len(), self.fields.len());
+        let (expressions, literals) = (self.expressions.len(), self.literals.len());
+        for length in [image, fields, expressions, literals, self.statements.len()] {
+            unit.extend((length as u16).to_be_bytes());
+        }
+        unit.extend([0x44, 0x42]);
+        unit
+    }
+
+    /// The stop number and place of the refusal, or (0, 0) if the unit passes.
+    pub fn answer(&self) -> (u8, usize) {
+        answer(&self.unit())
+    }
+
+    /// Stop number, place, count and data after a run from the image.
+    pub fn ran(&self) -> (u8, usize, u64, String) {
+        let unit = self.unit();
+        let mut data = image(&unit);
+        let outcome = run(&unit, &mut data, State::START, BENCH_ALLOWANCE);
+        let data = String::from_utf8(data).unwrap();
+        (outcome.stop, outcome.place, outcome.count, data)
+    }
+
+    /// The data after a run from the image that reaches the end.
+    pub fn data(&self) -> String {
+        let (stop, _, _, data) = self.ran();
+        assert_eq!(stop, 0);
+        data
+    }
+
+    /// The stop number and place of a run error, which has left the data as the image is when
+    /// the first statement is the one that fails.
+    pub fn fault(&self) -> (u8, usize) {
+        let (stop, place, count, data) = self.ran();
+        assert!((20..=26).contains(&stop), "stop {stop}");
+        if count == 0 {
+            assert_eq!(data.as_bytes(), self.image);
+        }
+        (stop, place)
+    }
+}
+
+pub fn answer(unit: &[u8]) -> (u8, usize) {
+    check(unit).map_or_else(|refusal| (refusal.stop, refusal.place), |_| (0, 0))
+}
+
+fn entry(first: u8, numbers: [u16; 3]) -> Vec<u8> {
+    let mut bytes = vec![first, 0];
+    bytes.extend(numbers.iter().flat_map(|number| number.to_be_bytes()));
+    bytes
+}

@@ -1,0 +1,71 @@
+//! Tables: a row for each file and a last line with the sums.
+
+use second::{breach, check, fence, words, Fence, Refusal};
+use std::ffi::OsStr;
+use std::fs;
+use std::io::{self, BufWriter, Write};
+use std::os::unix::ffi::OsStrExt;
+use std::path::Path;
+
+/// What checks 1 to 5 say of each file.
+pub fn check_files(files: &[&OsStr]) -> io::Result<()> {
+    table(files, &["passed", "refused"], |unit| match check(unit) {
+        Ok(_) => (0, "passed".to_string()),
+        Err(refusal) => (1, refused(refusal)),
+    })
+}
+
+/// What the fence check says of each file.
+pub fn fence_files(files: &[&OsStr]) -> io::Result<()> {
+    table(files, &["yes", "no", "refused"], |unit| match fence(unit) {
+        Fence::Yes => (0, "yes".to_string()),
+        Fence::No(i) => {
+            let words = breach(unit, i).map_or("", |breach| breach.words());
+            (1, format!("no {i}: {words}"))
+        }
+        Fence::Refused(refusal) => (2, refused(refusal)),
+    })
+}
+
+fn refused(Refusal { stop, place }: Refusal) -> String {
+    let words = words(stop).unwrap_or_default();
+    format!("refused {stop} at {place}: {words}")
+}
+
+/// Prints the table. `answer` gives the words for a unit and which of the sums it counts in.
+fn table(
+    files: &[&OsStr],
+    sums: &[&str],
+    answer: impl Fn(&[u8]) -> (usize, String),
+) -> io::Result<()> {
+    let mut out = BufWriter::new(io::stdout().lock());
+    let mut counts = vec![0; sums.len()];
+    let mut unread = 0;
+    for file in files {
+        let name = Path::new(file).file_name().unwrap_or(file).as_bytes();
+        if let Ok(unit) = fs::read(file) {
+            let (sum, words) = answer(&unit);
+            counts[sum] += 1;
+            row(&mut out, &format!("{:6}  ", unit.len()), name, &words)?;
+        } else {
+            unread += 1;
+            row(&mut out, "     -  ", name, "cannot be read")?;
+        }
+    }
+    write!(out, "{} units:", counts.iter().sum::<usize>())?;
+    for (i, (count, sum)) in counts.iter().zip(sums).enumerate() {
+        write!(out, "{} {count} {sum}", if i > 0 { "," } else { "" })?;
+    }
+    if unread > 0 {
+        write!(out, ", {unread} not read")?;
+    }
+    writeln!(out)?;
+    out.flush()
+}
+
+/// One row of the table. The name is written as it stands, whatever its bytes are.
+fn row(out: &mut impl Write, length: &str, name: &[u8], words: &str) -> io::Result<()> {
+    write!(out, "{length}")?;
+    out.write_all(name)?;
+    writeln!(out, " {words}")
+}

@@ -1,0 +1,117 @@
+//! The stored units of tests/, beside this crate, and what is expected of them.
+
+use second::{bench, image, run, Outcome, State};
+use std::ffi::OsStr;
+use std::fs;
+use std::io::Write;
+use std::path::{Path, PathBuf};
+use std::process::{Command, Stdio};
+
+fn tests() -> PathBuf {
+    Path::new(env!("CARGO_MANIFEST_DIR")).join("../tests")
+}
+
+/// The units in a folder of tests/, in the order of their names.
+fn units(folder: &str) -> Vec<PathBuf> {
+    let entries = fs::read_dir(tests().join(folder)).unwrap();
+    let mut files: Vec<PathBuf> = entries.map(|entry| entry.unwrap().path()).collect();
+    files.retain(|file| file.extension() == Some(OsStr::new("unit")));
+    files.sort();
+    assert!(!files.is_empty());
+    files
+}
+
+/// What the program writes, given some words and standard input.
+fn program(words: &[&OsStr], input: &[u8]) -> Vec<u8> {
+    let mut program = Command::new(env!("CARGO_BIN_EXE_second"))
+        .args(words)
+        .stdin(Stdio::piped())
+        .stdout(Stdio::piped())
+        .spawn()
+        .unwrap();
+    // A program that has read enough may have closed its input before all of it was written.
+    let _ = program.stdin.take().unwrap().write_all(input);
+    let output = program.wait_with_output().unwrap();
+    assert!(output.status.success());
+    output.stdout
+}
+
+/// The table that the program writes for all units of a folder.
+fn table(word: &str, folder: &str) -> Vec<u8> {
+    let files = units(folder);
+    let mut words = vec![OsStr::new(word)];
+    words.extend(files.iter().map(|file| file.as_os_str()));
+    program(&words, b"")
+}
+
+#[test]
+fn checks_are_as_stored() {
+    let expected = fs::read(tests().join("expected-check.txt")).unwrap();
+    assert!(table("check", "built") == expected);
+}
+
+#[test]
+fn fences_are_as_stored() {
+    let expected = fs::read(tests().join("expected-fence.txt")).unwrap();
+    assert!(table("fence", "fences-built") == expected);
+}
+
+#[test]
+fn runs_are_as_stored() {
+    for file in units("runs-built") {
+        let name = Path::new(file.file_name().unwrap()).with_extension("out");
+        let expected = fs::read(tests().join("runs-expected").join(name)).unwrap();
+        let unit = fs::read(&file).unwrap();
+        assert!(bench(&unit) == expected, "{}", file.display());
+        let written = program(&[OsStr::new("bench")], &unit);
+        assert!(written == expected, "{}", file.display());
+    }
+}
+
+#[test]
+fn input_that_is_too_long_is_1() {
+    let bench = [OsStr::new("bench")];
+    assert_eq!(program(&bench, &[b'0'; 57_354]), b"1 0 0\n");
+    assert_eq!(program(&bench, &vec![b'0'; 1_000_000]), b"1 0 0\n");
+}
+
+#[test]
+fn batch_answers_each_line() {
+    let lines = b"check -\nnothing\n\nfence -\n";
+    let answers = program(&[OsStr::new("batch")], lines);
+    let answers = String::from_utf8(answers).unwrap();
+    let answers: Vec<&str> = answers.lines().collect();
+    assert_eq!(answers.len(), 4);
+    assert_eq!((answers[0], answers[3]), ("1 0", "refused 1 0"));
+    assert!(answers[1..3].iter().all(|answer| answer.starts_with('?')));
+}
+
+/// A run in two parts, of at most `first` statements and then of the rest of `allowance`.
+fn resumed(unit: &[u8], data: &mut [u8], first: u64, allowance: u64) -> Outcome {
+    let before = run(unit, data, State::START, first);
+    if before.stop != 30 {
+        return before;
+    }
+    let after = run(unit, data, before.state, allowance - before.count);
+    Outcome {
+        count: before.count + after.count,
+        ..after
+    }
+}
+
+#[test]
+fn resumed_runs_are_one_run() {
+    for folder in ["runs-built", "built"] {
+        for file in units(folder) {
+            let unit = fs::read(&file).unwrap();
+            let mut whole = image(&unit);
+            let outcome = run(&unit, &mut whole, State::START, 1_000);
+            for first in (0..20).chain([49, 50, 51, 52, 99, 100, 101, 102, 500, 999, 1_000]) {
+                let mut data = image(&unit);
+                let joined = resumed(&unit, &mut data, first, 1_000);
+                assert_eq!(joined, outcome, "{} after {first}", file.display());
+                assert!(data == whole, "{} after {first}", file.display());
+            }
+        }
+    }
+}
