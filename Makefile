@@ -25,8 +25,8 @@ test:
 
 # What is not proved: the second interpreter's own tests, and that everything stored is what the texts and the second interpreter make.
 rim:
-	cargo test --release --offline --quiet --manifest-path second/Cargo.toml
 	tools/store-units --check
+	UNITS=$(CURDIR)/build/units cargo test --release --offline --quiet --manifest-path second/Cargo.toml
 
 # Stores the test units anew from their texts.
 units:

@@ -1,19 +1,16 @@
-//! The stored units of tests/, beside this crate, and what is expected of them.
+//! The program as a whole, and runs in two parts over the stored units.
+//! What the program says of the stored units is compared by tools/store-units.
 
-use second::{bench, image, run, Outcome, State};
+use second::{image, run, Outcome, State};
 use std::ffi::OsStr;
 use std::fs;
 use std::io::Write;
 use std::path::{Path, PathBuf};
 use std::process::{Command, Stdio};
 
-fn tests() -> PathBuf {
-    Path::new(env!("CARGO_MANIFEST_DIR")).join("../tests")
-}
-
-/// The units in a folder of tests/, in the order of their names.
-fn units(folder: &str) -> Vec<PathBuf> {
-    let entries = fs::read_dir(tests().join(folder)).unwrap();
+/// The units in a folder, in the order of their names.
+fn units(folder: &Path) -> Vec<PathBuf> {
+    let entries = fs::read_dir(folder).unwrap();
     let mut files: Vec<PathBuf> = entries.map(|entry| entry.unwrap().path()).collect();
     files.retain(|file| file.extension() == Some(OsStr::new("unit")));
     files.sort();
@@ -34,38 +31,6 @@ fn program(words: &[&OsStr], input: &[u8]) -> Vec<u8> {
     let output = program.wait_with_output().unwrap();
     assert!(output.status.success());
     output.stdout
-}
-
-/// The table that the program writes for all units of a folder.
-fn table(word: &str, folder: &str) -> Vec<u8> {
-    let files = units(folder);
-    let mut words = vec![OsStr::new(word)];
-    words.extend(files.iter().map(|file| file.as_os_str()));
-    program(&words, b"")
-}
-
-#[test]
-fn checks_are_as_stored() {
-    let expected = fs::read(tests().join("expected-check.txt")).unwrap();
-    assert!(table("check", "built") == expected);
-}
-
-#[test]
-fn fences_are_as_stored() {
-    let expected = fs::read(tests().join("expected-fence.txt")).unwrap();
-    assert!(table("fence", "fences-built") == expected);
-}
-
-#[test]
-fn runs_are_as_stored() {
-    for file in units("runs-built") {
-        let name = Path::new(file.file_name().unwrap()).with_extension("out");
-        let expected = fs::read(tests().join("runs-expected").join(name)).unwrap();
-        let unit = fs::read(&file).unwrap();
-        assert!(bench(&unit) == expected, "{}", file.display());
-        let written = program(&[OsStr::new("bench")], &unit);
-        assert!(written == expected, "{}", file.display());
-    }
 }
 
 #[test]
@@ -99,10 +64,17 @@ fn resumed(unit: &[u8], data: &mut [u8], first: u64, allowance: u64) -> Outcome 
     }
 }
 
+/// The folders of units: those stored for the check, and those that UNITS names.
+fn folders() -> Vec<PathBuf> {
+    let stored = Path::new(env!("CARGO_MANIFEST_DIR")).join("../crates/boxlever/data");
+    let more = std::env::var_os("UNITS").map(PathBuf::from);
+    [Some(stored), more].into_iter().flatten().collect()
+}
+
 #[test]
 fn resumed_runs_are_one_run() {
-    for folder in ["runs-built", "built"] {
-        for file in units(folder) {
+    for folder in folders() {
+        for file in units(&folder) {
             let unit = fs::read(&file).unwrap();
             let mut whole = image(&unit);
             let outcome = run(&unit, &mut whole, State::START, 1_000);

@@ -368,11 +368,17 @@ mod states {
 
     #[test]
     fn the_end_is_tested_before_the_allowance() {
-        let whole = outcome(&called(), State::START, u64::MAX);
+        let whole = outcome(&called(), State::START, 1_000);
         assert_eq!((whole.stop, whole.place, whole.count), (0, 5, 5));
         assert_eq!(outcome(&called(), State::START, 5), whole);
         let short = outcome(&called(), State::START, 4);
         assert_eq!((short.stop, short.place, short.count), (30, 3, 4));
+    }
+
+    #[test]
+    fn the_greatest_allowance_is_one() {
+        let once = outcome(&sample().on(code::INCR, "%0"), State::START, u64::MAX);
+        assert_eq!((once.stop, once.place, once.count), (0, 1, 1));
     }
 
     #[test]
