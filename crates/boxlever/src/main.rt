@@ -106,7 +106,7 @@ fn one_more(n: u32) -> u32 {
 fn say_file(path: &[u8], t: Tally) -> Tally {
     let fd = os::open_read(path);
     if fd < 0 {
-        say(b"     - ");
+        say(b"     -  ");
         say_name(path);
         say(b" cannot be read\n");
         return Tally {

@@ -1,8 +1,14 @@
-// The public face of Boxlever. A host lends a coded unit as a slice of bytes; any bytes may be given, and every call answers.
+// The public face of Boxlever. A host lends a coded unit and a data buffer as slices of bytes; any bytes may be given, and every call answers.
+use rules_run::Outcome;
+use rules_run::State;
+use rules_run::Stop;
 use rules_unit::Checked;
 ghost use mathlib.Core.Path.{_≡_};
 ghost use Rattle.rules_unit.specs.Checks.{checkOf};
 ghost use Rattle.rules_unit.specs.Literals.{literalOf};
+ghost use Rattle.rules_run.specs.States.{started};
+ghost use Rattle.rules_run.specs.Stops.{stopNumber};
+ghost use Rattle.rules_run.specs.Runs.{Ran, runOf};
 
 // Checks a unit by the rules 1 to 5 of document 01, in their order. The answer is Passed with the lengths of the unit's parts,
 // or Refused with the first rule that does not hold and its place: `refusal_number` and `refusal_place` give both as numbers.
@@ -20,4 +26,59 @@ pub fn literal(unit: &[u8], i: usize) -> &[u8]
     ensures { λ r. ⌜ now r ≡ literalOf (now (unit .entry)) i ⌝ }
 {
     unit::literal(unit, i)
+}
+
+// The resume state of a run that has not begun: the first statement, and no call open.
+pub fn start() -> State
+    ensures { λ r. ⌜ r ≡ started ⌝ }
+{
+    State {
+        at: 0,
+        depth: 0,
+        returns: [0u16; 50],
+    }
+}
+
+// Runs a unit over a data buffer, from a resume state and for at most `allowance` statements. The unit is checked first (1 to 5); then
+// the buffer must have the unit's D bytes (6) and the state must be sound for the unit (7). Where a check fails, no byte and no state
+// is changed, and the count is 0. The outcome says why the call ended and at which place (`stop_number` gives document 01's number),
+// how many statements this call completed, and the state to go on from. A statement that ends in a run error has changed nothing: the
+// state stands at it. Where the allowance is spent before the end, a further call with the state handed back and the same buffer goes
+// on as if there had been no stop.
+pub fn run(unit: &[u8], bytes: &mut [u8], state: State, allowance: u64) -> Outcome
+    ensures { λ r. ⌜ _≡_ {A = Ran} (record { outcome = r; bytes = now (bytes .exit) }) (runOf (now (unit .entry)) (now (bytes .entry)) state allowance) ⌝ }
+{
+    let checked = unit::check(unit);
+    match checked {
+        Checked::Refused(r) => refused(Stop::Refused(r), rules_unit::refusal_place(r), state),
+        Checked::Passed(parts) => {
+            if bytes.len() != parts.d as usize {
+                return refused(Stop::WrongSize, 0, state);
+            }
+            if !runs::sound(parts.n, state) {
+                return refused(Stop::Unsound, 0, state);
+            }
+            runs::turns(unit, parts, bytes, state, allowance)
+        }
+    }
+}
+
+// A call that a check refuses.
+fn refused(stop: Stop, place: u16, state: State) -> Outcome
+    ensures { λ r. ⌜ r ≡ record { stop = stop; place = place; count = 0; state = state } ⌝ }
+{
+    Outcome {
+        stop: stop,
+        place: place,
+        count: 0,
+        state: state,
+    }
+}
+
+// Document 01's number for the reason why a call ended: 0 for the end, 1 to 7 for a refusal, 20 to 26 for a run error, 30 for an
+// allowance that was spent before the end.
+pub fn stop_number(s: Stop) -> u8
+    ensures { λ r. ⌜ r ≡ stopNumber s ⌝ }
+{
+    rules_run::stop_number(s)
 }

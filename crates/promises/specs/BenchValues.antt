@@ -1,79 +1,34 @@
 -- The starred bench values of document 01 ("Bench values"), as one table under one claim.
 --
--- The claim, `bench-values`: in every row of `rows`, what the written rules answer is what document 01 says.
---
---   Answer          a number, a text or a stop's number
---   Row, _is_       what the rules answer, beside what document 01 says
---   rows            the table, each row under document 01's own words
--- It is proved by computation alone: the rules' side of each row is worked out to its answer.
+-- The claim, `bench-values`: in every row of `rows`, what the written rules answer is what document 01 says. It is proved by computation alone: the
+-- rules' side of each row is worked out to its answer.
 -- Assumes nothing.
-use mathlib.Core.Path.{_≡_, refl}
+use mathlib.Core.Path.{refl}
 use mathlib.Core.List.{List, [], _∷_}
-use Prim.Native.Nat.{ℕ, _^_}
-use Prim.Native.Char.{code}
-use Prim.Native.String as string
-use lib.IntN.{ℤ, pos, negℤ}
-use Rattle.rules.specs.declared.Num.{Num}
-use Rattle.rules.specs.declared.Num.the-variants.{Value, Failed}
-use Rattle.rules.specs.Stops.{faultNumber}
+use lib.IntN.{pos}
+use Rattle.rules.specs.declared.Num.the-variants.{Value}
 use Rattle.rules.specs.Values.{readFrom, readOf}
 use Rattle.rules.specs.Arithmetic.{addOf, divOf, roundOf}
-use Rattle.rules.specs.Moves.{placed, written, alphaFrom, alphaOf}
-
-pub data Answer : Type 0 where
-  number : ℤ → Answer
-  text : List ℕ → Answer
-  stop : ℕ → Answer
-
-pub record Row : Type 0 where
-  pub rules : Answer
-  pub paper : Answer
-
-infix 70 _is_
-abbrev pub _is_ : Answer → Answer → Row
-a is b = record { rules = a; paper = b }
-
--- Every row of a table holds.
-abbrev pub AllHold : List Row → Type 0
-AllHold [] = Unit {0}
-AllHold (r ∷ rs) = (r .rules ≡ r .paper) × AllHold rs
-
--- ---- how the rows are written
-
--- Document 01's own dialect: eighteen digits, and 'p' for a negative number ending in 0.
-abbrev limit : ℕ
-limit = 18
-
-abbrev top : ℕ
-top = 10 ^ limit
-
-abbrev base : ℕ
-base = 112
-
--- The bytes of a quoted text.
-abbrev bytes : string.String → List ℕ
-bytes string.[] = []
-bytes (string._∷_ c cs) = code c ∷ bytes cs
-
-abbrev minus : ℕ → ℤ
-minus m = negℤ (pos m)
-
--- The answer of a rule that gives a number.
-abbrev answer : Num → Answer
-answer (Value z) = number z
-answer (Failed f) = stop (faultNumber f)
-
--- What a decimal of n characters then holds.
-abbrev into : ℕ → Num → Answer
-into n (Value z) = text (written base n z)
-into n (Failed f) = stop (faultNumber f)
-
--- ---- the table
+use Rattle.rules.specs.Moves.{placed, alphaFrom, alphaOf, fitted}
+use Rattle.rules_unit.specs.declared.Statement.the-variants as statement
+use Rattle.rules_unit.specs.Expressions.{digitsb}
+use Rattle.rules_run.specs.Spans.{within, rangeSpan, lengthSpan, spanIn}
+use Rattle.rules_run.specs.Evaluation.{digitsFrom, plainNumber, literalNumber, stepBy, placeBy, place, lastOf, workedFrom, workedOf, calc}
+use Rattle.rules_run.specs.Turns.{stored, applied, turnBy}
+use Rattle.promises.specs.Rows.{number, text, stop, Row, _is_, AllHold, limit, top, base, bytes, minus, answer, into, image, AM, NZ, NUM, unit, expression, range, back, after}
 
 abbrev pub rows : List Row
 rows =
+    -- *AM(12,15) is lmno
+    expression (range AM 12 15) is text (bytes "lmno")
+    -- *NZ(2:-5) is klmno
+    ∷ expression (back NZ 2 5) is text (bytes "klmno")
+    -- *AM(2:-5) is 21
+    ∷ expression (back AM 2 5) is stop 21
+    -- *NUM(10,11) is 21
+    ∷ expression (range NUM 10 11) is stop 21
     -- *"2s" reads -23
-    answer (readOf limit base (bytes "2s")) is number (minus 23)
+    ∷ answer (readOf limit base (bytes "2s")) is number (minus 23)
     -- *"q2" is 22
     ∷ answer (readOf limit base (bytes "q2")) is stop 22
     -- *1234 into D2 is "34"
@@ -90,10 +45,11 @@ rows =
     ∷ answer (addOf top (pos 999999999999999999) (pos 1)) is stop 20
     -- *" 1-2 " into D4 is "001r"
     ∷ into 4 (alphaOf top (bytes " 1-2 ")) is text (bytes "001r")
+    -- *AM(2,6) from AM(1,5) gives AM "aabcdeghijklm"
+    ∷ after 0 13 (turnBy unit 0 image (statement.Set 0 1)) is text (bytes "aabcdeghijklm")
     ∷ []
 
--- ---- the claim
-
 pub bench-values : AllHold rows
-unfolding readOf readFrom placed alphaFrom
-bench-values = (refl, (refl, (refl, (refl, (refl, (refl, (refl, (refl, (refl, tt)))))))))
+unfolding readOf readFrom placed alphaFrom fitted digitsb digitsFrom plainNumber literalNumber calc stepBy within rangeSpan lengthSpan spanIn placeBy place lastOf workedFrom workedOf stored applied turnBy
+bench-values =
+    (refl, (refl, (refl, (refl, (refl, (refl, (refl, (refl, (refl, (refl, (refl, (refl, (refl, (refl, tt))))))))))))))

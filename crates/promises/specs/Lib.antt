@@ -1,3 +1,7 @@
+pub mod Rows
 pub mod BenchValues
-pub mod Settled
+pub mod Manual
 pub mod Units
+pub mod Settled
+pub mod Demand1
+pub mod Demand2

@@ -53,6 +53,7 @@ pub record Dialect (p : Parts) : Type 0 where
   pub limit : Limit (p .digits)
   pub letters : Letters (p .sign)
   pub bound : Top (p .top)
+  pub tens : p .top ≡ 10 ^ p .digits
 
 -- "Before it lie, in this order: data image (D bytes), fields (F entries of 8), expressions (E bytes), literals (P bytes), statements (N entries of 8)."
 abbrev pub fieldsAt : Parts → ℕ

@@ -50,11 +50,11 @@ part (suc f) n (suc m) [] h = refl
 part (suc f) n (suc m) (x ∷ l) h = part f n m l (omega arith)
 
 module _ (u : List ℕ) (p : Parts) (fills : Fills u p) where
-  literals-length : length (codeOf u p .literals) ≡ p .p
+  pub literals-length : length (codeOf u p .literals) ≡ p .p
   literals-length = length-take-le (p .p) (drop (literalsAt p) u) (simp length-drop (omega (arith, fills .whole)))
 
   -- the n bytes from f on of the literals are those of the unit that stand as far after where the literals start
-  literal-part : (f n : ℕ) → f + n ≤ p .p → take n (drop f (codeOf u p .literals)) ≡ take n (drop (literalsAt p + f) u)
+  pub literal-part : (f n : ℕ) → f + n ≤ p .p → take n (drop f (codeOf u p .literals)) ≡ take n (drop (literalsAt p + f) u)
   literal-part f n h = part f n (p .p) (drop (literalsAt p) u) h ∙ ap (take n) (drop-drop f (literalsAt p) u)
 
 -- f, n and m are the code's own copies of the place, the length and P

@@ -60,7 +60,8 @@ fn op_takes(op: Op) -> u16
     }
 }
 
-fn how_takes(how: How) -> u16
+// How many bounds a reference takes.
+pub fn how_takes(how: How) -> u16
     ensures { λ r. ⌜ r ≡ howTakes how ⌝ }
 {
     match how {
@@ -108,7 +109,7 @@ fn number_good(unit: &[u8], parts: Parts, place: u16, len: u16) -> bool
 }
 
 // Whether an alpha literal has characters and lies inside the literals.
-fn text_good(unit: &[u8], parts: Parts, place: u16, len: u16) -> bool
+pub fn text_good(unit: &[u8], parts: Parts, place: u16, len: u16) -> bool
     requires { ⌜ Fills (now unit) parts ⌝ }
     ensures { λ r. ⌜ r ≡ textb (codeOf (now (unit .entry)) parts) place len ⌝ }
 {

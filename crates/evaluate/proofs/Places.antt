@@ -1,0 +1,92 @@
+-- References: a field that there is, the span that its bounds name, and what is answered of it, read or as a place. The values passed on are bits.
+-- Assumes nothing.
+use mathlib.Core.Path.{_≡_, sym, ap, _∙_}
+use mathlib.Core.Bool.{Bool, true, false, cond}
+use mathlib.Core.List.{List}
+use Prim.Native.Nat.{ℕ, _+_, _-_, _≤_, _<_}
+use native.Mathlib.Nat.{add-sub-cancel-left}
+use lib.Dec.{ltb, eqb}
+use lib.IntN.{ℤ}
+use lib.ListN.{length, take, drop}
+use borrow.Author.Tests.{lt-ltb, le-ltb, eq-eqb, ne-eqb}
+use mir.Syntax.{w64}
+use mir.Val.{SFits, toZ, ofZ}
+use Rattle.rules.specs.declared.Num.{Num}
+use Rattle.rules.specs.declared.Num.the-variants.{Failed}
+use Rattle.rules.specs.declared.Fault.the-variants as fault
+use Rattle.rules.specs.Values.{readOf}
+use Rattle.rules.proofs.Signed.{op-plain}
+use Rattle.rules_unit.specs.declared.Parts.{Parts}
+use Rattle.rules_unit.specs.declared.Field.{Field}
+use Rattle.rules_unit.specs.declared.How.{How}
+use Rattle.rules_unit.specs.Codes.{isDecimal}
+use Rattle.rules_unit.specs.Decode.{codeOf}
+use Rattle.rules_unit.specs.Expressions.{howTakes}
+use Rattle.rules_run.specs.declared.Span.{Span}
+use Rattle.rules_run.specs.declared.Span.the-variants.{At, Outside}
+use Rattle.rules_run.specs.declared.Worked.{Worked}
+use Rattle.rules_run.specs.declared.Worked.the-variants as worked
+use Rattle.rules_run.specs.Spans.{spanIn}
+use Rattle.rules_run.specs.Evaluation.{readSpan, reference, asPlace, placeBy}
+use Rattle.rules_run.proofs.Windows.{inside-window}
+
+-- The part of the data that the reader is handed.
+pub read-part : (limit base l b a n : ℕ) (d : List ℕ) (r : Num) → l ≡ limit → b ≡ base → r ≡ readOf l b (take (a + n - a) (drop a d)) → r ≡ readOf limit base (take n (drop a d))
+read-part limit base l b a n d r e f q = rw (e, f, add-sub-cancel-left a n) at q
+
+-- "it must stay inside the D bytes"
+pub found-inside : (hi : ℕ) (entry : Field) (h : How) (x y : ℤ) (s : Span) (a n : ℕ) → s ≡ spanIn 0 hi entry h x y → s ≡ At a n → a + n ≤ hi
+found-inside hi entry h x y s a n e t = inside-window 0 hi entry h x y (sym e ∙ t) .1
+
+module _ (u : List ℕ) (p : Parts) (d : List ℕ) (h : How) (f : ℕ) (x y : ℤ) where
+  pub reference-none : p .f ≤ f → Failed fault.Malformed ≡ reference (codeOf u p) d h f x y
+  unfolding reference
+  reference-none l = sym (rw (le-ltb f (p .f) l))
+
+  pub place-none : p .f ≤ f → worked.Failed fault.Malformed ≡ placeBy (codeOf u p) d h f x y
+  unfolding placeBy
+  place-none l = sym (rw (le-ltb f (p .f) l))
+
+  -- the field is there: its entry, whether it is decimal, and its span s, as the code has them
+  module _ (there : f < p .f) (entry : Field) (ee : entry ≡ codeOf u p .field f) (decimal : Bool) (ed : decimal ≡ isDecimal (entry .kind)) where
+    kind : isDecimal (codeOf u p .field f .kind) ≡ decimal
+    kind = ap (λ (g : Field). isDecimal (g .kind)) (sym ee) ∙ sym ed
+
+    pub reference-alpha : decimal ≡ false → Failed fault.Malformed ≡ reference (codeOf u p) d h f x y
+    unfolding reference
+    reference-alpha e = sym (rw (lt-ltb f (p .f) there, kind, e))
+
+    module _ (fx : SFits w64 x) (fy : SFits w64 y) (s : Span) (es : s ≡ spanIn 0 (length d) entry h (toZ w64 (ofZ w64 x)) (toZ w64 (ofZ w64 y))) where
+      span : spanIn 0 (length d) (codeOf u p .field f) h x y ≡ s
+      span = ap (λ (g : Field). spanIn 0 (length d) g h x y) (sym ee) ∙ sym (es ∙ op-plain (spanIn 0 (length d) entry h) fx fy)
+
+      read-as : decimal ≡ true → reference (codeOf u p) d h f x y ≡ readSpan (codeOf u p) d s
+      unfolding reference
+      read-as e = rw (lt-ltb f (p .f) there, kind, e, span)
+
+      pub reference-read : (a n : ℕ) (r : Num) → decimal ≡ true → s ≡ At a n → r ≡ readOf (p .digits) (p .sign) (take n (drop a d)) → r ≡ reference (codeOf u p) d h f x y
+      reference-read a n r e t q = q ∙ sym (read-as e ∙ ap (readSpan (codeOf u p) d) t)
+
+      pub reference-outside : decimal ≡ true → s ≡ Outside → Failed fault.Outside ≡ reference (codeOf u p) d h f x y
+      reference-outside e t = sym (read-as e ∙ ap (readSpan (codeOf u p) d) t)
+
+      place-as : placeBy (codeOf u p) d h f x y ≡ asPlace (codeOf u p) f s
+      unfolding placeBy
+      place-as = rw (lt-ltb f (p .f) there, span)
+
+      pub place-found : (most a n : ℕ) (r : Worked) → most ≡ p .digits → s ≡ At a n
+          → r ≡ cond decimal (cond (ltb most n) (worked.Failed fault.TooLong) (worked.Place true a n)) (worked.Place false a n)
+          → r ≡ placeBy (codeOf u p) d h f x y
+      place-found most a n r em t q = (rw (em, sym kind) at q) ∙ sym (place-as ∙ ap (asPlace (codeOf u p) f) t)
+
+      pub place-outside : s ≡ Outside → worked.Failed fault.Outside ≡ placeBy (codeOf u p) d h f x y
+      place-outside t = sym (place-as ∙ ap (asPlace (codeOf u p) f) t)
+
+  -- n values are held, and the reference takes t
+  module _ (n k t : ℕ) (ek : k ≡ howTakes h) (et : t ≡ k) where
+    pub place-bounds : (r : Worked) → SFits w64 x → SFits w64 y → n ≡ t → r ≡ placeBy (codeOf u p) d h f (toZ w64 (ofZ w64 x)) (toZ w64 (ofZ w64 y))
+        → r ≡ cond (eqb n (howTakes h)) (placeBy (codeOf u p) d h f x y) (worked.Failed fault.Malformed)
+    place-bounds r fx fy e q = rw (eq-eqb n (howTakes h) (e ∙ et ∙ ek)) (q ∙ op-plain (placeBy (codeOf u p) d h f) fx fy)
+
+    pub place-unbound : (n ≡ t → ⊥) → worked.Failed fault.Malformed ≡ cond (eqb n (howTakes h)) (placeBy (codeOf u p) d h f x y) (worked.Failed fault.Malformed)
+    place-unbound e = rw (ne-eqb n (howTakes h) (λ q. e (q ∙ sym (et ∙ ek))))

@@ -1,0 +1,76 @@
+-- What a statement answers, one law for each code, in the order of document 01.
+-- Assumes nothing.
+use Prim.Native.Nat.{ℕ, _+_, _<_}
+use native.Mathlib.Omega.{arith}
+use mathlib.Core.Path.{_≡_, sym, _∙_, subst}
+use mathlib.Core.Bool.{true, false}
+use mathlib.Core.List.{List}
+use Rattle.rules.specs.declared.Fault.the-variants as fault
+use Rattle.rules_unit.specs.declared.Statement.{Statement}
+use Rattle.rules_unit.specs.declared.Statement.the-variants as statement
+use Rattle.rules_unit.specs.Codes.{Code}
+use Rattle.rules_unit.specs.Sound.{ShapeSound, FormSound}
+use Rattle.rules_run.specs.declared.Flow.the-variants as flow
+use Rattle.rules_run.specs.declared.Turn.{Turn}
+use Rattle.rules_run.specs.Evaluation.{workedOf}
+use Rattle.rules_run.specs.Turns.{failed, goes, onPlace, countAt, caseAt, turnBy, turnOf}
+
+-- s is the statement as the code decodes it, and t what its arm answers
+module _ (c : Code) (i : ℕ) (d : List ℕ) (s : Statement) (t : Turn) (e : s ≡ c .statement i) where
+  pub turn-set : (a b : ℕ) → s ≡ statement.Set a b → t ≡ turnBy c 0 d (statement.Set a b) → t ≡ turnOf c i d
+  unfolding turnOf turnBy
+  turn-set a b h q = rw (sym e ∙ h) q
+
+  pub turn-clear : (a : ℕ) → s ≡ statement.Clear a → t ≡ turnBy c 0 d (statement.Clear a) → t ≡ turnOf c i d
+  unfolding turnOf turnBy
+  turn-clear a h q = rw (sym e ∙ h) q
+
+  pub turn-incr : (a : ℕ) → s ≡ statement.Incr a → t ≡ onPlace (workedOf c d (c .items a)) (countAt c d true) → t ≡ turnOf c i d
+  unfolding turnOf turnBy
+  turn-incr a h q = rw (sym e ∙ h) q
+
+  pub turn-decr : (a : ℕ) → s ≡ statement.Decr a → t ≡ onPlace (workedOf c d (c .items a)) (countAt c d false) → t ≡ turnOf c i d
+  unfolding turnOf turnBy
+  turn-decr a h q = rw (sym e ∙ h) q
+
+  pub turn-upcase : (a : ℕ) → s ≡ statement.Upcase a → t ≡ onPlace (workedOf c d (c .items a)) (caseAt true) → t ≡ turnOf c i d
+  unfolding turnOf turnBy
+  turn-upcase a h q = rw (sym e ∙ h) q
+
+  pub turn-locase : (a : ℕ) → s ≡ statement.Locase a → t ≡ onPlace (workedOf c d (c .items a)) (caseAt false) → t ≡ turnOf c i d
+  unfolding turnOf turnBy
+  turn-locase a h q = rw (sym e ∙ h) q
+
+  pub turn-goto : (target : ℕ) → s ≡ statement.Goto target → t ≡ goes (flow.Goto target) → t ≡ turnOf c i d
+  unfolding turnOf turnBy
+  turn-goto target h q = rw (sym e ∙ h) q
+
+  pub turn-zero : (b target : ℕ) → s ≡ statement.IfZero b target → t ≡ turnBy c 0 d (statement.IfZero b target) → t ≡ turnOf c i d
+  unfolding turnOf turnBy
+  turn-zero b target h q = rw (sym e ∙ h) q
+
+  pub turn-call : (target : ℕ) → s ≡ statement.Call target → t ≡ goes (flow.Call target) → t ≡ turnOf c i d
+  unfolding turnOf turnBy
+  turn-call target h q = rw (sym e ∙ h) q
+
+  pub turn-return : s ≡ statement.Return → t ≡ goes flow.Return → t ≡ turnOf c i d
+  unfolding turnOf turnBy
+  turn-return h q = rw (sym e ∙ h) q
+
+  pub turn-stop : s ≡ statement.Stop → t ≡ goes flow.Stop → t ≡ turnOf c i d
+  unfolding turnOf turnBy
+  turn-stop h q = rw (sym e ∙ h) q
+
+  pub turn-computed : (n b : ℕ) → s ≡ statement.Computed n b → t ≡ turnBy c i d (statement.Computed n b) → t ≡ turnOf c i d
+  unfolding turnOf turnBy
+  turn-computed n b h q = rw (sym e ∙ h) q
+
+  pub turn-bad : s ≡ statement.Bad → t ≡ failed fault.Malformed → t ≡ turnOf c i d
+  unfolding turnOf turnBy
+  turn-bad h q = rw (sym e ∙ h) q
+
+pub ruleset statements = (turn-set, turn-clear, turn-incr, turn-decr, turn-upcase, turn-locase, turn-goto, turn-zero, turn-call, turn-return, turn-stop, turn-computed, turn-bad)
+
+-- The statements behind a computed GOTO lie inside the unit, so their numbers are words.
+pub table-fits : (c : Code) (i n b : ℕ) (s : Statement) → ShapeSound c i → c .statements < 65536 → s ≡ c .statement i → s ≡ statement.Computed n b → i + n < 65535
+table-fits c i n b s shape most e h = let inside = subst (FormSound c i) (sym e ∙ h) (shape .form) .inside in omega arith

@@ -1,0 +1,68 @@
+-- `machine::clear_place` meets its contract: a place that is found is cleared, and each other arm fails as the rule does.
+-- Assumes nothing.
+use borrow.Author.Needs.{needs}
+use Rattle.rules_run.specs.Turns.{turnBy}
+use Rattle.machine.proofs.Places.{at-place}
+use Rattle.machine.proofs.clear_place.Statement.{statement}
+use Rattle.machine.proofs.clear_place.Tie as tie
+
+worked-requires : tie.Need-worked-requires
+worked-requires c κs = search needs
+
+enum-told : tie.Need-enum-told
+enum-told c = search needs
+
+fails-requires : tie.Need-fails-requires
+fails-requires c κs = search needs
+
+enum-known-decimal : tie.Need-enum-known-decimal
+enum-known-decimal c = search needs
+
+put-requires : tie.Need-put-requires
+put-requires c κs = search needs
+
+enum-told-2 : tie.Need-enum-told-2
+enum-told-2 c = search needs
+
+fails-requires-2 : tie.Need-fails-requires-2
+fails-requires-2 c κs = search needs
+
+enum-known-e : tie.Need-enum-known-e
+enum-known-e c = search needs
+
+fails-requires-3 : tie.Need-fails-requires-3
+fails-requires-3 c κs = search needs
+
+returns : tie.Need-returns
+unfolding turnBy
+returns c = search at-place depth 3
+
+returns-2 : tie.Need-returns-2
+unfolding turnBy
+returns-2 c = search at-place depth 3
+
+returns-3 : tie.Need-returns-3
+unfolding turnBy
+returns-3 c = search at-place depth 3
+
+returns-4 : tie.Need-returns-4
+unfolding turnBy
+returns-4 c = search at-place depth 3
+
+pub clear-place-spec : {M : Type 1} → statement M
+clear-place-spec =
+    tie.close
+    (tie.spec
+    worked-requires
+    enum-told
+    fails-requires
+    enum-known-decimal
+    put-requires
+    enum-told-2
+    fails-requires-2
+    enum-known-e
+    fails-requires-3
+    returns
+    returns-2
+    returns-3
+    returns-4)

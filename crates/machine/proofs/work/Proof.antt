@@ -1,0 +1,171 @@
+-- `machine::work` meets its contract: each arm knows the statement that is decoded, and its callee answers what the rule has for that statement.
+-- Assumes nothing.
+use borrow.Author.Needs.{needs}
+use Rattle.machine.proofs.Statements.{statements, table-fits}
+use Rattle.machine.proofs.work.Statement.{statement}
+use Rattle.machine.proofs.work.Tie as tie
+
+statement-requires : tie.Need-statement-requires
+statement-requires c κs = search needs
+
+enum-known-place : tie.Need-enum-known-place
+enum-known-place c = search needs
+
+set-place-requires : tie.Need-set-place-requires
+set-place-requires c κs = search needs
+
+enum-known-place-2 : tie.Need-enum-known-place-2
+enum-known-place-2 c = search needs
+
+clear-place-requires : tie.Need-clear-place-requires
+clear-place-requires c κs = search needs
+
+enum-known-place-3 : tie.Need-enum-known-place-3
+enum-known-place-3 c = search needs
+
+count-place-requires : tie.Need-count-place-requires
+count-place-requires c κs = search needs
+
+enum-known-place-4 : tie.Need-enum-known-place-4
+enum-known-place-4 c = search needs
+
+count-place-requires-2 : tie.Need-count-place-requires-2
+count-place-requires-2 c κs = search needs
+
+enum-known-place-5 : tie.Need-enum-known-place-5
+enum-known-place-5 c = search needs
+
+case-place-requires : tie.Need-case-place-requires
+case-place-requires c κs = search needs
+
+enum-known-place-6 : tie.Need-enum-known-place-6
+enum-known-place-6 c = search needs
+
+case-place-requires-2 : tie.Need-case-place-requires-2
+case-place-requires-2 c κs = search needs
+
+enum-known-target : tie.Need-enum-known-target
+enum-known-target c = search needs
+
+go-requires : tie.Need-go-requires
+go-requires c κs = search needs
+
+enum-known-number : tie.Need-enum-known-number
+enum-known-number c = search needs
+
+if-zero-requires : tie.Need-if-zero-requires
+if-zero-requires c κs = search needs
+
+enum-known-target-2 : tie.Need-enum-known-target-2
+enum-known-target-2 c = search needs
+
+go-requires-2 : tie.Need-go-requires-2
+go-requires-2 c κs = search needs
+
+enum-told : tie.Need-enum-told
+enum-told c = search needs
+
+go-requires-3 : tie.Need-go-requires-3
+go-requires-3 c κs = search needs
+
+enum-told-2 : tie.Need-enum-told-2
+enum-told-2 c = search needs
+
+go-requires-4 : tie.Need-go-requires-4
+go-requires-4 c κs = search needs
+
+enum-known-count : tie.Need-enum-known-count
+enum-known-count c = search needs
+
+computed-requires : tie.Need-computed-requires
+computed-requires c κs = (search needs, (search needs, (search needs, search table-fits depth 3)))
+
+enum-told-3 : tie.Need-enum-told-3
+enum-told-3 c = search needs
+
+fails-requires : tie.Need-fails-requires
+fails-requires c κs = search needs
+
+returns : tie.Need-returns
+returns c = search statements depth 3
+
+returns-2 : tie.Need-returns-2
+returns-2 c = search statements depth 3
+
+returns-3 : tie.Need-returns-3
+returns-3 c = search statements depth 3
+
+returns-4 : tie.Need-returns-4
+returns-4 c = search statements depth 3
+
+returns-5 : tie.Need-returns-5
+returns-5 c = search statements depth 3
+
+returns-6 : tie.Need-returns-6
+returns-6 c = search statements depth 3
+
+returns-7 : tie.Need-returns-7
+returns-7 c = search statements depth 3
+
+returns-8 : tie.Need-returns-8
+returns-8 c = search statements depth 3
+
+returns-9 : tie.Need-returns-9
+returns-9 c = search statements depth 3
+
+returns-10 : tie.Need-returns-10
+returns-10 c = search statements depth 3
+
+returns-11 : tie.Need-returns-11
+returns-11 c = search statements depth 3
+
+returns-12 : tie.Need-returns-12
+returns-12 c = search statements depth 3
+
+returns-13 : tie.Need-returns-13
+returns-13 c = search statements depth 3
+
+pub work-spec : {M : Type 1} → statement M
+work-spec =
+    tie.close
+    (tie.spec
+    statement-requires
+    enum-known-place
+    set-place-requires
+    enum-known-place-2
+    clear-place-requires
+    enum-known-place-3
+    count-place-requires
+    enum-known-place-4
+    count-place-requires-2
+    enum-known-place-5
+    case-place-requires
+    enum-known-place-6
+    case-place-requires-2
+    enum-known-target
+    go-requires
+    enum-known-number
+    if-zero-requires
+    enum-known-target-2
+    go-requires-2
+    enum-told
+    go-requires-3
+    enum-told-2
+    go-requires-4
+    enum-known-count
+    computed-requires
+    enum-told-3
+    fails-requires
+    returns
+    returns-2
+    returns-3
+    returns-4
+    returns-5
+    returns-6
+    returns-7
+    returns-8
+    returns-9
+    returns-10
+    returns-11
+    returns-12
+    returns-13)

@@ -1,0 +1,163 @@
+-- How a table of examples is written: what the rules answer, beside what a paper says.
+--
+--   Answer, Row, _is_, AllHold    a number, a text or a stop's number; a row; every row of a table holds
+--   answer, into                  what a rule answers, and what a decimal then holds
+--   unit, image                   the Data Division of the papers' examples: AM, NZ and NUM
+--   expression, after             what an expression over it comes to, and what a field holds after a statement
+-- Assumes nothing.
+use mathlib.Core.Path.{_≡_}
+use mathlib.Core.List.{List, [], _∷_, _++_}
+use lib.ListN.{take, drop}
+use Prim.Native.Nat.{ℕ, zero, suc, _*_, _^_}
+use mathlib.Core.Bool.{true, false}
+use Prim.Native.Char.{code}
+use Prim.Native.String as string
+use lib.IntN.{ℤ, pos, negℤ}
+use Rattle.rules.specs.declared.Num.{Num}
+use Rattle.rules.specs.declared.Num.the-variants.{Value, Failed}
+use Rattle.rules.specs.Stops.{faultNumber}
+use Rattle.rules.specs.Moves.{written}
+use Rattle.rules_unit.specs.declared.Kind.the-variants as kind
+use Rattle.rules_unit.specs.declared.Field.{Field}
+use Rattle.rules_unit.specs.declared.How.the-variants as how
+use Rattle.rules_unit.specs.declared.Op.the-variants as op
+use Rattle.rules_unit.specs.declared.Item.{Item}
+use Rattle.rules_unit.specs.declared.Item.the-variants as item
+use Rattle.rules_unit.specs.declared.Statement.the-variants as statement
+use Rattle.rules_unit.specs.Codes.{Code}
+use Rattle.rules_run.specs.declared.Worked.{Worked}
+use Rattle.rules_run.specs.declared.Worked.the-variants as worked
+use Rattle.rules_run.specs.declared.Flow.{Flow}
+use Rattle.rules_run.specs.declared.Flow.the-variants as flow
+use Rattle.rules_run.specs.declared.Turn.{Turn}
+use Rattle.rules_run.specs.Evaluation.{readAt, workedOf}
+use Rattle.rules_run.specs.Turns.{applied}
+
+pub data Answer : Type 0 where
+  number : ℤ → Answer
+  text : List ℕ → Answer
+  stop : ℕ → Answer
+
+pub record Row : Type 0 where
+  pub rules : Answer
+  pub paper : Answer
+
+infix 70 _is_
+abbrev pub _is_ : Answer → Answer → Row
+a is b = record { rules = a; paper = b }
+
+-- Every row of a table holds.
+abbrev pub AllHold : List Row → Type 0
+AllHold [] = Unit {0}
+AllHold (r ∷ rs) = (r .rules ≡ r .paper) × AllHold rs
+
+-- ---- how the rows are written
+
+-- Document 01's own dialect: eighteen digits, and 'p' for a negative number ending in 0.
+abbrev pub limit : ℕ
+limit = 18
+
+abbrev pub top : ℕ
+top = 10 ^ limit
+
+abbrev pub base : ℕ
+base = 112
+
+-- The bytes of a quoted text.
+abbrev pub bytes : string.String → List ℕ
+bytes string.[] = []
+bytes (string._∷_ c cs) = code c ∷ bytes cs
+
+abbrev pub minus : ℕ → ℤ
+minus m = negℤ (pos m)
+
+-- The answer of a rule that gives a number.
+abbrev pub answer : Num → Answer
+answer (Value z) = number z
+answer (Failed f) = stop (faultNumber f)
+
+-- What a decimal of n characters then holds.
+abbrev pub into : ℕ → Num → Answer
+into n (Value z) = text (written base n z)
+into n (Failed f) = stop (faultNumber f)
+
+-- "AM is A13 'abcdefghijklm', NZ A13 'nopqrstuvwxyz', NUM D10 1234567890, D = 36."
+abbrev pub image : List ℕ
+image = bytes "abcdefghijklm" ++ (bytes "nopqrstuvwxyz" ++ bytes "1234567890")
+
+abbrev pub AM : ℕ
+AM = 0
+
+abbrev pub NZ : ℕ
+NZ = 1
+
+abbrev pub NUM : ℕ
+NUM = 2
+
+abbrev alpha : ℕ → ℕ → Field
+alpha offset size = record { kind = kind.Alpha; zero = 0; offset = offset; size = size; count = 1 }
+
+abbrev fieldOf : ℕ → Field
+fieldOf zero = alpha 0 13
+fieldOf (suc zero) = alpha 13 13
+fieldOf (suc (suc f)) = record { kind = kind.Decimal; zero = 0; offset = 26; size = 10; count = 1 }
+
+-- The numbers 0 to 30, as literals of two digits.
+abbrev figures : List ℕ
+figures = bytes "00010203040506070809101112131415161718192021222324252627282930"
+
+abbrev num : ℕ → Item
+num n = item.Number (2 * n) 2
+
+-- FIELD(start,end), FIELD(pos:length) and FIELD(pos:-length), in postfix order.
+abbrev pub range : ℕ → ℕ → ℕ → List Item
+range f from to = num from ∷ (num to ∷ (item.Reference how.Range f ∷ []))
+
+abbrev pub forth : ℕ → ℕ → ℕ → List Item
+forth f at len = num at ∷ (num len ∷ (item.Reference how.Length f ∷ []))
+
+abbrev pub back : ℕ → ℕ → ℕ → List Item
+back f at len = num at ∷ (num len ∷ (item.Operator op.Negate ∷ (item.Reference how.Length f ∷ [])))
+
+-- The two expressions of the SET in the table: its place at 0, its source at 1.
+abbrev itemsOf : ℕ → List Item
+itemsOf zero = range AM 2 6
+itemsOf (suc e) = range AM 1 5
+
+abbrev pub unit : Code
+unit = record {
+  limit = limit;
+  base = base;
+  top = top;
+  size = 36;
+  fields = 3;
+  field = fieldOf;
+  literals = figures;
+  items = itemsOf;
+  statements = 1;
+  statement = λ i. statement.Set 0 1;
+  unused = λ i. 0;
+}
+
+-- The answer of an expression over the image: a number, the text at an alpha place, or the number at a decimal one.
+abbrev comes : Worked → Answer
+comes (worked.Number v) = number v
+comes (worked.Place true a n) = answer (readAt unit image a n)
+comes (worked.Place false a n) = text (take n (drop a image))
+comes (worked.Text p l) = text (take l (drop p figures))
+comes (worked.Failed f) = stop (faultNumber f)
+
+abbrev pub expression : List Item → Answer
+expression list = comes (workedOf unit image list)
+
+-- What a field of n characters at a holds after a statement, or the stop.
+abbrev pub after : ℕ → ℕ → Turn → Answer
+after a n t = goneOn (t .flow)
+  where
+    goneOn : Flow → Answer
+    goneOn (flow.Bad f) = stop (faultNumber f)
+    goneOn flow.Next = text (take n (drop a (applied unit image (t .write))))
+    goneOn (flow.Goto i) = stop 0
+    goneOn (flow.Call i) = stop 0
+    goneOn flow.Return = stop 0
+    goneOn flow.Stop = stop 0

@@ -1,0 +1,143 @@
+-- What expressions come to (document 01, "Values and references"): every number is in the range of values, every place lies inside the data,
+-- and a decimal place has no more characters than a number has digits.
+--   Bounded bound c size w    w is in the range below the bound, or lies inside the data's size bytes or the literals
+--   worked-within             what an expression comes to lies where the rules say
+-- Assumes nothing.
+use mathlib.Core.Path.{_≡_, refl}
+use mathlib.Core.Bool.{Bool, true, false, cond}
+use mathlib.Core.List.{List, [], _∷_}
+use Prim.Native.Nat.{ℕ, _+_, _^_, _≤_, _<_}
+use native.Mathlib.Omega.{arith}
+use lib.Dec.{ltb, leb}
+use lib.IntN.{ℤ, pos}
+use lib.ListN.{length}
+use borrow.Author.Tests.{leb-true, ltb-false}
+use Rattle.rules.specs.declared.Fault.the-variants as fault
+use Rattle.rules.specs.Values.{Val, Limit, Top}
+use Rattle.rules.specs.declared.Num.the-variants.{Failed}
+use Rattle.rules.proofs.Signed.{pow-le18}
+use Rattle.rules.proofs.Range.{InRange, range-if}
+use Rattle.rules.proofs.Walk.{cond-case}
+use Rattle.rules_unit.specs.declared.How.{How}
+use Rattle.rules_unit.specs.declared.How.the-variants as how
+use Rattle.rules_unit.specs.declared.Item.{Item}
+use Rattle.rules_unit.specs.declared.Item.the-variants as item
+use Rattle.rules_unit.specs.Codes.{Code, decimalb}
+use Rattle.rules_unit.specs.Expressions.{opTakes, takes, textb}
+use Rattle.rules_run.specs.declared.Span.{Span}
+use Rattle.rules_run.specs.declared.Span.the-variants.{At, Outside}
+use Rattle.rules_run.specs.declared.Worked.{Worked}
+use Rattle.rules_run.specs.declared.Worked.the-variants as worked
+use Rattle.rules_run.specs.Spans.{spanIn}
+use Rattle.rules_run.specs.Evaluation.{apply, Held, go, halt, stepBy, left, onHeld, asPlace, placeBy, place, textBy, lastOf, workedFrom, workedOf, numberOf, readAt, Within}
+use Rattle.rules_run.proofs.Windows.{inside-window}
+use Rattle.rules_run.proofs.Ranges.{apply-range, read-range}
+use Rattle.rules_run.proofs.Held.{Vals, HeldIn, step-in}
+
+-- A number in the range, a place inside the data's size bytes (a decimal one of no more than the limit's characters), text inside the literals.
+abbrev pub Bounded : ℕ → Code → ℕ → Worked → Type 0
+Bounded bound c size (worked.Number v) = Val bound v
+Bounded bound c size (worked.Place decimal a n) = (a + n ≤ size) × (decimal ≡ true → n ≤ c .limit)
+Bounded bound c size (worked.Text p l) = p + l ≤ length (c .literals)
+Bounded bound c size (worked.Failed e) = Unit {0}
+
+module _ (c : Code) (d : List ℕ) (bound : ℕ) (truths : 1 < bound) (sums : c .top ≤ bound) (digits : 10 ^ c .limit ≤ bound) where
+  found-bounded : (f : ℕ) (s : Span) → ((a n : ℕ) → s ≡ At a n → a + n ≤ length d) → Bounded bound c (length d) (asPlace c f s)
+  found-bounded f (At a n) h =
+      cond-case (Bounded bound c (length d)) (decimalb c f) _ (worked.Place false a n)
+      (λ _. cond-case (Bounded bound c (length d)) (ltb (c .limit) n) (worked.Failed fault.TooLong) (worked.Place true a n) (λ _. tt)
+      (λ e. (h a n refl, λ _. ltb-false (c .limit) n e)))
+      (λ _. (h a n refl, λ e. let z : _≡_ {A = ℕ} 0 1 = cc in absurd (omega arith)))
+  found-bounded f Outside h = tt
+
+  by-bounded : (h : How) (f : ℕ) (x y : ℤ) → Bounded bound c (length d) (placeBy c d h f x y)
+  unfolding placeBy
+  by-bounded h f x y =
+      cond-case (Bounded bound c (length d)) (ltb f (c .fields)) (asPlace c f (spanIn 0 (length d) (c .field f) h x y)) (worked.Failed fault.Malformed)
+      (λ _. found-bounded f (spanIn 0 (length d) (c .field f) h x y) (λ a n e. inside-window 0 (length d) (c .field f) h x y e .1))
+      (λ _. tt)
+
+  place-bounded : (h : How) (f : ℕ) (st : List ℤ) → Bounded bound c (length d) (place c d h f st)
+  unfolding place
+  place-bounded how.Whole f [] = by-bounded how.Whole f (pos 0) (pos 0)
+  place-bounded how.Whole f (x ∷ st) = tt
+  place-bounded how.Element f [] = tt
+  place-bounded how.Element f (x ∷ []) = by-bounded how.Element f x (pos 0)
+  place-bounded how.Element f (y ∷ (x ∷ st)) = tt
+  place-bounded how.Range f [] = tt
+  place-bounded how.Range f (x ∷ []) = tt
+  place-bounded how.Range f (y ∷ (x ∷ [])) = by-bounded how.Range f x y
+  place-bounded how.Range f (y ∷ (x ∷ (z ∷ st))) = tt
+  place-bounded how.Length f [] = tt
+  place-bounded how.Length f (x ∷ []) = tt
+  place-bounded how.Length f (y ∷ (x ∷ [])) = by-bounded how.Length f x y
+  place-bounded how.Length f (y ∷ (x ∷ (z ∷ st))) = tt
+
+  text-inside : (p l : ℕ) → textb c p l ≡ true → p + l ≤ length (c .literals)
+  unfolding textb
+  text-inside p l e = inside (leb 1 l) e
+    where
+      inside : (t : Bool) → cond t (leb (p + l) (length (c .literals))) false ≡ true → p + l ≤ length (c .literals)
+      inside true g = leb-true (p + l) (length (c .literals)) g
+      inside false g = let z : _≡_ {A = ℕ} 0 1 = cc in absurd (omega arith)
+
+  text-bounded : (p l : ℕ) (st : List ℤ) → Bounded bound c (length d) (textBy c p l st)
+  text-bounded p l [] =
+      cond-case (Bounded bound c (length d)) (textb c p l) (worked.Text p l) (worked.Failed fault.Malformed) (λ e. text-inside p l e) (λ _. tt)
+  text-bounded p l (x ∷ st) = tt
+
+  left-bounded : (st : List ℤ) → Vals bound st → Bounded bound c (length d) (left st)
+  left-bounded [] vs = tt
+  left-bounded (v ∷ []) vs = vs .0
+  left-bounded (v ∷ (w ∷ st)) vs = tt
+
+  held-bounded : (h : Held) (k : List ℤ → Worked) → ((st : List ℤ) → Vals bound st → Bounded bound c (length d) (k st)) → HeldIn bound h
+      → Bounded bound c (length d) (onHeld h k)
+  held-bounded (go st) k f vs = f st vs
+  held-bounded (halt e) k f vs = tt
+
+  -- An item that takes k values, and what is done with the values held after it.
+  step-bounded : (k : ℕ) (i : Item) (st : List ℤ) (next : List ℤ → Worked) → ((st′ : List ℤ) → Vals bound st′ → Bounded bound c (length d) (next st′))
+      → Vals bound st → Bounded bound c (length d) (onHeld (stepBy k (apply c d i) st) next)
+  step-bounded k i st next f vs =
+      held-bounded (stepBy k (apply c d i) st) next f
+      (step-in bound truths (apply c d i) (apply-range c d bound truths sums digits i) k st vs)
+
+  last-bounded : (i : Item) (st : List ℤ) → Vals bound st → Bounded bound c (length d) (lastOf c d i st)
+  unfolding lastOf
+  last-bounded (item.Number p l) st vs = step-bounded 0 (item.Number p l) st left left-bounded vs
+  last-bounded (item.Reference h f) st vs = place-bounded h f st
+  last-bounded (item.Text p l) st vs = text-bounded p l st
+  last-bounded (item.Operator o) st vs = step-bounded (opTakes o) (item.Operator o) st left left-bounded vs
+  last-bounded item.End st vs = tt
+  last-bounded item.Bad st vs = tt
+
+  from-bounded : (i : Item) (is : List Item) (st : List ℤ) → Vals bound st → Bounded bound c (length d) (workedFrom c d i is st)
+  unfolding workedFrom
+  from-bounded i [] st vs = last-bounded i st vs
+  from-bounded i (j ∷ is) st vs = step-bounded (takes i) i st (workedFrom c d j is) (λ st′ vs′. from-bounded j is st′ vs′) vs
+
+  pub worked-bounded : (is : List Item) → Bounded bound c (length d) (workedOf c d is)
+  unfolding workedOf
+  worked-bounded [] = tt
+  worked-bounded (i ∷ is) = from-bounded i is [] tt
+
+  -- A decimal place is read, and what is read is in the range.
+  pub number-bounded : (size : ℕ) (w : Worked) → Bounded bound c size w → InRange bound (numberOf c d w)
+  number-bounded size (worked.Number v) h = h
+  number-bounded size (worked.Place decimal a n) h =
+      range-if bound decimal (readAt c d a n) (Failed fault.Malformed) (λ _. read-range c d bound truths sums digits a n) (λ _. tt)
+  number-bounded size (worked.Text p l) h = tt
+  number-bounded size (worked.Failed e) h = tt
+
+-- Eighteen digits are the most that any dialect has.
+within-of : (c : Code) (size : ℕ) (w : Worked) → Bounded (10 ^ 18) c size w → Within c size w
+within-of c size (worked.Number v) h = h
+within-of c size (worked.Place decimal a n) h = h
+within-of c size (worked.Text p l) h = h
+within-of c size (worked.Failed e) h = h
+
+pub worked-within : (c : Code) (d : List ℕ) → Limit (c .limit) → Top (c .top) → (is : List Item) → Within c (length d) (workedOf c d is)
+worked-within c d limit bound is =
+    within-of c (length d) (workedOf c d is)
+    (worked-bounded c d (10 ^ 18) (omega arith) (bound .most) (pow-le18 (omega (arith, limit .most))) is)

@@ -1,0 +1,86 @@
+-- Which faults a number can come to, once for every test p of faults (document 01, "Moves and arithmetic").
+--   passes p r    r is a number, or a fault that passes p
+-- Assumes nothing.
+use Prim.Native.Nat.{ℕ, suc, _+_, _-_, _*_}
+use mathlib.Core.Path.{_≡_, refl}
+use mathlib.Core.Bool.{Bool, true, false, cond}
+use mathlib.Core.List.{List, [], _∷_}
+use lib.Dec.{ltb, leb, eqb}
+use lib.IntN.{ℤ, pos, negsuc, natAbs, _+ℤ_, _-ℤ_, _*ℤ_}
+use lib.Signed.{quotZ}
+use lib.ListN.{length}
+use Rattle.rules.specs.declared.Fault.{Fault}
+use Rattle.rules.specs.declared.Fault.the-variants as fault
+use Rattle.rules.specs.declared.Num.{Num}
+use Rattle.rules.specs.declared.Num.the-variants.{Value, Failed}
+use Rattle.rules.specs.Values.{signed, isFrom, readFrom, readOf}
+use Rattle.rules.specs.Arithmetic.{kept, rounded, roundOf}
+use Rattle.rules.specs.Moves.{alphaFrom, alphaOf}
+use Rattle.rules_unit.specs.declared.Op.{Op}
+use Rattle.rules_unit.specs.declared.Op.the-variants as op
+use Rattle.rules_run.specs.Evaluation.{calc}
+
+abbrev pub passes : (Fault → Bool) → Num → Bool
+passes p (Value v) = true
+passes p (Failed e) = p e
+
+module _ (p : Fault → Bool) where
+  pub pass-cond : (t : Bool) (a b : Num) → passes p a ≡ true → passes p b ≡ true → passes p (cond t a b) ≡ true
+  pass-cond true a b x y = x
+  pass-cond false a b x y = y
+
+  pub kept-passes : p fault.TooLong ≡ true → (top : ℕ) (z : ℤ) → passes p (kept top z) ≡ true
+  kept-passes h top z = pass-cond (ltb (natAbs z) top) (Value z) (Failed fault.TooLong) refl h
+
+  round-passes : p fault.RoundCount ≡ true → (x y : ℤ) → passes p (roundOf x y) ≡ true
+  round-passes h x (pos k) = pass-cond (leb k 18) (Value (rounded x k)) (Failed fault.RoundCount) refl h
+  round-passes h x (negsuc k) = h
+
+  -- What an operator answers.
+  pub calc-passes : p fault.TooLong ≡ true → p fault.ZeroDivisor ≡ true → p fault.RoundCount ≡ true → (top : ℕ) (o : Op) (x y : ℤ) → passes p (calc top o x y) ≡ true
+  unfolding calc
+  calc-passes a b e top op.Add x y = kept-passes a top (x +ℤ y)
+  calc-passes a b e top op.Subtract x y = kept-passes a top (x -ℤ y)
+  calc-passes a b e top op.Multiply x y = kept-passes a top (x *ℤ y)
+  calc-passes a b e top op.Divide x y = pass-cond (eqb (natAbs y) 0) (Failed fault.ZeroDivisor) (Value (quotZ x y)) b refl
+  calc-passes a b e top op.Round x y = round-passes e x y
+  calc-passes a b e top op.Negate x y = refl
+  calc-passes a b e top op.Eq x y = refl
+  calc-passes a b e top op.Ne x y = refl
+  calc-passes a b e top op.Gt x y = refl
+  calc-passes a b e top op.Lt x y = refl
+  calc-passes a b e top op.Ge x y = refl
+  calc-passes a b e top op.Le x y = refl
+  calc-passes a b e top op.Not x y = refl
+  calc-passes a b e top op.And x y = refl
+  calc-passes a b e top op.Or x y = refl
+  calc-passes a b e top op.Xor x y = refl
+
+  from-passes : p fault.BadDigit ≡ true → (base acc b : ℕ) (bs : List ℕ) → passes p (readFrom base acc b bs) ≡ true
+  unfolding readFrom
+  from-passes h base acc b [] =
+      pass-cond (isFrom 48 b) (Value (pos (acc * 10 + (b - 48)))) _ refl
+      (pass-cond (isFrom base b) (Value (signed true (acc * 10 + (b - base)))) (Failed fault.BadDigit) refl h)
+  from-passes h base acc b (x ∷ xs) =
+      pass-cond (isFrom 48 b) (readFrom base (acc * 10 + (b - 48)) x xs) (Failed fault.BadDigit) (from-passes h base (acc * 10 + (b - 48)) x xs) h
+
+  module _ (long : p fault.TooLong ≡ true) (bad : p fault.BadDigit ≡ true) where
+    -- What reading a decimal answers.
+    pub read-passes : (limit base : ℕ) (s : List ℕ) → passes p (readOf limit base s) ≡ true
+    unfolding readOf
+    read-passes limit base [] = bad
+    read-passes limit base (b ∷ bs) =
+        pass-cond (ltb limit (suc (length bs))) (Failed fault.TooLong) (readFrom base 0 b bs) long (from-passes bad base 0 b bs)
+
+    after-passes : (top : ℕ) (minus : Bool) (acc : ℕ) (s : List ℕ) → passes p (alphaFrom top minus acc s) ≡ true
+    unfolding alphaFrom
+    after-passes top minus acc [] = kept-passes long top (signed minus acc)
+    after-passes top minus acc (b ∷ bs) =
+        pass-cond (eqb b 32) _ _ (after-passes top minus acc bs)
+        (pass-cond (eqb b 43) _ _ (after-passes top minus acc bs)
+        (pass-cond (eqb b 45) _ _ (pass-cond minus (Failed fault.BadDigit) (alphaFrom top true acc bs) bad (after-passes top true acc bs))
+        (pass-cond (isFrom 48 b) _ (Failed fault.BadDigit) (after-passes top minus (acc * 10 + (b - 48)) bs) bad)))
+
+    -- What alpha to number answers.
+    pub alpha-passes : (top : ℕ) (s : List ℕ) → passes p (alphaOf top s) ≡ true
+    alpha-passes top s = after-passes top false 0 s

@@ -1,0 +1,45 @@
+-- A run keeps the length of the data: every store of a unit that passes the check has room (document 01, "Moves and arithmetic").
+-- Assumes nothing.
+use Prim.Native.Nat.{ℕ}
+use native.Mathlib.Omega.{arith}
+use mathlib.Core.Path.{_≡_, refl, _∙_}
+use mathlib.Core.List.{List}
+use lib.ListN.{length}
+use Rattle.rules.specs.Values.{Limit, Top}
+use Rattle.rules_unit.specs.declared.Parts.{Parts}
+use Rattle.rules_unit.specs.declared.Checked.the-variants as checked
+use Rattle.rules_unit.specs.Codes.{Code}
+use Rattle.rules_unit.specs.Decode.{Dialect, partsOf, codeOf}
+use Rattle.rules_unit.specs.Checks.{checkOf}
+use Rattle.rules_unit.proofs.Sound.{passed-parts}
+use Rattle.rules_run.specs.declared.State.{State}
+use Rattle.rules_run.specs.Turns.{turnOf}
+use Rattle.rules_run.specs.Runs.{runFrom}
+use Rattle.rules_run.proofs.Outside.{applied-length}
+use Rattle.rules_run.proofs.Room.{turn-room}
+use Rattle.rules_run.proofs.Steps.{every-run}
+
+-- The dialect that the base's mark names.
+parts-dialect : (u : List ℕ) → Dialect (partsOf u)
+unfolding partsOf
+parts-dialect u =
+    record {
+      limit = record { most = omega arith };
+      letters = record { above = omega arith; bytes = omega arith };
+      bound = record { some = omega arith; most = omega arith };
+      tens = refl;
+    }
+
+-- The data keeps its length.
+pub run-length : (c : Code) → Limit (c .limit) → Top (c .top) → (m : ℕ) (s : State) (d : List ℕ) (k : ℕ)
+    → length (runFrom c m s d k .bytes) ≡ length d
+run-length c limit bound =
+    every-run c (λ m s d k r. length (r .bytes) ≡ length d) (λ m s d k h. refl) (λ s d k h. refl) (λ m s d k f h q. refl)
+    (λ m s s′ d k r h q x. x ∙ applied-length c d (turnOf c (s .at) d .write) (turn-room c d limit bound (s .at)))
+
+module _ (u : List ℕ) (p : Parts) (e : checkOf u ≡ checked.Passed p) where
+  pub passed-dialect : Dialect p
+  passed-dialect = rw (passed-parts u p e) (parts-dialect u)
+
+  pub passed-length : (m : ℕ) (s : State) (d : List ℕ) (k : ℕ) → length (runFrom (codeOf u p) m s d k .bytes) ≡ length d
+  passed-length = run-length (codeOf u p) (passed-dialect .limit) (passed-dialect .bound)

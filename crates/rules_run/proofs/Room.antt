@@ -1,0 +1,116 @@
+-- Every store of a statement has room, and what it stores can be made (document 01, "Moves and arithmetic").
+-- Assumes nothing.
+use Prim.Native.Nat.{ℕ, _^_, _≤_}
+use native.Mathlib.Omega.{arith}
+use mathlib.Core.Path.{refl}
+use mathlib.Core.Bool.{Bool, true, false}
+use mathlib.Core.List.{List}
+use lib.IntN.{ℤ, pos, _+ℤ_, _-ℤ_}
+use lib.ListN.{length, take, drop}
+use Rattle.rules.specs.declared.Fault.{Fault}
+use Rattle.rules.specs.declared.Fault.the-variants as fault
+use Rattle.rules.specs.declared.Num.{Num}
+use Rattle.rules.specs.declared.Num.the-variants.{Value, Failed}
+use Rattle.rules.specs.Values.{Limit, Top}
+use Rattle.rules.specs.Arithmetic.{addOf, subOf}
+use Rattle.rules.specs.Moves.{alphaOf}
+use Rattle.rules.proofs.Signed.{pow-le18}
+use Rattle.rules.proofs.Range.{InRange, range-kept}
+use Rattle.rules.proofs.Answers.{range-alpha}
+use Rattle.rules_unit.specs.declared.Item.{Item}
+use Rattle.rules_unit.specs.declared.Statement.{Statement}
+use Rattle.rules_unit.specs.declared.Statement.the-variants as statement
+use Rattle.rules_unit.specs.Codes.{Code}
+use Rattle.rules_run.specs.declared.Worked.{Worked}
+use Rattle.rules_run.specs.declared.Worked.the-variants as worked
+use Rattle.rules_run.specs.declared.Flow.{Flow}
+use Rattle.rules_run.specs.declared.Turn.{Turn}
+use Rattle.rules_run.specs.Evaluation.{readAt, workedOf, numberOf}
+use Rattle.rules_run.specs.Turns.{Room, failed, moveNum, moveWorked, onPlace, clearAt, counted, countAt, caseAt, onNumber, ifZero, choose, turnBy, turnOf}
+use Rattle.rules_run.proofs.Ranges.{range-up, read-range}
+use Rattle.rules_run.proofs.Bounded.{Bounded, worked-bounded}
+
+module _ (c : Code) (d : List ℕ) (limit : Limit (c .limit)) (bound : Top (c .top)) where
+  -- The turn's store has room.
+  record Fit (t : Turn) : Type 0 where
+    room : Room c (length d) (t .write)
+
+  fit-failed : (e : Fault) → Fit (failed e)
+  fit-failed e = record { room = tt }
+
+  most : 10 ^ c .limit ≤ 10 ^ 18
+  most = pow-le18 (omega (arith, limit .most))
+
+  read-in : (a n : ℕ) → InRange (10 ^ 18) (readAt c d a n)
+  read-in a n = read-range c d (10 ^ 18) (omega arith) (bound .most) most a n
+
+  alpha-in : (s : List ℕ) → InRange (10 ^ 18) (alphaOf (c .top) s)
+  alpha-in s = range-up (bound .most) (alphaOf (c .top) s) (range-alpha (c .top) s)
+
+  counted-in : (up : Bool) (r : Num) → InRange (10 ^ 18) (counted (c .top) up r)
+  counted-in true (Value v) = range-up (bound .most) (addOf (c .top) v (pos 1)) (range-kept (c .top) (v +ℤ pos 1))
+  counted-in false (Value v) = range-up (bound .most) (subOf (c .top) v (pos 1)) (range-kept (c .top) (v -ℤ pos 1))
+  counted-in true (Failed e) = tt
+  counted-in false (Failed e) = tt
+
+  -- ---- at a place that was found
+
+  abbrev At : Bool → ℕ → ℕ → Type 0
+  At decimal a n = Bounded (10 ^ 18) c (length d) (worked.Place decimal a n)
+
+  fit-num : (decimal : Bool) (a n : ℕ) → At decimal a n → (r : Num) → InRange (10 ^ 18) r → Fit (moveNum decimal a n r)
+  fit-num true a n p (Value v) x = record { room = (p .0, omega (arith, p .1 refl, limit .most), x) }
+  fit-num false a n p (Value v) x = record { room = (p .0, x) }
+  fit-num decimal a n p (Failed e) x = fit-failed e
+
+  fit-worked : (decimal : Bool) (a n : ℕ) → At decimal a n → (w : Worked) → Bounded (10 ^ 18) c (length d) w → Fit (moveWorked c d decimal a n w)
+  fit-worked decimal a n p (worked.Number v) f = fit-num decimal a n p (Value v) f
+  fit-worked decimal a n p (worked.Place true b m) f = fit-num decimal a n p (readAt c d b m) (read-in b m)
+  fit-worked true a n p (worked.Place false b m) f = fit-num true a n p (alphaOf (c .top) (take m (drop b d))) (alpha-in (take m (drop b d)))
+  fit-worked false a n p (worked.Place false b m) f = record { room = (p .0, f .0) }
+  fit-worked true a n p (worked.Text q l) f = fit-num true a n p (alphaOf (c .top) (take l (drop q (c .literals)))) (alpha-in (take l (drop q (c .literals))))
+  fit-worked false a n p (worked.Text q l) f = record { room = (p .0, f) }
+  fit-worked decimal a n p (worked.Failed e) f = fit-failed e
+
+  fit-count : (up decimal : Bool) (a n : ℕ) → At decimal a n → Fit (countAt c d up decimal a n)
+  fit-count up true a n p = fit-num true a n p (counted (c .top) up (readAt c d a n)) (counted-in up (readAt c d a n))
+  fit-count up false a n p = fit-failed fault.Malformed
+
+  fit-case : (up decimal : Bool) (a n : ℕ) → At decimal a n → Fit (caseAt up decimal a n)
+  fit-case up true a n p = fit-failed fault.Malformed
+  fit-case up false a n p = record { room = p .0 }
+
+  fit-place : (w : Worked) (k : Bool → ℕ → ℕ → Turn) → Bounded (10 ^ 18) c (length d) w → ((decimal : Bool) (a n : ℕ) → At decimal a n → Fit (k decimal a n)) → Fit (onPlace w k)
+  fit-place (worked.Number v) k f h = fit-failed fault.Malformed
+  fit-place (worked.Place decimal a n) k f h = h decimal a n f
+  fit-place (worked.Text p l) k f h = fit-failed fault.Malformed
+  fit-place (worked.Failed e) k f h = fit-failed e
+
+  fit-jump : (r : Num) (k : ℤ → Flow) → Fit (onNumber r k)
+  fit-jump (Value v) k = record { room = tt }
+  fit-jump (Failed e) k = fit-failed e
+
+  -- ---- statements
+
+  fits : (is : List Item) → Bounded (10 ^ 18) c (length d) (workedOf c d is)
+  fits = worked-bounded c d (10 ^ 18) (omega arith) (bound .most) most
+
+  fit-by : (i : ℕ) (s : Statement) → Fit (turnBy c i d s)
+  unfolding turnBy
+  fit-by i (statement.Set a b) = fit-place (workedOf c d (c .items a)) _ (fits (c .items a)) (λ t x n p. fit-worked t x n p (workedOf c d (c .items b)) (fits (c .items b)))
+  fit-by i (statement.Clear a) = fit-place (workedOf c d (c .items a)) clearAt (fits (c .items a)) (λ t x n p. record { room = p .0 })
+  fit-by i (statement.Incr a) = fit-place (workedOf c d (c .items a)) (countAt c d true) (fits (c .items a)) (fit-count true)
+  fit-by i (statement.Decr a) = fit-place (workedOf c d (c .items a)) (countAt c d false) (fits (c .items a)) (fit-count false)
+  fit-by i (statement.Upcase a) = fit-place (workedOf c d (c .items a)) (caseAt true) (fits (c .items a)) (fit-case true)
+  fit-by i (statement.Locase a) = fit-place (workedOf c d (c .items a)) (caseAt false) (fits (c .items a)) (fit-case false)
+  fit-by i (statement.Goto target) = record { room = tt }
+  fit-by i (statement.IfZero b target) = fit-jump (numberOf c d (workedOf c d (c .items b))) (ifZero target)
+  fit-by i (statement.Call target) = record { room = tt }
+  fit-by i statement.Return = record { room = tt }
+  fit-by i statement.Stop = record { room = tt }
+  fit-by i (statement.Computed n b) = fit-jump (numberOf c d (workedOf c d (c .items b))) (choose i n)
+  fit-by i statement.Bad = fit-failed fault.Malformed
+
+  pub turn-room : (i : ℕ) → Room c (length d) (turnOf c i d .write)
+  unfolding turnOf
+  turn-room i = fit-by i (c .statement i) .room

@@ -1,0 +1,112 @@
+-- A run of a sound unit from a sound state hands back a sound state (document 01, "Stops and their numbers").
+--   FlowSound n f    f leads to a statement of n, or to the end
+-- Assumes nothing.
+use Prim.Native.Nat.{ℕ, zero, suc, _+_, _<_, _≤_}
+use native.Mathlib.Omega.{arith}
+use mathlib.Core.Path.{_≡_, refl, subst}
+use mathlib.Core.Bool.{Bool, true, false, cond}
+use mathlib.Core.List.{List}
+use lib.Dec.{ltb, leb, eqb}
+use lib.IntN.{ℤ, pos, negsuc, natAbs}
+use borrow.Author.Tests.{ltb-true, leb-true, eqb-false}
+use Rattle.rules.specs.declared.Fault.the-variants as fault
+use Rattle.rules_unit.specs.declared.Statement.{Statement}
+use Rattle.rules_unit.specs.declared.Statement.the-variants as statement
+use Rattle.rules_unit.specs.declared.Parts.{Parts}
+use Rattle.rules_unit.specs.declared.Checked.the-variants as checked
+use Rattle.rules_unit.specs.Codes.{Code}
+use Rattle.rules_unit.specs.Decode.{codeOf}
+use Rattle.rules_unit.specs.Checks.{checkOf}
+use Rattle.rules_unit.specs.Sound.{TableSound, FormSound, StatementSound, SoundCode}
+use Rattle.rules_unit.proofs.Sound.{passed-sound}
+use Rattle.rules_run.specs.declared.Flow.{Flow}
+use Rattle.rules_run.specs.declared.Flow.the-variants as flow
+use Rattle.rules_run.specs.declared.Turn.{Turn}
+use Rattle.rules_run.specs.declared.State.{State}
+use Rattle.rules_run.specs.Turns.{choose, turnOf}
+use Rattle.rules_run.specs.States.{Sound, called, returned}
+use Rattle.rules_run.specs.Runs.{Moved, to, stuck, movedBy, runFrom, runOf}
+use Rattle.rules_run.proofs.Cases.{Jumps, turn-case}
+use Rattle.rules_run.proofs.States.{gone-sound, called-sound, returned-sound}
+use Rattle.rules_run.proofs.Steps.{every-run}
+use Rattle.rules_run.proofs.Calls.{every-call}
+
+abbrev pub FlowSound : ℕ → Flow → Type 0
+FlowSound n flow.Next = Unit {0}
+FlowSound n (flow.Goto i) = i ≤ n
+FlowSound n (flow.Call i) = i ≤ n
+FlowSound n flow.Return = Unit {0}
+FlowSound n flow.Stop = Unit {0}
+FlowSound n (flow.Bad e) = Unit {0}
+
+-- ---- where a statement leads
+
+flow-either : (n : ℕ) (t : Bool) (x y : Flow) → (t ≡ true → FlowSound n x) → FlowSound n y → FlowSound n (cond t x y)
+flow-either n true x y f g = f refl
+flow-either n false x y f g = g
+
+module _ (c : Code) (i : ℕ) where
+  choose-sound : (n : ℕ) → TableSound c i n → (v : ℤ) → FlowSound (c .statements) (choose i n v)
+  choose-sound n t (pos zero) = omega (arith, t .inside)
+  choose-sound n t (pos (suc v)) =
+      flow-either (c .statements) (leb (suc v) n) (flow.Goto (i + suc v)) (flow.Goto (i + n + 1)) (λ e. omega (arith, t .inside, leb-true (suc v) n e)) (omega (arith, t .inside))
+  choose-sound n t (negsuc v) = omega (arith, t .inside)
+
+  abbrev Leads : Turn → Type 0
+  Leads t = FlowSound (c .statements) (t .flow)
+
+  jumps-sound : (s : Statement) → FormSound c i s → Jumps Leads i s
+  jumps-sound (statement.Set a b) f = tt
+  jumps-sound (statement.Clear a) f = tt
+  jumps-sound (statement.Incr a) f = tt
+  jumps-sound (statement.Decr a) f = tt
+  jumps-sound (statement.Upcase a) f = tt
+  jumps-sound (statement.Locase a) f = tt
+  jumps-sound (statement.Goto target) f = omega arith
+  jumps-sound (statement.IfZero b target) f = λ v. flow-either (c .statements) (eqb (natAbs v) 0) (flow.Goto target) flow.Next (λ e. omega arith) tt
+  jumps-sound (statement.Call target) f = omega arith
+  jumps-sound statement.Return f = tt
+  jumps-sound statement.Stop f = tt
+  jumps-sound (statement.Computed n b) f = λ v. choose-sound n f v
+  jumps-sound statement.Bad f = tt
+
+  pub flow-sound : (d : List ℕ) → StatementSound c i → FlowSound (c .statements) (turnOf c i d .flow)
+  unfolding turnOf
+  flow-sound d s = turn-case Leads (λ e. tt) (λ w. tt) c d i (c .statement i) (jumps-sound (c .statement i) (s .shape .form))
+
+-- ---- the state that it leads to
+
+abbrev pub MovedSound : ℕ → Moved → Type 0
+MovedSound n (to s) = Sound n s
+MovedSound n (stuck f) = Unit {0}
+
+moved-either : (n : ℕ) (t : Bool) (x y : Moved) → (t ≡ true → MovedSound n x) → (t ≡ false → MovedSound n y) → MovedSound n (cond t x y)
+moved-either n true x y f g = f refl
+moved-either n false x y f g = g refl
+
+pub moved-sound : {n : ℕ} {s : State} → Sound n s → s .at < n → (f : Flow) → FlowSound n f → MovedSound n (movedBy n s f)
+unfolding movedBy
+moved-sound t l flow.Next h = gone-sound t (omega arith)
+moved-sound t l (flow.Goto i) h = gone-sound t h
+moved-sound {n} {s} t l (flow.Call i) h =
+    moved-either n (ltb (s .depth) 50) (to (called s i)) (stuck fault.CallsFull) (λ e. called-sound t h (omega arith) (ltb-true (s .depth) 50 e)) (λ e. tt)
+moved-sound {n} {s} t l flow.Return h =
+    moved-either n (eqb (s .depth) 0) (stuck fault.NoCall) (to (returned s)) (λ e. tt) (λ e. returned-sound t (omega (arith, eqb-false (s .depth) 0 e)))
+moved-sound t l flow.Stop h = gone-sound t (omega arith)
+moved-sound t l (flow.Bad e) h = tt
+
+-- ---- the run
+
+pub run-sound : (c : Code) → SoundCode c → (m : ℕ) (s : State) (d : List ℕ) (k : ℕ) → Sound (c .statements) s → Sound (c .statements) (runFrom c m s d k .outcome .state)
+run-sound c u =
+    every-run c (λ m s d k r. Sound (c .statements) s → Sound (c .statements) (r .outcome .state)) (λ m s d k h t. t) (λ s d k h t. t) (λ m s d k f h q t. t)
+    (λ m s s′ d k r h q x t.
+    x (subst (MovedSound (c .statements)) q (moved-sound t h (turnOf c (s .at) d .flow) (flow-sound c (s .at) d (u .statements (s .at) h)))))
+
+-- A call hands back a sound state, refused or not.
+pub call-sound : (u : List ℕ) (p : Parts) → checkOf u ≡ checked.Passed p → (d : List ℕ) (s : State) (m : ℕ) → Sound (p .n) s → Sound (p .n) (runOf u d s m .outcome .state)
+call-sound u p e d s m t =
+    every-call (λ r. Sound (p .n) (r .outcome .state)) u d s m (λ x b. t)
+    (λ q f l g.
+    let w : q ≡ p = cc in
+    subst (λ (x : Parts). Sound (x .n) (runFrom (codeOf u q) m s d 0 .outcome .state)) w (run-sound (codeOf u q) (passed-sound u q f .code) m s d 0 g))

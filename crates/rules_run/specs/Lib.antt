@@ -1,0 +1,6 @@
+pub mod Spans
+pub mod Evaluation
+pub mod Turns
+pub mod States
+pub mod Stops
+pub mod Runs

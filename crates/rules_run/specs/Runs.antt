@@ -1,0 +1,85 @@
+-- The run (document 01, "Stops and their numbers").
+--   movedBy n s f           where a statement's flow leads from the state s, or the fault that stops it there
+--   runFrom c m s d k       at most m statements from the state s and the data d, after k completed ones
+--   runOf u d s m           the checks 1 to 7, then the run
+-- Assumes nothing.
+use Prim.Native.Nat.{ℕ, zero, suc, _+_}
+use mathlib.Core.Bool.{cond}
+use mathlib.Core.List.{List}
+use lib.Dec.{ltb, eqb}
+use lib.ListN.{length}
+use Rattle.rules.specs.declared.Fault.{Fault}
+use Rattle.rules.specs.declared.Fault.the-variants as fault
+use Rattle.rules_unit.specs.declared.Parts.{Parts}
+use Rattle.rules_unit.specs.declared.Checked.{Checked}
+use Rattle.rules_unit.specs.declared.Checked.the-variants as checked
+use Rattle.rules_unit.specs.Codes.{Code}
+use Rattle.rules_unit.specs.Decode.{codeOf}
+use Rattle.rules_unit.specs.Checks.{checkOf}
+use Rattle.rules_run.specs.declared.Flow.{Flow}
+use Rattle.rules_run.specs.declared.Flow.the-variants as flow
+use Rattle.rules_run.specs.declared.State.{State}
+use Rattle.rules_run.specs.declared.Stop.{Stop}
+use Rattle.rules_run.specs.declared.Stop.the-variants as stop
+use Rattle.rules_run.specs.declared.Outcome.{Outcome}
+use Rattle.rules_run.specs.Turns.{applied, turnOf}
+use Rattle.rules_run.specs.States.{soundb, gone, called, returned}
+use Rattle.rules_run.specs.Stops.{stopPlace}
+
+-- ---- one step
+
+pub data Moved : Type 0 where
+  to : State → Moved
+  stuck : Fault → Moved
+
+-- "24 | CALL with 50 calls open", "25 | RETURN with none open"; "STOP sets the statement number to N and keeps the open calls."
+unfoldable pub movedBy : ℕ → State → Flow → Moved
+movedBy n s flow.Next = to (gone s (s .at + 1))
+movedBy n s (flow.Goto i) = to (gone s i)
+movedBy n s (flow.Call i) = cond (ltb (s .depth) 50) (to (called s i)) (stuck fault.CallsFull)
+movedBy n s flow.Return = cond (eqb (s .depth) 0) (stuck fault.NoCall) (to (returned s))
+movedBy n s flow.Stop = to (gone s n)
+movedBy n s (flow.Bad e) = stuck e
+
+-- ---- the run
+
+-- What a call leaves: its outcome, and the data.
+pub record Ran : Type 0 where
+  pub outcome : Outcome
+  pub bytes : List ℕ
+
+-- A call of a unit of n statements that ends in the state s, with k statements completed.
+abbrev pub ended : ℕ → Stop → State → ℕ → List ℕ → Ran
+ended n e s k d = record { outcome = record { stop = e; place = stopPlace n (s .at) e; count = k; state = s }; bytes = d }
+
+abbrev pub onMoved : Moved → (State → Ran) → (Fault → Ran) → Ran
+onMoved (to s) k e = k s
+onMoved (stuck f) k e = e f
+
+-- "Reaching N is the end"; "An allowance of 0 gives 30, or 0 where the state is already at N."; "A run error leaves the state at its statement,
+-- which isn't counted." The data changes with a completed statement alone.
+unfoldable pub runFrom : Code → ℕ → State → List ℕ → ℕ → Ran
+runFrom c zero s d k = cond (ltb (s .at) (c .statements)) (ended (c .statements) stop.Spent s k d) (ended (c .statements) stop.End s k d)
+runFrom c (suc m) s d k =
+    let t = turnOf c (s .at) d in
+    let more = onMoved (movedBy (c .statements) s (t .flow)) (λ s′. runFrom c m s′ (applied c d (t .write)) (suc k)) (λ f. ended (c .statements) (stop.Failed f) s k d) in
+    cond (ltb (s .at) (c .statements)) more (ended (c .statements) stop.End s k d)
+
+-- ---- the checks before it
+
+-- "After 1 to 7 nothing is changed and the count is 0."
+abbrev pub refused : Stop → State → List ℕ → Ran
+refused e s d = ended 0 e s 0 d
+
+-- "then 6, 7"
+unfoldable pub runChecked : List ℕ → Parts → List ℕ → State → ℕ → Ran
+runChecked u p d s m =
+    let ran = runFrom (codeOf u p) m s d 0 in
+    cond (eqb (length d) (p .d)) (cond (soundb (p .n) s) ran (refused stop.Unsound s d)) (refused stop.WrongSize s d)
+
+abbrev pub runBy : List ℕ → List ℕ → State → ℕ → Checked → Ran
+runBy u d s m (checked.Passed p) = runChecked u p d s m
+runBy u d s m (checked.Refused r) = refused (stop.Refused r) s d
+
+unfoldable pub runOf : List ℕ → List ℕ → State → ℕ → Ran
+runOf u d s m = runBy u d s m (checkOf u)

@@ -1,0 +1,163 @@
+-- One statement (document 01, "The coded unit" and "Moves and arithmetic").
+--   turnOf c i d         what the statement i answers over the data d: what it stores, and where the run goes on
+--   applied c d w        what a store makes of the data; Room c size w, that it has room for it
+-- "In a statement a is worked out before b, items left to right, reads where they stand; storing comes last." An error stores nothing.
+-- Assumes nothing.
+use Prim.Native.Nat.{ℕ, zero, suc, _+_, _^_, _≤_}
+use mathlib.Core.Bool.{Bool, true, false, cond}
+use mathlib.Core.List.{List, _++_}
+use lib.Dec.{leb, eqb}
+use lib.IntN.{ℤ, pos, negsuc, natAbs}
+use lib.ListN.{length, take, drop}
+use Rattle.rules.specs.declared.Fault.{Fault}
+use Rattle.rules.specs.declared.Fault.the-variants as fault
+use Rattle.rules.specs.declared.Num.{Num}
+use Rattle.rules.specs.declared.Num.the-variants.{Value, Failed}
+use Rattle.rules.specs.Values.{Val}
+use Rattle.rules.specs.Arithmetic.{addOf, subOf}
+use Rattle.rules.specs.Moves.{written, shown, alphaOf, fitted, upcased, locased, blanks, zeros}
+use Rattle.rules_unit.specs.declared.Statement.{Statement}
+use Rattle.rules_unit.specs.declared.Statement.the-variants as statement
+use Rattle.rules_unit.specs.Codes.{Code}
+use Rattle.rules_run.specs.declared.Worked.{Worked}
+use Rattle.rules_run.specs.declared.Worked.the-variants as worked
+use Rattle.rules_run.specs.declared.Write.{Write}
+use Rattle.rules_run.specs.declared.Write.the-variants as write
+use Rattle.rules_run.specs.declared.Flow.{Flow}
+use Rattle.rules_run.specs.declared.Flow.the-variants as flow
+use Rattle.rules_run.specs.declared.Turn.{Turn}
+use Rattle.rules_run.specs.Evaluation.{readAt, workedOf, numberOf}
+
+-- ---- stores
+
+-- The data with new characters from a on.
+unfoldable pub stored : List ℕ → ℕ → List ℕ → List ℕ
+stored d a new = take a d ++ (new ++ drop (a + length new) d)
+
+abbrev pub cased : Bool → List ℕ → List ℕ
+cased true s = upcased s
+cased false s = locased s
+
+abbrev pub cleared : Bool → ℕ → List ℕ
+cleared true n = zeros n
+cleared false n = blanks n
+
+-- "The result is as if the source had been copied away first": the new characters are made of the data as it was.
+unfoldable pub applied : Code → List ℕ → Write → List ℕ
+applied c d write.Nothing = d
+applied c d (write.Number a n v) = stored d a (written (c .base) n v)
+applied c d (write.Show a n v) = stored d a (shown n v)
+applied c d (write.Move a n from k) = stored d a (fitted n (take k (drop from d)))
+applied c d (write.Literal a n place k) = stored d a (fitted n (take k (drop place (c .literals))))
+applied c d (write.Clear a n decimal) = stored d a (cleared decimal n)
+applied c d (write.Case a n up) = stored d a (cased up (take n (drop a d)))
+
+-- A store that the data has room for, and that the moves can make.
+abbrev pub Room : Code → ℕ → Write → Type 0
+Room c size write.Nothing = Unit {0}
+Room c size (write.Number a n v) = (a + n ≤ size) × (n ≤ 18) × Val (10 ^ 18) v
+Room c size (write.Show a n v) = (a + n ≤ size) × Val (10 ^ 18) v
+Room c size (write.Move a n from k) = (a + n ≤ size) × (from + k ≤ size)
+Room c size (write.Literal a n place k) = (a + n ≤ size) × (place + k ≤ length (c .literals))
+Room c size (write.Clear a n decimal) = a + n ≤ size
+Room c size (write.Case a n up) = a + n ≤ size
+
+-- ---- turns
+
+abbrev pub turn : Write → Flow → Turn
+turn w f = record { write = w; flow = f }
+
+-- "A statement that ends in a run error has changed nothing."
+abbrev pub failed : Fault → Turn
+failed e = turn write.Nothing (flow.Bad e)
+
+-- A store, and on to the next statement.
+abbrev pub stores : Write → Turn
+stores w = turn w flow.Next
+
+abbrev pub goes : Flow → Turn
+goes f = turn write.Nothing f
+
+-- ---- SET
+
+-- A number moves to n bytes at a: "Number to decimal", "Number to alpha".
+abbrev pub moveNumber : Bool → ℕ → ℕ → ℤ → Turn
+moveNumber decimal a n v = cond decimal (stores (write.Number a n v)) (stores (write.Show a n v))
+
+abbrev pub moveNum : Bool → ℕ → ℕ → Num → Turn
+moveNum decimal a n (Value v) = moveNumber decimal a n v
+moveNum decimal a n (Failed e) = failed e
+
+-- The source of a SET, once the place is found. "Alpha to decimal: .. The value then moves as a number."
+abbrev pub moveWorked : Code → List ℕ → Bool → ℕ → ℕ → Worked → Turn
+moveWorked c d decimal a n (worked.Number v) = moveNumber decimal a n v
+moveWorked c d decimal a n (worked.Place number b m) =
+    cond number (moveNum decimal a n (readAt c d b m))
+    (cond decimal (moveNum true a n (alphaOf (c .top) (take m (drop b d)))) (stores (write.Move a n b m)))
+moveWorked c d decimal a n (worked.Text p l) =
+    cond decimal (moveNum true a n (alphaOf (c .top) (take l (drop p (c .literals))))) (stores (write.Literal a n p l))
+moveWorked c d decimal a n (worked.Failed e) = failed e
+
+-- ---- the other stores
+
+-- What is done at a place that was found.
+abbrev pub onPlace : Worked → (Bool → ℕ → ℕ → Turn) → Turn
+onPlace (worked.Number v) k = failed fault.Malformed
+onPlace (worked.Place decimal a n) k = k decimal a n
+onPlace (worked.Text p l) k = failed fault.Malformed
+onPlace (worked.Failed e) k = failed e
+
+-- "CLEAR writes spaces to alpha, zeros to decimal."
+abbrev pub clearAt : Bool → ℕ → ℕ → Turn
+clearAt decimal a n = stores (write.Clear a n decimal)
+
+-- One more, or one less.
+abbrev pub counted : ℕ → Bool → Num → Num
+counted top true (Value v) = addOf top v (pos 1)
+counted top false (Value v) = subOf top v (pos 1)
+counted top true (Failed e) = Failed e
+counted top false (Failed e) = Failed e
+
+-- "INCR and DECR compute, then store as a number move." "An INCR or DECR place is read before the sum."
+abbrev pub countAt : Code → List ℕ → Bool → Bool → ℕ → ℕ → Turn
+countAt c d up decimal a n = cond decimal (moveNum true a n (counted (c .top) up (readAt c d a n))) (failed fault.Malformed)
+
+-- "5 UPCASE a; 6 LOCASE a (alpha places)"
+abbrev pub caseAt : Bool → Bool → ℕ → ℕ → Turn
+caseAt up decimal a n = cond decimal (failed fault.Malformed) (stores (write.Case a n up))
+
+-- ---- jumps
+
+abbrev pub onNumber : Num → (ℤ → Flow) → Turn
+onNumber (Value v) k = goes (k v)
+onNumber (Failed e) k = failed e
+
+-- "8 go to c if number b is zero"
+abbrev pub ifZero : ℕ → ℤ → Flow
+ifZero target v = cond (eqb (natAbs v) 0) (flow.Goto target) flow.Next
+
+-- "a value v from 1 to n goes on at i+v, any other at i+n+1"
+abbrev pub choose : ℕ → ℕ → ℤ → Flow
+choose i n (pos zero) = flow.Goto (i + n + 1)
+choose i n (pos (suc v)) = cond (leb (suc v) n) (flow.Goto (i + suc v)) (flow.Goto (i + n + 1))
+choose i n (negsuc v) = flow.Goto (i + n + 1)
+
+-- ---- statements, in the order of document 01
+
+unfoldable pub turnBy : Code → ℕ → List ℕ → Statement → Turn
+turnBy c i d (statement.Set a b) = onPlace (workedOf c d (c .items a)) (λ decimal x n. moveWorked c d decimal x n (workedOf c d (c .items b)))
+turnBy c i d (statement.Clear a) = onPlace (workedOf c d (c .items a)) clearAt
+turnBy c i d (statement.Incr a) = onPlace (workedOf c d (c .items a)) (countAt c d true)
+turnBy c i d (statement.Decr a) = onPlace (workedOf c d (c .items a)) (countAt c d false)
+turnBy c i d (statement.Upcase a) = onPlace (workedOf c d (c .items a)) (caseAt true)
+turnBy c i d (statement.Locase a) = onPlace (workedOf c d (c .items a)) (caseAt false)
+turnBy c i d (statement.Goto target) = goes (flow.Goto target)
+turnBy c i d (statement.IfZero b target) = onNumber (numberOf c d (workedOf c d (c .items b))) (ifZero target)
+turnBy c i d (statement.Call target) = goes (flow.Call target)
+turnBy c i d statement.Return = goes flow.Return
+turnBy c i d statement.Stop = goes flow.Stop
+turnBy c i d (statement.Computed n b) = onNumber (numberOf c d (workedOf c d (c .items b))) (choose i n)
+turnBy c i d statement.Bad = failed fault.Malformed
+
+unfoldable pub turnOf : Code → ℕ → List ℕ → Turn
+turnOf c i d = turnBy c i d (c .statement i)

@@ -1,0 +1,145 @@
+// The run: the resume state tested, and statements one after the other within an allowance.
+use rules::Fault;
+use rules_run::Flow;
+use rules_run::Outcome;
+use rules_run::State;
+use rules_run::Stop;
+use rules_unit::Parts;
+ghost use mathlib.Core.Path.{_≡_};
+ghost use lib.ListN.{length};
+ghost use Rattle.rules_unit.specs.declared.Checked.the-variants as checked;
+ghost use Rattle.rules_unit.specs.Decode.{codeOf};
+ghost use Rattle.rules_unit.specs.Checks.{checkOf};
+ghost use Rattle.rules_run.specs.States.{Sound, entryb, entriesb, soundb};
+ghost use Rattle.rules_run.specs.Runs.{Ran, runFrom};
+ghost use Rattle.runs.specs.Flows.{stuckBy};
+
+// ---- the resume state
+
+// Whether the return number x at the place i is one: 0 to n for an open call, and zero for none.
+fn entry_sound(n: u16, depth: u16, i: u16, x: u16) -> bool
+    ensures { λ r. ⌜ r ≡ entryb n depth i x ⌝ }
+{
+    if i < depth {
+        return x <= n;
+    }
+    x == 0
+}
+
+// Whether all return numbers are.
+fn entries_sound(n: u16, depth: u16, returns: [u16; 50]) -> bool
+    ensures { λ r. ⌜ r ≡ entriesb n depth 0 returns ⌝ }
+{
+    let mut i: u16 = 0;
+    while i < 50 {
+        let at = i as usize;
+        let x = returns[at];
+        if !entry_sound(n, depth, i, x) {
+            return false;
+        }
+        i += 1;
+    }
+    true
+}
+
+// Whether a resume state is sound for a unit of n statements.
+pub fn sound(n: u16, s: State) -> bool
+    ensures { λ r. ⌜ r ≡ soundb n s ⌝ }
+{
+    if n < s.at {
+        return false;
+    }
+    if 50 < s.depth {
+        return false;
+    }
+    let returns = s.returns;
+    entries_sound(n, s.depth, returns)
+}
+
+// ---- where a statement leads
+
+// What keeps a flow from being followed.
+pub enum Stuck {
+    No,
+    By(Fault),
+}
+
+// 24 for a CALL with 50 calls open, 25 for a RETURN with none open, and a statement's own error.
+fn stuck_by(depth: u16, flow: Flow) -> Stuck
+    ensures { λ r. ⌜ r ≡ stuckBy depth flow ⌝ }
+{
+    match flow {
+        Flow::Next => Stuck::No,
+        Flow::Goto(i) => Stuck::No,
+        Flow::Call(i) => {
+            if depth < 50 {
+                return Stuck::No;
+            }
+            Stuck::By(Fault::CallsFull)
+        }
+        Flow::Return => {
+            if depth == 0 {
+                return Stuck::By(Fault::NoCall);
+            }
+            Stuck::No
+        }
+        Flow::Stop => Stuck::No,
+        Flow::Bad(e) => Stuck::By(e),
+    }
+}
+
+// ---- the run
+
+// What a call answers that ends in the state given.
+fn halt(stop: Stop, place: u16, count: u64, state: State) -> Outcome
+    ensures { λ r. ⌜ r ≡ record { stop = stop; place = place; count = count; state = state } ⌝ }
+{
+    Outcome {
+        stop: stop,
+        place: place,
+        count: count,
+        state: state,
+    }
+}
+
+// Runs a unit that passed its check, from a sound state, over data of its length: statements one after the other until the end is
+// reached, a statement ends in an error or the allowance is spent. An error leaves the data and the state as they were before its
+// statement, which isn't counted.
+pub fn turns(unit: &[u8], parts: Parts, bytes: &mut [u8], state: State, allowance: u64) -> Outcome
+    requires { ⌜ checkOf (now unit) ≡ checked.Passed parts ⌝ }
+    requires { ⌜ length (now bytes) ≡ parts .d ⌝ }
+    requires { ⌜ Sound (parts .n) state ⌝ }
+    ensures { λ r. ⌜ _≡_ {A = Ran} (record { outcome = r; bytes = now (bytes .exit) }) (runFrom (codeOf (now (unit .entry)) parts) allowance state (now (bytes .entry)) 0) ⌝ }
+{
+    let n = parts.n;
+    let mut s = state;
+    let mut left = allowance;
+    let mut count: u64 = 0;
+    while s.at < n {
+        let at = s.at;
+        if left == 0 {
+            return halt(Stop::Spent, at, count, s);
+        }
+        let turn = machine::work(unit, parts, bytes, at);
+        let flow = turn.flow;
+        let kept = stuck_by(s.depth, flow);
+        match kept {
+            Stuck::By(f) => return halt(Stop::Failed(f), at, count, s),
+            Stuck::No => {}
+        }
+        let write = turn.write;
+        machine::store(unit, parts, bytes, write);
+        left -= 1;
+        count += 1;
+        match flow {
+            Flow::Next => s = s.advance(),
+            Flow::Goto(i) => s = s.goto(i),
+            Flow::Call(i) => s = s.call(i),
+            Flow::Return => s = s.back(),
+            Flow::Stop => s = s.goto(n),
+            // Never: it keeps the statement from being completed.
+            Flow::Bad(e) => {}
+        }
+    }
+    halt(Stop::End, n, count, s)
+}
