@@ -31,10 +31,10 @@ test:
 	tail -n 1 build/ci.log
 
 # What is not proved: everything stored is what the texts and the second interpreter make; the proved bench program writes what is
-# expected of each stored run; and the second interpreter's own tests.
+# expected of each stored run, in one call and in many; and the second interpreter's own tests.
 rim:
 	tools/store-units --check
-	tools/run-stored target/bin/bench
+	tools/run-stored target/bin/bench target/bin/pauses
 	UNITS=$(CURDIR)/build/units cargo test --release --offline --quiet --manifest-path second/Cargo.toml
 
 second:

@@ -85,6 +85,7 @@ pub fn full_length(parts: Parts) -> usize
 
 // ---- fields
 
+// The kind of a field, by its byte; Bad for a byte that is none.
 fn kind_of(b: u8) -> Kind
     ensures { λ r. ⌜ r ≡ kindOf b ⌝ }
 {
@@ -96,6 +97,7 @@ fn kind_of(b: u8) -> Kind
     }
 }
 
+// The field entry at an offset of the unit.
 fn field_at(u: &[u8], at: usize) -> Field
     requires { ⌜ at + 8 ≤ length (now u) ⌝ }
     ensures { λ r. ⌜ r ≡ fieldAt (now (u .entry)) at ⌝ }
@@ -121,6 +123,7 @@ pub fn field(unit: &[u8], parts: Parts, i: u16) -> Field
 
 // ---- expressions
 
+// The reference at an offset of the expressions s; Bad where their end cuts it.
 fn reference_at(s: &[u8], at: usize, how: How) -> Item
     requires { ⌜ at < length (now s) ⌝ }
     ensures { λ r. ⌜ r ≡ referenceAt (now (s .entry)) at how ⌝ }
@@ -135,6 +138,7 @@ fn reference_at(s: &[u8], at: usize, how: How) -> Item
     }
 }
 
+// The number literal at an offset of the expressions s; Bad where their end cuts it.
 fn number_at(s: &[u8], at: usize) -> Item
     requires { ⌜ at < length (now s) ⌝ }
     ensures { λ r. ⌜ r ≡ numberAt (now (s .entry)) at ⌝ }
@@ -149,6 +153,7 @@ fn number_at(s: &[u8], at: usize) -> Item
     }
 }
 
+// The alpha literal at an offset of the expressions s; Bad where their end cuts it.
 fn text_at(s: &[u8], at: usize) -> Item
     requires { ⌜ at < length (now s) ⌝ }
     ensures { λ r. ⌜ r ≡ textAt (now (s .entry)) at ⌝ }
@@ -222,6 +227,7 @@ pub fn width_of(item: Item) -> usize
 
 // ---- statements
 
+// The statement of a code and its three parts; Bad for a code that is none.
 fn statement_by(code: u8, a: u16, b: u16, c: u16) -> Statement
     ensures { λ r. ⌜ r ≡ statementBy code a b c ⌝ }
 {
@@ -251,6 +257,7 @@ fn statement_by(code: u8, a: u16, b: u16, c: u16) -> Statement
     }
 }
 
+// The statement at an offset of the unit.
 fn statement_at(u: &[u8], at: usize) -> Statement
     requires { ⌜ at + 8 ≤ length (now u) ⌝ }
     ensures { λ r. ⌜ r ≡ statementAt (now (u .entry)) at ⌝ }
@@ -292,6 +299,7 @@ fn unused_of(s: Statement, a: usize, b: usize, c: usize) -> usize
     }
 }
 
+// The zero byte and the unused parts of the statement at an offset, added up.
 fn unused_at(u: &[u8], at: usize) -> usize
     requires { ⌜ at + 8 ≤ length (now u) ⌝ }
     ensures { λ r. ⌜ r ≡ unusedAt (now (u .entry)) at ⌝ }

@@ -5,3 +5,5 @@ pub mod Units
 pub mod Settled
 pub mod Demand1
 pub mod Demand2
+pub mod Demand3
+pub mod Slips

@@ -7,7 +7,7 @@
 --   refusalNumber, refusalPlace    the table's number and place of a refusal
 -- Assumes nothing.
 use Prim.Native.Nat.{ℕ, zero, suc, _+_, _-_}
-use mathlib.Core.Bool.{Bool, true, false, cond, not}
+use mathlib.Core.Bool.{Bool, true, false, cond}
 use lib.Dec.{ltb, leb, eqb}
 use mathlib.Core.List.{List}
 use lib.ListN.{length, getD}

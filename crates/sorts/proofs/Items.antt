@@ -39,5 +39,6 @@ module _ (u : List ℕ) (p : Parts) (i : Item) where
   pub known-field : (h : How) (f : ℕ) → i ≡ item.Reference h f → itemb (codeOf u p) i ≡ true → f < p .f
   known-field h f e g = ltb-true f (p .f) (rw e at g)
 
-  pub reference-sort : (h : How) (f : ℕ) (r : Sort) → i ≡ item.Reference h f → r ≡ placeSort (isDecimal (codeOf u p .field f .kind)) → r ≡ sortOf (codeOf u p) i
+  pub reference-sort : (h : How) (f : ℕ) (r : Sort) → i ≡ item.Reference h f → r ≡ placeSort (isDecimal (codeOf u p .field f .kind))
+      → r ≡ sortOf (codeOf u p) i
   reference-sort h f r e q = rw e q

@@ -83,8 +83,9 @@ module _ (c : Code) (s : List ℕ) (at n : ℕ) (k z : Sort) (left : sortFrom c 
           pub turn-few : n < t → sort.Wrong ≡ z
           turn-few h = sym (rw (sym eg ∙ goes, sym eb ∙ good, lt-leb (takes i) n (omega arith)) at by)
 
-          pub turn-full : t ≤ n → 16 < n - t + 1 → sort.Wrong ≡ z
-          turn-full h l =
+          -- m is the bound that the code tests
+          pub turn-full : (m : ℕ) → t ≤ n → m < n - t + 1 → 16 ≤ m → sort.Wrong ≡ z
+          turn-full m h l g =
               sym (rw (sym eg ∙ goes, sym eb ∙ good, le-leb (takes i) n (omega arith), lt-leb (n - takes i + 1) 16 (omega arith)) at by)
 
           pub turn-on : (k′ : Sort) (w : ℕ) → t ≤ n → n - t + 1 ≤ 16 → k′ ≡ sortOf c i → w ≡ widthOf i

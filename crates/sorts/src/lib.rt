@@ -37,6 +37,7 @@ fn digits(s: &[u8]) -> bool
     true
 }
 
+// How many values an operator takes.
 fn op_takes(op: Op) -> u16
     ensures { λ r. ⌜ r ≡ opTakes op ⌝ }
 {
@@ -60,7 +61,7 @@ fn op_takes(op: Op) -> u16
     }
 }
 
-// How many bounds a reference takes.
+// How many values a reference takes, as its bounds.
 pub fn how_takes(how: How) -> u16
     ensures { λ r. ⌜ r ≡ howTakes how ⌝ }
 {
@@ -146,12 +147,14 @@ pub fn is_decimal(kind: Kind) -> bool
     }
 }
 
+// The sort of a place, by whether its field is decimal.
 fn place_sort(decimal: bool) -> Sort
     ensures { λ r. ⌜ r ≡ placeSort decimal ⌝ }
 {
     if decimal { Sort::Decimal } else { Sort::Alpha }
 }
 
+// The sort of a reference to the field i.
 fn field_sort(unit: &[u8], parts: Parts, i: u16) -> Sort
     requires { ⌜ Fills (now unit) parts ⌝ }
     requires { ⌜ i < parts .f ⌝ }
@@ -320,6 +323,7 @@ pub fn use_at(s: Statement, k: usize) -> Use
     Use::Nothing
 }
 
+// Whether the sort k is that of a place.
 fn suits_place(k: Sort) -> bool
     ensures { λ r. ⌜ r ≡ suits want.Place k ⌝ }
 {
@@ -332,6 +336,7 @@ fn suits_place(k: Sort) -> bool
     }
 }
 
+// Whether the sort k is that of a decimal place.
 fn suits_decimal_place(k: Sort) -> bool
     ensures { λ r. ⌜ r ≡ suits want.DecimalPlace k ⌝ }
 {
@@ -344,6 +349,7 @@ fn suits_decimal_place(k: Sort) -> bool
     }
 }
 
+// Whether the sort k is that of an alpha place.
 fn suits_alpha_place(k: Sort) -> bool
     ensures { λ r. ⌜ r ≡ suits want.AlphaPlace k ⌝ }
 {
@@ -356,6 +362,7 @@ fn suits_alpha_place(k: Sort) -> bool
     }
 }
 
+// Whether the sort k is that of a number or an alpha source.
 fn suits_source(k: Sort) -> bool
     ensures { λ r. ⌜ r ≡ suits want.Source k ⌝ }
 {
@@ -368,6 +375,7 @@ fn suits_source(k: Sort) -> bool
     }
 }
 
+// Whether the sort k is that of a number.
 fn suits_number(k: Sort) -> bool
     ensures { λ r. ⌜ r ≡ suits want.Number k ⌝ }
 {

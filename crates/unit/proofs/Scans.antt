@@ -1,9 +1,10 @@
 -- Laws of checks 4 and 5, as their code meets them: s is the statement that the code has read. Assumes nothing.
 use Prim.Native.Nat.{ℕ, _+_, _-_, _<_, _≤_}
 use native.Mathlib.Omega.{arith}
-use mathlib.Core.Path.{_≡_, sym, ap, _∙_}
-use mathlib.Core.Bool.{Bool, true, false, not}
+use mathlib.Core.Path.{_≡_, refl, sym, ap, _∙_}
+use mathlib.Core.Bool.{Bool, true, false, cond, not}
 use mathlib.Core.List.{List}
+use lib.Dec.{ltb}
 use native.Mathlib.Nat.{add-sub-cancel-left}
 use borrow.Author.Tests.{lt-ltb, le-ltb, eq-eqb, ne-eqb, not-true, not-false}
 use Rattle.rules_unit.specs.declared.Parts.{Parts}
@@ -40,16 +41,25 @@ gotos-start c i n = ap (λ (k : ℕ). gotosb c k i) (add-sub-cancel-left i n)
 
 -- ---- one statement
 
+pub table-many : (c : Code) (i n : ℕ) → 255 < n → false ≡ tableb c i n
+unfolding tableb
+table-many c i n h = rw (le-ltb n 1 (omega arith), lt-ltb 255 n h)
+
 module _ (u : List ℕ) (p : Parts) (i : ℕ) where
   -- a count, where the code compares a, b and m for N, i and n
-  module _ (n a b m : ℕ) (least : 1 ≤ n) (most : n ≤ 255) (e₁ : a ≡ p .n) (e₂ : b ≡ i) (e₃ : m ≡ n) where
+  module _ (n a b m : ℕ) (e₁ : a ≡ p .n) (e₂ : b ≡ i) (e₃ : m ≡ n) where
     pub table-past : a ≤ b + m → false ≡ tableb (codeOf u p) i n
     unfolding tableb
-    table-past h = rw (le-ltb n 1 least, le-ltb 255 n most, ← e₁, ← e₂, ← e₃, le-ltb (b + m) a h)
+    table-past h = rw (le-ltb (i + n) (p .n) (omega arith)) (by (ltb n 1) (ltb 255 n))
+      where
+        by : (x y : Bool) → false ≡ cond x false (cond y false false)
+        by true y = refl
+        by false true = refl
+        by false false = refl
 
-    pub table-in : (z : Bool) → b + m < a → z ≡ gotosb (codeOf u p) n (i + 1) → z ≡ tableb (codeOf u p) i n
+    pub table-in : (z : Bool) → 1 ≤ n → n ≤ 255 → b + m < a → z ≡ gotosb (codeOf u p) n (i + 1) → z ≡ tableb (codeOf u p) i n
     unfolding tableb
-    table-in z h w = rw (le-ltb n 1 least, le-ltb 255 n most, lt-ltb (i + n) (p .n) (omega arith)) w
+    table-in z least most h w = rw (le-ltb n 1 least, le-ltb 255 n most, lt-ltb (i + n) (p .n) (omega arith)) w
 
   pub form-as : (s t : Statement) (z : Bool) → s ≡ t → z ≡ formb (codeOf u p) i t → z ≡ formb (codeOf u p) i s
   form-as s t z e w = rw e w

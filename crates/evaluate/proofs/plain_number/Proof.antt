@@ -38,7 +38,7 @@ returns : tie.Need-returns Inv-loop μ-loop
 returns c = search plain-low depth 3
 
 returns-2 : tie.Need-returns-2 Inv-loop μ-loop
-returns-2 c = search plain-high depth 3
+returns-2 c = let h : 57 < c .before .before .wide .result = omega arith in search plain-high depth 3
 
 mul-acc : tie.Need-mul-acc Inv-loop μ-loop
 mul-acc c = omega (arith, digits 17 (c .before .before .before .before .before) (omega arith))

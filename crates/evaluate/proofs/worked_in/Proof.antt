@@ -6,7 +6,7 @@ use borrow.Author.Needs.{needs}
 use mathlib.Core.Path.{_≡_}
 use mathlib.Core.Logic.{⊎-elim}
 use mathlib.Core.List.{List}
-use Prim.Native.Nat.{ℕ, _+_, _-_, _^_}
+use Prim.Native.Nat.{ℕ, _+_, _-_, _^_, _≤_}
 use native.Mathlib.Omega.{arith}
 use lib.IntN.{ℤ}
 use lib.ListN.{length}
@@ -163,7 +163,11 @@ returns-5 : tie.Need-returns-5 Inv-loop μ-loop
 returns-5 c = let g = onward (c .before .before .before) in search turn-few depth 3
 
 returns-6 : tie.Need-returns-6 Inv-loop μ-loop
-returns-6 c = let g = onward (c .before .before .before .before) in search turn-full depth 3
+returns-6 c =
+    let j = c .before .before .before .before in
+    let g = onward j in
+    let h : 16 ≤ turn-of j .loop .n - c .before .before .long .result = omega arith in
+    search turn-full depth 3
 
 mul-x : tie.Need-mul-x Inv-loop μ-loop
 mul-x c = search needs

@@ -1,9 +1,12 @@
 -- `unit::table_good` meets its contract: each test picks its arm of `tableb`, and a count that stays inside the unit leaves the statements behind it to `gotos`.
 -- Assumes nothing.
+use native.Mathlib.Omega.{arith}
+use denote.Ref.{now}
 use borrow.Author.Needs.{needs}
 use Rattle.rules.proofs.Walk.{walk}
+use Rattle.rules_unit.specs.Decode.{codeOf}
 use Rattle.rules_unit.specs.Checks.{tableb}
-use Rattle.unit.proofs.Scans.{table-past, table-in}
+use Rattle.unit.proofs.Scans.{table-many, table-past, table-in}
 use Rattle.unit.proofs.table_good.Statement.{statement}
 use Rattle.unit.proofs.table_good.Tie as tie
 
@@ -12,8 +15,9 @@ unfolding tableb
 returns c = search walk depth 5
 
 returns-2 : tie.Need-returns-2
-unfolding tableb
-returns-2 c = search walk depth 5
+returns-2 c =
+    let a = c .before .before .before .args in
+    table-many (codeOf (now (a .unit)) (a .parts)) (a .i) (a .n) (omega arith)
 
 long-requires : tie.Need-long-requires
 long-requires c κs = search needs

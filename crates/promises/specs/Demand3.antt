@@ -1,0 +1,94 @@
+-- Demand 3 of the owner's letter.
+--
+-- "The fence check says yes to a sound unit exactly when the fence rules in the papers hold for it. Take a unit with a yes, a data buffer of its size
+-- whose decimal elements are all valid, a sound resume state and any allowance of statements. However that run stops, no byte outside the
+-- destinations written in the unit has changed, every decimal element is valid, no subscript error was given, and a bad digit can come only from
+-- moving alpha text to a decimal place."
+--
+-- `fenceOf u` is what the fence check answers for the unit u. A call of `dibol::run` on the unit u, the data d, the state s and the allowance m answers and
+-- leaves `runOf u d s m`: that is its contract. `partsOf u` are the lengths that the unit's trailer names, `codeOf u (partsOf u)` is the unit, decoded.
+--
+--   yes-exactly, no-exactly, refused-exactly    each answer of the fence check is given exactly when what it says is so
+--   no-breach-exactly, breach-of-no             a statement has no breach exactly when it keeps the rules; that of a no has one
+--   cannot-slip                                 what holds of every run of a unit with a yes, and its five parts in the letter's words
+-- Assumes nothing.
+use Prim.Native.Nat.{ℕ, _<_}
+use mathlib.Core.Path.{_≡_}
+use mathlib.Core.Logic.{_↔_}
+use mathlib.Core.List.{List}
+use lib.ListN.{length, getD}
+use Rattle.rules_unit.specs.declared.Refusal.{Refusal}
+use Rattle.rules_unit.specs.declared.Checked.the-variants as checked
+use Rattle.rules_unit.specs.Codes.{Code}
+use Rattle.rules_unit.specs.Decode.{partsOf, codeOf}
+use Rattle.rules_unit.specs.Checks.{checkOf}
+use Rattle.rules_unit.specs.Sound.{SoundUnit}
+use Rattle.rules_unit.proofs.Sound.{sound-passed}
+use Rattle.rules_run.specs.declared.State.{State}
+use Rattle.rules_run.specs.States.{Sound}
+use Rattle.rules_run.specs.Stops.{stopNumber}
+use Rattle.rules_run.specs.Runs.{runOf}
+use Rattle.rules_fence.specs.declared.Breach.the-variants as breach
+use Rattle.rules_fence.specs.declared.Verdict.the-variants.{Refused, Yes, No}
+use Rattle.rules_fence.specs.Fence.{StatementFenced, Fenced, Breaks}
+use Rattle.rules_fence.specs.Breaches.{fenceOf, breachIn}
+use Rattle.rules_fence.specs.Destinations.{Destination, AllValid, BadText}
+use Rattle.rules_fence.specs.Safety.{Safe}
+use Rattle.rules_fence.proofs.Verdicts.{fence-exactly, breach-in, breach-exactly, breach-named}
+use Rattle.rules_fence.proofs.Demand.{call-safe}
+
+-- The unit, decoded.
+abbrev pub decoded : List ℕ → Code
+decoded u = codeOf u (partsOf u)
+
+-- ---- the fence check
+
+module _ (u : List ℕ) where
+  -- "The fence check says yes to a sound unit exactly when the fence rules in the papers hold for it."
+  pub yes-exactly : (fenceOf u ≡ Yes) ↔ SoundUnit u (partsOf u) × Fenced (decoded u)
+  yes-exactly = fence-exactly u Yes
+
+  -- "no with the first statement that breaks a rule"
+  pub no-exactly : (i : ℕ) → (fenceOf u ≡ No i) ↔ SoundUnit u (partsOf u) × Breaks (decoded u) i
+  no-exactly i = fence-exactly u (No i)
+
+  -- "a refusal (1 to 5) with its place": the one that the check of the unit gives
+  pub refused-exactly : (r : Refusal) → (fenceOf u ≡ Refused r) ↔ (checkOf u ≡ checked.Refused r)
+  refused-exactly r = fence-exactly u (Refused r)
+
+  -- The breach of a statement of a sound unit.
+  pub no-breach-exactly : SoundUnit u (partsOf u) → (i : ℕ) → i < partsOf u .n → (breachIn u i ≡ breach.None) ↔ StatementFenced (decoded u) (decoded u .statement i)
+  no-breach-exactly t i h = rw (breach-in u (partsOf u) i (sound-passed u (partsOf u) t) h) (breach-exactly (decoded u) (t .code) i h)
+
+  pub breach-of-no : (i : ℕ) → fenceOf u ≡ No i → breachIn u i ≡ breach.None → ⊥
+  breach-of-no = breach-named u
+
+-- ---- a unit with a yes
+
+-- "Take a unit with a yes, a data buffer of its size whose decimal elements are all valid, a sound resume state and any allowance of statements."
+module _ (u : List ℕ) (yes : fenceOf u ≡ Yes) (d : List ℕ) (size : length d ≡ partsOf u .d) (valid : AllValid (decoded u) d) (s : State)
+    (sound : Sound (partsOf u .n) s) (m : ℕ) where
+  -- "However that run stops"
+  pub cannot-slip : Safe (decoded u) d (runOf u d s m)
+  cannot-slip = call-safe u yes d size valid s sound m
+
+  -- "no byte outside the destinations written in the unit has changed"
+  pub nothing-outside : (b : ℕ) → (Destination (decoded u) b → ⊥) → getD (runOf u d s m .bytes) b 0 ≡ getD d b 0
+  nothing-outside = cannot-slip .outside
+
+  pub no-byte-more : length (runOf u d s m .bytes) ≡ length d
+  no-byte-more = cannot-slip .length-kept
+
+  -- "every decimal element is valid"
+  pub decimals-valid : AllValid (decoded u) (runOf u d s m .bytes)
+  decimals-valid = cannot-slip .valid
+
+  -- "no subscript error was given"
+  pub no-subscript-error : stopNumber (runOf u d s m .outcome .stop) ≡ 21 → ⊥
+  no-subscript-error = cannot-slip .no-21
+
+  -- "a bad digit can come only from moving alpha text to a decimal place": the statement that is named is a SET of a decimal place from an alpha source,
+  -- and it is that text which is no number
+  pub bad-digit-only : stopNumber (runOf u d s m .outcome .stop) ≡ 22
+      → (runOf u d s m .outcome .place < partsOf u .n) × BadText (decoded u) (runOf u d s m .bytes) (decoded u .statement (runOf u d s m .outcome .place))
+  bad-digit-only = cannot-slip .only-22

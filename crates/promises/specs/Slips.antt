@@ -1,0 +1,111 @@
+-- The slips of the owner's letter, and what the fence check says of them.
+--
+-- "Subscripts that run one past a seat table." "Upper-casing a whole record, too: the sign of a negative fare is kept in a lower-case letter, and a
+-- refund turns into a field that no sum can read." And of document 01: "Storing a negative number in a substring that stops mid-field, leaving a
+-- sign letter inside".
+--
+-- Each is a small unit in its bytes. The run does what the manual says, slip included; the fence check says no, names the statement and its rule; and the
+-- same unit without the slip gets a yes.
+--
+--   seats figures    a seat table of three and the name next door; the second statement books SEATS(the second figure)
+--   fares place      a negative fare and a name, with a record over both; the statement upper-cases the place given
+--   refund figures   a fare of four digits; the statement stores -5 in FARE(the first figure,the second)
+-- Assumes nothing.
+use mathlib.Core.Path.{_≡_, refl}
+use mathlib.Core.Bool.{true, false}
+use mathlib.Core.List.{List, [], _∷_, _++_}
+use Prim.Native.Nat.{ℕ}
+use Prim.Native.String as string
+use lib.ListN.{take}
+use Rattle.rules.specs.Values.{validb, validFrom}
+use Rattle.rules.specs.Moves.{placed, fitted}
+use Rattle.rules_unit.specs.Decode.{partsOf, kindOf, fieldAt, referenceAt, numberAt, textAt, itemBy, itemAt, itemsIn, itemsAt, statementBy, statementAt, unusedAt}
+use Rattle.rules_unit.specs.Expressions.{digitsb, numberb, textb, sortFrom, sortAt, usesb}
+use Rattle.rules_unit.specs.Checks.{filledb, rangesb, entryb, goodFields, shapeb, foundOf, statementsFrom, partsCheck, checkOf}
+use Rattle.rules_run.specs.Spans.{within, elementSpan, rangeSpan, spanIn}
+use Rattle.rules_run.specs.Evaluation.{calc, digitsFrom, plainNumber, literalNumber, stepBy, placeBy, place, lastOf, workedFrom, workedOf}
+use Rattle.rules_run.specs.States.{entriesb, soundb, started}
+use Rattle.rules_run.specs.Turns.{stored, applied, turnBy, turnOf}
+use Rattle.rules_run.specs.Runs.{movedBy, runFrom, runChecked, runOf}
+use Rattle.rules_fence.specs.declared.Verdict.the-variants.{Yes, No}
+use Rattle.rules_fence.specs.Bounds.{fixedSpan}
+use Rattle.rules_fence.specs.Breaches.{elementBreach, apartFrom, alphaBreach, referenceBreach, breachFrom, usesBreach, breachOf, verdictFrom, fenceOf, breachNumber, breachIn}
+use Rattle.promises.specs.Rows.{limit, base, bytes}
+
+-- SEATS is A2, three times; NAME is A4. Expressions at 0: SEATS(first), at 8: SEATS(second), at 16: the text.
+abbrev pub seats : string.String → List ℕ
+seats figures =
+    bytes "A1B1C1PAUL"
+    ++ ((0 ∷ 0 ∷ 0 ∷ 0 ∷ 0 ∷ 2 ∷ 0 ∷ 3 ∷ 0 ∷ 0 ∷ 0 ∷ 6 ∷ 0 ∷ 4 ∷ 0 ∷ 1 ∷ [])
+    ++ ((1 ∷ 0 ∷ 0 ∷ 1 ∷ 3 ∷ 0 ∷ 0 ∷ 0 ∷ 1 ∷ 0 ∷ 1 ∷ 1 ∷ 3 ∷ 0 ∷ 0 ∷ 0 ∷ 6 ∷ 0 ∷ 2 ∷ 0 ∷ 2 ∷ 0 ∷ [])
+    ++ (bytes figures
+    ++ (bytes "ZZ"
+    ++ ((1 ∷ 0 ∷ 0 ∷ 0 ∷ 0 ∷ 16 ∷ 0 ∷ 0 ∷ 1 ∷ 0 ∷ 0 ∷ 8 ∷ 0 ∷ 16 ∷ 0 ∷ 0 ∷ [])
+    ++ (0 ∷ 10 ∷ 0 ∷ 2 ∷ 0 ∷ 22 ∷ 0 ∷ 4 ∷ 0 ∷ 2 ∷ 0x44 ∷ 0x42 ∷ []))))))
+
+-- FARE is D3, NAME is A3, and the record covers both. Expressions at 0: the record, at 4: NAME.
+abbrev pub fares : ℕ → List ℕ
+fares place =
+    bytes "12smeg"
+    ++ ((1 ∷ 0 ∷ 0 ∷ 0 ∷ 0 ∷ 3 ∷ 0 ∷ 1 ∷ 0 ∷ 0 ∷ 0 ∷ 3 ∷ 0 ∷ 3 ∷ 0 ∷ 1 ∷ 2 ∷ 0 ∷ 0 ∷ 0 ∷ 0 ∷ 6 ∷ 0 ∷ 1 ∷ [])
+    ++ ((2 ∷ 0 ∷ 2 ∷ 0 ∷ 2 ∷ 0 ∷ 1 ∷ 0 ∷ [])
+    ++ ((5 ∷ 0 ∷ 0 ∷ place ∷ 0 ∷ 0 ∷ 0 ∷ 0 ∷ [])
+    ++ (0 ∷ 6 ∷ 0 ∷ 3 ∷ 0 ∷ 8 ∷ 0 ∷ 0 ∷ 0 ∷ 1 ∷ 0x44 ∷ 0x42 ∷ []))))
+
+-- FARE is D4. Expressions at 0: FARE(first,second), at 12: 5, negated.
+abbrev pub refund : string.String → List ℕ
+refund figures =
+    bytes "0000"
+    ++ ((1 ∷ 0 ∷ 0 ∷ 0 ∷ 0 ∷ 4 ∷ 0 ∷ 1 ∷ [])
+    ++ ((1 ∷ 0 ∷ 0 ∷ 1 ∷ 1 ∷ 0 ∷ 1 ∷ 1 ∷ 4 ∷ 0 ∷ 0 ∷ 0 ∷ 1 ∷ 0 ∷ 2 ∷ 1 ∷ 0x15 ∷ 0 ∷ [])
+    ++ (bytes figures
+    ++ (bytes "5"
+    ++ ((1 ∷ 0 ∷ 0 ∷ 0 ∷ 0 ∷ 12 ∷ 0 ∷ 0 ∷ [])
+    ++ (0 ∷ 4 ∷ 0 ∷ 1 ∷ 0 ∷ 18 ∷ 0 ∷ 3 ∷ 0 ∷ 1 ∷ 0x44 ∷ 0x42 ∷ []))))))
+
+-- The n bytes of data that a run from the unit's image leaves.
+abbrev pub leaves : ℕ → List ℕ → List ℕ
+leaves n u = runOf u (take n u) started 100 .bytes
+
+pub record Slips : Type 0 where
+  -- The second booking lands on the name next door; the statement 1 leaves its field.
+  pub past-table : fenceOf (seats "34") ≡ No 1
+  pub past-table-rule : breachNumber (breachIn (seats "34") 1) ≡ 3
+  pub past-table-run : leaves 10 (seats "34") ≡ bytes "A1B1ZZZZUL"
+  pub in-table : fenceOf (seats "33") ≡ Yes
+  -- The fare -123 is no decimal any more; the statement 0 is an alpha destination on a decimal field.
+  pub whole-record : fenceOf (fares 0) ≡ No 0
+  pub whole-record-rule : breachNumber (breachIn (fares 0) 0) ≡ 6
+  pub whole-record-run : leaves 6 (fares 0) ≡ bytes "12SMEG"
+  pub whole-record-fare : validb limit base (take 3 (leaves 6 (fares 0))) ≡ false
+  pub name-alone : fenceOf (fares 4) ≡ Yes
+  -- A sign letter stands inside the fare; the statement 0 stops mid-element.
+  pub mid-field : fenceOf (refund "12") ≡ No 0
+  pub mid-field-rule : breachNumber (breachIn (refund "12") 0) ≡ 5
+  pub mid-field-run : leaves 4 (refund "12") ≡ bytes "0u00"
+  pub mid-field-fare : validb limit base (leaves 4 (refund "12")) ≡ false
+  pub field-end : fenceOf (refund "34") ≡ Yes
+  pub field-end-run : leaves 4 (refund "34") ≡ bytes "000u"
+  pub field-end-fare : validb limit base (leaves 4 (refund "34")) ≡ true
+
+pub slips : Slips
+unfolding validFrom validb placed fitted partsOf kindOf fieldAt referenceAt numberAt textAt itemBy itemAt itemsIn itemsAt statementBy statementAt unusedAt digitsb numberb textb sortFrom sortAt usesb filledb rangesb entryb goodFields shapeb foundOf statementsFrom partsCheck checkOf within elementSpan rangeSpan spanIn calc digitsFrom plainNumber literalNumber stepBy placeBy place lastOf workedFrom workedOf entriesb soundb stored applied turnBy turnOf movedBy runFrom runChecked runOf fixedSpan elementBreach apartFrom alphaBreach referenceBreach breachFrom usesBreach breachOf verdictFrom fenceOf breachIn
+slips =
+    record {
+      past-table = refl;
+      past-table-rule = refl;
+      past-table-run = refl;
+      in-table = refl;
+      whole-record = refl;
+      whole-record-rule = refl;
+      whole-record-run = refl;
+      whole-record-fare = refl;
+      name-alone = refl;
+      mid-field = refl;
+      mid-field-rule = refl;
+      mid-field-run = refl;
+      mid-field-fare = refl;
+      field-end = refl;
+      field-end-run = refl;
+      field-end-fare = refl;
+    }

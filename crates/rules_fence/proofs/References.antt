@@ -1,0 +1,63 @@
+-- A fenced reference that is read (document 01, "Fence rules"): over valid data it gives neither 21 nor 22.
+-- Assumes nothing.
+use Prim.Native.Nat.{ℕ, _<_}
+use mathlib.Core.Path.{_≡_, refl, sym}
+use mathlib.Core.Bool.{Bool, true, false, cond}
+use mathlib.Core.List.{List, [], _∷_}
+use lib.Dec.{ltb}
+use lib.IntN.{ℤ, pos}
+use lib.ListN.{length}
+use borrow.Author.Tests.{ltb-true}
+use Rattle.rules.specs.declared.Fault.the-variants as fault
+use Rattle.rules.specs.declared.Num.the-variants.{Failed}
+use Rattle.rules_unit.specs.declared.How.{How}
+use Rattle.rules_unit.specs.declared.How.the-variants as how
+use Rattle.rules_unit.specs.declared.Item.the-variants as item
+use Rattle.rules_unit.specs.Codes.{Code, decimalb}
+use Rattle.rules_unit.specs.Expressions.{howTakes}
+use Rattle.rules_unit.specs.Sound.{SoundCode}
+use Rattle.rules_run.specs.declared.Span.{Span}
+use Rattle.rules_run.specs.declared.Span.the-variants.{At, Outside}
+use Rattle.rules_run.specs.declared.Worked.{Worked}
+use Rattle.rules_run.specs.Spans.{spanIn}
+use Rattle.rules_run.specs.Evaluation.{readSpan, reference, apply, stepBy, onHeld}
+use Rattle.rules_run.proofs.Windows.{span-some}
+use Rattle.rules_fence.specs.declared.Seen.{Seen}
+use Rattle.rules_fence.specs.Bounds.{fixedSpan}
+use Rattle.rules_fence.specs.Fence.{RefFenced}
+use Rattle.rules_fence.specs.Destinations.{AllValid}
+use Rattle.rules_fence.proofs.Elements.{span-reads}
+use Rattle.rules_fence.proofs.Mild.{mildNum, mild-value, Mild, on-room}
+use Rattle.rules_fence.proofs.Places.{Held, fixed-whole, fixed-element, fixed-range, fixed-length}
+
+module _ (c : Code) (s : SoundCode c) (d : List ℕ) (e : length d ≡ c .size) (v : AllValid c d) (f : ℕ) where
+  ref-mild : (h : How) (x y : ℤ) (span : Span) → span ≡ spanIn 0 (length d) (c .field f) h x y → RefFenced c false f span → mildNum false (reference c d h f x y) ≡ true
+  unfolding reference
+  ref-mild h x y span q r = by (ltb f (c .fields)) (decimalb c f) refl refl
+    where
+      read : f < c .fields → decimalb c f ≡ true → (span : Span) → span ≡ spanIn 0 (length d) (c .field f) h x y → RefFenced c false f span → mildNum false (readSpan c d span) ≡ true
+      read k t (At a n) q r = mild-value false (span-reads c s d e v k t (span-some 0 (length d) (c .field f) h x y (s .entries f k .own .some) (sym q)) r)
+      read k t Outside q r = absurd r
+
+      by : (t u : Bool) → ltb f (c .fields) ≡ t → decimalb c f ≡ u
+          → mildNum false (cond t (cond u (readSpan c d (spanIn 0 (length d) (c .field f) h x y)) (Failed fault.Malformed)) (Failed fault.Malformed)) ≡ true
+      by true true p o = rw (← q) (read (ltb-true f (c .fields) p) o span q r)
+      by true false p o = refl
+      by false u p o = refl
+
+  pub ref-step : (P : Worked → Type 0) → Mild P → (h : How) (b : Seen) (st : List ℤ) (k : List ℤ → Worked) → RefFenced c false f (fixedSpan c h f b) → Held b st
+      → ((st′ : List ℤ) → P (k st′)) → P (onHeld (stepBy (howTakes h) (apply c d (item.Reference h f)) st) k)
+  unfolding stepBy
+  ref-step P w how.Whole b st k r t g =
+      on-room P w st (reference c d how.Whole f (pos 0) (pos 0)) k (ref-mild how.Whole (pos 0) (pos 0) (fixedSpan c how.Whole f b) (fixed-whole c s d e f b) r) (λ z q. g (z ∷ st))
+  ref-step P w how.Element b [] k r t g = w fault.Malformed refl
+  ref-step P w how.Element b (x ∷ st) k r t g =
+      on-room P w st (reference c d how.Element f x (pos 0)) k (ref-mild how.Element x (pos 0) (fixedSpan c how.Element f b) (fixed-element c s d e false f b x st r t) r) (λ z q. g (z ∷ st))
+  ref-step P w how.Range b [] k r t g = w fault.Malformed refl
+  ref-step P w how.Range b (y ∷ []) k r t g = w fault.Malformed refl
+  ref-step P w how.Range b (y ∷ (x ∷ st)) k r t g =
+      on-room P w st (reference c d how.Range f x y) k (ref-mild how.Range x y (fixedSpan c how.Range f b) (fixed-range c s d e false f b y x st r t) r) (λ z q. g (z ∷ st))
+  ref-step P w how.Length b [] k r t g = w fault.Malformed refl
+  ref-step P w how.Length b (y ∷ []) k r t g = w fault.Malformed refl
+  ref-step P w how.Length b (y ∷ (x ∷ st)) k r t g =
+      on-room P w st (reference c d how.Length f x y) k (ref-mild how.Length x y (fixedSpan c how.Length f b) (fixed-length c s d e false f b y x st r t) r) (λ z q. g (z ∷ st))

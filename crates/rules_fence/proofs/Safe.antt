@@ -1,0 +1,129 @@
+-- A run of a fenced unit over valid data (the owner's letter, demand 3): however it stops, no byte outside the destinations has changed, every
+-- decimal element is valid, no 21 was given, and 22 only by a statement that moves alpha text to a decimal place.
+-- Assumes nothing.
+use Prim.Native.Nat.{ℕ, _<_}
+use native.Mathlib.Omega.{arith}
+use mathlib.Core.Path.{_≡_, refl, _∙_, subst}
+use mathlib.Core.Bool.{Bool, true, false, cond}
+use mathlib.Core.List.{List}
+use lib.Dec.{ltb, eqb}
+use lib.ListN.{length}
+use Rattle.rules.specs.declared.Fault.{Fault}
+use Rattle.rules.specs.declared.Fault.the-variants as fault
+use Rattle.rules.specs.Stops.{faultNumber}
+use Rattle.rules.specs.Values.{Limit, Letters, Top}
+use Rattle.rules_unit.specs.Codes.{Code}
+use Rattle.rules_unit.specs.Sound.{SoundCode}
+use Rattle.rules_run.specs.declared.Flow.{Flow}
+use Rattle.rules_run.specs.declared.Flow.the-variants as flow
+use Rattle.rules_run.specs.declared.State.{State}
+use Rattle.rules_run.specs.declared.Stop.{Stop}
+use Rattle.rules_run.specs.declared.Stop.the-variants as stop
+use Rattle.rules_run.specs.declared.Write.{Write}
+use Rattle.rules_run.specs.States.{called, returned}
+use Rattle.rules_run.specs.Stops.{stopNumber}
+use Rattle.rules_run.specs.Turns.{Room, turnOf}
+use Rattle.rules_run.specs.Runs.{Moved, to, stuck, movedBy, Ran, ended, runFrom}
+use Rattle.rules_run.proofs.Outside.{applied-length, applied-outside}
+use Rattle.rules_run.proofs.Room.{turn-room}
+use Rattle.rules_run.proofs.Steps.{dataAfter, every-run}
+use Rattle.rules_fence.specs.Fence.{Fenced}
+use Rattle.rules_fence.specs.Destinations.{Covers, Destination, AllValid, BadText}
+use Rattle.rules_fence.specs.Safety.{Safe}
+use Rattle.rules_fence.proofs.Aims.{aim-used, applied-valid, touches-covered}
+use Rattle.rules_fence.proofs.Mild.{MildFault}
+use Rattle.rules_fence.proofs.Moves.{MildFlow, TurnOk}
+use Rattle.rules_fence.proofs.Turns.{aimOf, turn-ok}
+
+-- ---- faults
+
+mild-21 : (M : Type 0) (x : Fault) → MildFault M x → faultNumber x ≡ 21 → ⊥
+mild-21 M fault.Malformed m q = omega arith
+mild-21 M fault.TooLong m q = omega arith
+mild-21 M fault.Outside m q = m
+mild-21 M fault.BadDigit m q = omega arith
+mild-21 M fault.ZeroDivisor m q = omega arith
+mild-21 M fault.CallsFull m q = omega arith
+mild-21 M fault.NoCall m q = omega arith
+mild-21 M fault.RoundCount m q = omega arith
+
+mild-22 : (M : Type 0) (x : Fault) → MildFault M x → faultNumber x ≡ 22 → M
+mild-22 M fault.Malformed m q = absurd (omega arith)
+mild-22 M fault.TooLong m q = absurd (omega arith)
+mild-22 M fault.Outside m q = absurd (omega arith)
+mild-22 M fault.BadDigit m q = m
+mild-22 M fault.ZeroDivisor m q = absurd (omega arith)
+mild-22 M fault.CallsFull m q = absurd (omega arith)
+mild-22 M fault.NoCall m q = absurd (omega arith)
+mild-22 M fault.RoundCount m q = absurd (omega arith)
+
+-- Where a mild flow leads.
+abbrev MovedOk : Type 0 → Moved → Type 0
+MovedOk M (to s) = Unit {0}
+MovedOk M (stuck x) = MildFault M x
+
+moved-either : (M : Type 0) (t : Bool) (x y : Moved) → MovedOk M x → MovedOk M y → MovedOk M (cond t x y)
+moved-either M true x y f g = f
+moved-either M false x y f g = g
+
+moved-ok : (n : ℕ) (s : State) (M : Type 0) (f : Flow) → MildFlow M f → MovedOk M (movedBy n s f)
+unfolding movedBy
+moved-ok n s M flow.Next m = tt
+moved-ok n s M (flow.Goto i) m = tt
+moved-ok n s M (flow.Call i) m = moved-either M (ltb (s .depth) 50) (to (called s i)) (stuck fault.CallsFull) tt tt
+moved-ok n s M flow.Return m = moved-either M (eqb (s .depth) 0) (stuck fault.NoCall) (to (returned s)) tt tt
+moved-ok n s M flow.Stop m = tt
+moved-ok n s M (flow.Bad x) m = m
+
+-- ---- the run
+
+module _ (c : Code) (s : SoundCode c) (limit : Limit (c .limit)) (letters : Letters (c .base)) (bound : Top (c .top)) (r : Fenced c) where
+  -- The data and all else stay where nothing is done.
+  stays : (d : List ℕ) (x : Stop) (t : State) (k : ℕ) → AllValid c d → (stopNumber x ≡ 21 → ⊥)
+      → (stopNumber x ≡ 22 → (ended (c .statements) x t k d .outcome .place < c .statements) × BadText c d (c .statement (ended (c .statements) x t k d .outcome .place)))
+      → Safe c d (ended (c .statements) x t k d)
+  stays d x t k v f g = record { length-kept = refl; outside = λ b o. refl; valid = v; no-21 = f; only-22 = g }
+
+  -- After a completed statement, what is safe from there on is safe from here on.
+  through : (d : List ℕ) (t : State) (x : Ran) → length d ≡ c .size → AllValid c d → t .at < c .statements
+      → (length (dataAfter c t d) ≡ c .size → AllValid c (dataAfter c t d) → Safe c (dataAfter c t d) x) → Safe c d x
+  through d t x e v h more =
+      record {
+        length-kept = next .length-kept ∙ len;
+        outside = λ b o. next .outside b o ∙ applied-outside c d w room b (λ z. o (aims-at b (touches-covered c s d e v (aimOf c (c .statement (t .at))) w room (ok .aimed) b z)));
+        valid = next .valid;
+        no-21 = next .no-21;
+        only-22 = next .only-22;
+      }
+    where
+      w : Write
+      w = turnOf c (t .at) d .write
+
+      room : Room c (length d) (turnOf c (t .at) d .write)
+      room = turn-room c d limit bound (t .at)
+
+      ok : TurnOk c d (aimOf c (c .statement (t .at))) (BadText c d (c .statement (t .at))) (turnOf c (t .at) d)
+      ok = turn-ok c s letters d e v (t .at) h (r .all (t .at) h)
+
+      len : length (dataAfter c t d) ≡ length d
+      len = applied-length c d (turnOf c (t .at) d .write) room
+
+      next : Safe c (dataAfter c t d) x
+      next = more (len ∙ e) (applied-valid c s d e v (aimOf c (c .statement (t .at))) (turnOf c (t .at) d .write) room (ok .aimed))
+
+      aims-at : (b : ℕ) → Covers (aimOf c (c .statement (t .at))) b → Destination c b
+      aims-at b z =
+          let u = aim-used c b (c .statement (t .at)) z in
+          record { statement-number = t .at; low = h; use-number = u .0; used = u .1; covers = u .2 }
+
+  pub run-safe : (m : ℕ) (t : State) (d : List ℕ) (k : ℕ) → length d ≡ c .size → AllValid c d → Safe c d (runFrom c m t d k)
+  run-safe =
+      every-run c (λ m t d k x. length d ≡ c .size → AllValid c d → Safe c d x)
+      (λ m t d k h e v. stays d stop.End t k v (λ q. omega arith) (λ q. absurd (omega arith)))
+      (λ t d k h e v. stays d stop.Spent t k v (λ q. omega arith) (λ q. absurd (omega arith)))
+      (λ m t d k f h q e v.
+      let ok = turn-ok c s letters d e v (t .at) h (r .all (t .at) h) in
+      let M = BadText c d (c .statement (t .at)) in
+      let mild : MildFault M f = subst (MovedOk M) q (moved-ok (c .statements) t M (turnOf c (t .at) d .flow) (ok .mild)) in
+      stays d (stop.Failed f) t k v (mild-21 M f mild) (λ z. (h, mild-22 M f mild z)))
+      (λ m t t′ d k x h q more e v. through d t x e v h more)

@@ -1,0 +1,6 @@
+pub mod Bounds
+pub mod Fence
+pub mod Breaches
+pub mod Destinations
+pub mod Safety
+pub mod Answers

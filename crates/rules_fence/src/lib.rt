@@ -1,0 +1,38 @@
+// The types of the fence: what a statement breaks, what the check answers. The rules themselves stand in specs/.
+use rules_unit::Refusal;
+
+// The first fence rule that a statement breaks.
+pub enum Breach {
+    // It breaks none.
+    None,
+    // A bound is no number literal that stands directly before, nor one followed by negate.
+    BoundNotLiteral,
+    // The bounds are ones that 21 is given for.
+    BoundsWrong,
+    // The span is not inside its field.
+    LeavesField,
+    // A decimal span is not inside one element.
+    OverElements,
+    // A decimal destination does not end at its element's last character.
+    StopsMidElement,
+    // An alpha destination shares a byte with a decimal field.
+    OnDecimal,
+}
+
+// What the fence check answers.
+pub enum Verdict {
+    // The unit is refused: 1 to 5.
+    Refused(Refusal),
+    // Every statement keeps the rules.
+    Yes,
+    // The first statement that breaks one.
+    No(u16),
+}
+
+// The bounds that stand directly before an item: none, one, or two at the least. The last is plain
+// where it is a literal that is not negated.
+pub enum Seen {
+    Nothing,
+    One { last: i64, plain: bool },
+    Two { first: i64, last: i64, plain: bool },
+}
