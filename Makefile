@@ -18,7 +18,7 @@ check:
 # The proved library against the second interpreter: instructions and time for each statement of a settlement.
 bench: second
 	@mkdir -p build
-	@command -v valgrind > /dev/null || apt-get install -y valgrind > build/apt.log
+	@command -v valgrind > /dev/null || { apt-get update && apt-get install -y valgrind; } > build/apt.log
 	@rt check bench > build/run.log || { tail -n 20 build/run.log; exit 1; }
 	@tools/measure target/bin/bench build/cargo/release/second
 

@@ -3,7 +3,7 @@
 use crate::check::check;
 use crate::decimal;
 use crate::expression::{is_closed_at, item_at, Form, Item};
-use crate::span::stretch;
+use crate::span::named;
 use crate::stop::Refusal;
 use crate::unit::{code, Field, Parts, Statement};
 use crate::work::SOUND;
@@ -28,9 +28,10 @@ pub enum Fence {
 pub enum Breach {
     /// A bound is neither a number literal nor one followed by negate, standing directly before.
     Bound = 1,
-    /// The bounds are ones that 21 is given for.
+    /// The bounds are ones that 21 is given for. It is also given where the span does not stay
+    /// inside the D bytes.
     Bounds = 2,
-    /// The span does not lie inside the field's size x count bytes.
+    /// The span lies inside the D bytes, but not inside the field's size x count bytes.
     Outside = 3,
     /// A decimal span does not lie in one element.
     Elements = 4,
@@ -170,17 +171,18 @@ fn reference_breach(
             None => return Some(Breach::Bound),
         }
     }
-    let Some(stretch) = stretch(form, values, field.size) else {
+    // "the bounds are ones that 21 isn't given for, and the span lies inside the field's size x
+    // count bytes": a span "must stay inside the D bytes. Otherwise 21."
+    let Some(span) = named(field, form, values, parts.image.len()) else {
         return Some(Breach::Bounds);
     };
-    if stretch.start < 0 || stretch.end > field.length() as i64 {
+    if span.start < field.offset || field.end() < span.end {
         return Some(Breach::Outside);
     }
-    let inside = stretch.start as usize..stretch.end as usize;
     if field.is_decimal() {
+        let inside = span.start - field.offset..span.end - field.offset;
         decimal_breach(field.size, inside, is_destination)
     } else if is_destination {
-        let span = field.offset + inside.start..field.offset + inside.end;
         shares_decimal(parts, span).then_some(Breach::OverDecimal)
     } else {
         None

@@ -13,8 +13,8 @@ use std::process::ExitCode;
 use std::str::FromStr;
 
 const USAGE: &str = "\
-usage: second check FILES..            what checks 1 to 5 say of each unit
-       second fence FILES..            what the fence check says of each unit
+usage: second check FILES..            the table that `boxlever check` writes
+       second fence FILES..            the same, in the form of the `;=` lines
        second breach FILE I            why statement I breaks the fence rules
        second literal FILE I           where the alpha literal of statement I stands
        second bench <FILE              the bench program

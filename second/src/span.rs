@@ -22,7 +22,7 @@ impl Span {
 
 /// The stretch that a reference names, counted from the field's first byte, wherever it may lie;
 /// or nothing if 21 is given for the bounds themselves. Unused bounds are not looked at.
-pub fn stretch(form: Form, bounds: [i64; 2], size: usize) -> Option<Range<i64>> {
+fn stretch(form: Form, bounds: [i64; 2], size: usize) -> Option<Range<i64>> {
     let size = size as i64;
     match (form, bounds) {
         (Form::Field, _) => Some(0..size),
@@ -42,23 +42,28 @@ pub fn stretch(form: Form, bounds: [i64; 2], size: usize) -> Option<Range<i64>> 
     }
 }
 
-/// The span of a reference in `length` bytes of data: 21 if it does not stay inside them, then 20
-/// if it is a decimal span of more than 18 characters.
-pub fn span(field: &Field, form: Form, bounds: [i64; 2], length: usize) -> Result<Span, Fault> {
-    let stretch = stretch(form, bounds, field.size).ok_or(Fault::Subscript)?;
+/// The bytes that a reference names in `length` bytes of data; or nothing if 21 is given, for the
+/// bounds themselves or because these bytes do not stay inside the data.
+pub fn named(field: &Field, form: Form, bounds: [i64; 2], length: usize) -> Option<Range<usize>> {
+    let stretch = stretch(form, bounds, field.size)?;
     let offset = field.offset as i64;
-    if stretch.start < -offset || stretch.end > length as i64 - offset {
-        return Err(Fault::Subscript);
-    }
-    let span = Span {
-        start: (offset + stretch.start) as usize,
-        end: (offset + stretch.end) as usize,
-        is_decimal: field.is_decimal(),
-    };
-    if span.is_decimal && span.end - span.start > DIGITS_MOST {
+    let is_inside = -offset <= stretch.start && stretch.end <= length as i64 - offset;
+    is_inside.then(|| (offset + stretch.start) as usize..(offset + stretch.end) as usize)
+}
+
+/// The span of a reference in `length` bytes of data: 21 if there is none, then 20 if it is a
+/// decimal span of more than 18 characters.
+pub fn span(field: &Field, form: Form, bounds: [i64; 2], length: usize) -> Result<Span, Fault> {
+    let Range { start, end } = named(field, form, bounds, length).ok_or(Fault::Subscript)?;
+    let is_decimal = field.is_decimal();
+    if is_decimal && end - start > DIGITS_MOST {
         return Err(Fault::Digits);
     }
-    Ok(span)
+    Ok(Span {
+        start,
+        end,
+        is_decimal,
+    })
 }
 
 #[cfg(test)]

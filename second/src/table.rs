@@ -1,27 +1,29 @@
 //! Tables: a row for each file and a last line with the sums.
 
-use second::{breach, check, fence, words, Fence, Refusal};
+use second::{breach, fence, words, Fence, Refusal};
 use std::ffi::OsStr;
 use std::fs;
 use std::io::{self, BufWriter, Write};
 use std::os::unix::ffi::OsStrExt;
 use std::path::Path;
 
-/// What checks 1 to 5 say of each file.
+/// What the fence check says of each file, as the owner's program writes it.
 pub fn check_files(files: &[&OsStr]) -> io::Result<()> {
-    table(files, &["passed", "refused"], |unit| match check(unit) {
-        Ok(_) => (0, "passed".to_string()),
-        Err(refusal) => (1, refused(refusal)),
-    })
+    fence_table(files, "no at")
 }
 
-/// What the fence check says of each file.
+/// What the fence check says of each file, as the texts of units tell it.
 pub fn fence_files(files: &[&OsStr]) -> io::Result<()> {
+    fence_table(files, "no")
+}
+
+/// The table of the fence check. `no` stands before the number of a breaking statement.
+fn fence_table(files: &[&OsStr], no: &str) -> io::Result<()> {
     table(files, &["yes", "no", "refused"], |unit| match fence(unit) {
         Fence::Yes => (0, "yes".to_string()),
         Fence::No(i) => {
             let words = breach(unit, i).map_or("", |breach| breach.words());
-            (1, format!("no {i}: {words}"))
+            (1, format!("{no} {i}: {words}"))
         }
         Fence::Refused(refusal) => (2, refused(refusal)),
     })

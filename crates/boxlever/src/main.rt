@@ -1,12 +1,14 @@
 // The owner's program. `boxlever check FILES..` writes a row for each unit, and a line of totals.
-use rules_unit::Checked;
+use rules_fence::Breach;
+use rules_fence::Verdict;
 use rules_unit::Refusal;
 ghost use Prim.Native.Nat.{_≤_};
 ghost use lib.ListN.{length};
 
-// How many units passed, were refused, and could not be read.
+// How many units the fence says yes and no of, are refused, and could not be read.
 struct Tally {
-    passed: u32,
+    yes: u32,
+    no: u32,
     refused: u32,
     unread: u32,
 }
@@ -70,31 +72,55 @@ fn say_name(path: &[u8]) {
     say(&path[at..end]);
 }
 
+// A fence rule that is broken, in words.
+fn say_breach(b: Breach) {
+    match b {
+        Breach::None => say(b"no rule is broken"),
+        Breach::BoundNotLiteral => say(b"a bound is not a literal"),
+        Breach::BoundsWrong => say(b"the bounds are wrong"),
+        Breach::LeavesField => say(b"a span leaves its field"),
+        Breach::OverElements => say(b"a decimal span is not in one element"),
+        Breach::StopsMidElement => say(b"a decimal destination ends inside its element"),
+        Breach::OnDecimal => say(b"an alpha destination shares a byte with a decimal field"),
+    }
+}
+
+fn say_no(unit: &[u8], i: u16) {
+    say(b"no at ");
+    say_number(i as u64);
+    say(b": ");
+    say_breach(dibol::breach(unit, i as usize));
+}
+
+// The answer of the fence check, and the tally with it.
+fn say_answer(unit: &[u8], t: Tally) -> Tally {
+    let mut next = t;
+    match dibol::fence(unit) {
+        Verdict::Yes => {
+            say(b"yes");
+            next.yes = one_more(t.yes);
+        }
+        Verdict::No(i) => {
+            say_no(unit, i);
+            next.no = one_more(t.no);
+        }
+        Verdict::Refused(r) => {
+            say_refusal(r);
+            next.refused = one_more(t.refused);
+        }
+    }
+    next
+}
+
 // The row of a unit that was read, and the tally with it.
 fn say_unit(path: &[u8], unit: &[u8], t: Tally) -> Tally {
     say_length(unit.len());
     say(b"  ");
     say_name(path);
     say(b" ");
-    match dibol::check(unit) {
-        Checked::Passed(p) => {
-            say(b"passed\n");
-            Tally {
-                passed: one_more(t.passed),
-                refused: t.refused,
-                unread: t.unread,
-            }
-        }
-        Checked::Refused(r) => {
-            say_refusal(r);
-            say(b"\n");
-            Tally {
-                passed: t.passed,
-                refused: one_more(t.refused),
-                unread: t.unread,
-            }
-        }
-    }
+    let next = say_answer(unit, t);
+    say(b"\n");
+    next
 }
 
 // One more, up to what is counted at all.
@@ -109,11 +135,9 @@ fn say_file(path: &[u8], t: Tally) -> Tally {
         say(b"     -  ");
         say_name(path);
         say(b" cannot be read\n");
-        return Tally {
-            passed: t.passed,
-            refused: t.refused,
-            unread: one_more(t.unread),
-        };
+        let mut next = t;
+        next.unread = one_more(t.unread);
+        return next;
     }
     let mut buf = io::large_buffer();
     let n = io::read_full(fd, &mut buf);
@@ -122,10 +146,12 @@ fn say_file(path: &[u8], t: Tally) -> Tally {
 }
 
 fn say_totals(t: Tally) {
-    say_number(t.passed as u64 + t.refused as u64);
+    say_number(t.yes as u64 + t.no as u64 + t.refused as u64);
     say(b" units: ");
-    say_number(t.passed as u64);
-    say(b" passed, ");
+    say_number(t.yes as u64);
+    say(b" yes, ");
+    say_number(t.no as u64);
+    say(b" no, ");
     say_number(t.refused as u64);
     say(b" refused");
     if 0 < t.unread {
@@ -146,7 +172,8 @@ fn say_argument(i: usize, t: Tally) -> Tally {
 // The rows of the files that the arguments from the second on name, and their totals.
 fn check_files(count: usize) {
     let mut t = Tally {
-        passed: 0,
+        yes: 0,
+        no: 0,
         refused: 0,
         unread: 0,
     };

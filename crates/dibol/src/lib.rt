@@ -1,4 +1,6 @@
 // The public face of Boxlever. A host lends a coded unit and a data buffer as slices of bytes; any bytes may be given, and every call answers.
+use rules_fence::Breach;
+use rules_fence::Verdict;
 use rules_run::Outcome;
 use rules_run::State;
 use rules_run::Stop;
@@ -9,6 +11,7 @@ ghost use Rattle.rules_unit.specs.Literals.{literalOf};
 ghost use Rattle.rules_run.specs.States.{started};
 ghost use Rattle.rules_run.specs.Stops.{stopNumber};
 ghost use Rattle.rules_run.specs.Runs.{Ran, runOf};
+ghost use Rattle.rules_fence.specs.Breaches.{fenceOf, breachIn};
 
 // Checks a unit by the rules 1 to 5 of document 01, in their order. The answer is Passed with the lengths of the unit's parts,
 // or Refused with the first rule that does not hold and its place: `refusal_number` and `refusal_place` give both as numbers.
@@ -17,6 +20,25 @@ pub fn check(unit: &[u8]) -> Checked
     ensures { λ r. ⌜ r ≡ checkOf (now (unit .entry)) ⌝ }
 {
     unit::check(unit)
+}
+
+// Checks a unit, and then holds each of its statements to the fence rules of document 01. The answer is Refused with what `check` refuses
+// the unit for, Yes where every statement keeps the rules, or No with the first statement that breaks one, counted from 0; `breach` tells
+// which rule that is. A run of a unit with a yes, over data whose decimal fields are all valid, never ends in 21, leaves them all valid,
+// and changes no byte but those of the unit's destinations. A unit with a no can still be run.
+pub fn fence(unit: &[u8]) -> Verdict
+    ensures { λ r. ⌜ r ≡ fenceOf (now (unit .entry)) ⌝ }
+{
+    fence::fence(unit)
+}
+
+// The fence rule that the statement i, counted from 0, breaks first, its expressions being read in the order in which a run works them
+// out and each from left to right. The answer is None where it breaks no rule, where the unit does not pass its check, and where i is
+// past the last statement; so a host asks `fence` first, and this for the reason of a no.
+pub fn breach(unit: &[u8], i: usize) -> Breach
+    ensures { λ r. ⌜ r ≡ breachIn (now (unit .entry)) i ⌝ }
+{
+    fence::breach(unit, i)
 }
 
 // The alpha literal of the statement i, counted from 0: the bytes of the unit itself that hold it, not a copy. It is empty unless the

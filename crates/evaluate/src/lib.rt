@@ -48,7 +48,7 @@ fn plain_number(s: &[u8]) -> Num
 }
 
 // A number literal's value.
-fn literal_number(unit: &[u8], parts: Parts, place: u16, len: u16) -> Num
+pub fn literal_number(unit: &[u8], parts: Parts, place: u16, len: u16) -> Num
     requires { ⌜ Fills (now unit) parts ⌝ }
     requires { ⌜ Dialect parts ⌝ }
     ensures { λ r. ⌜ r ≡ literalNumber (codeOf (now (unit .entry)) parts) place len ⌝ }
@@ -245,7 +245,7 @@ fn text_of(unit: &[u8], parts: Parts, place: u16, len: u16, n: usize) -> Worked
 }
 
 // Whether the expression ends at an offset: 00 stands there.
-fn ends(es: &[u8], at: usize) -> bool
+pub fn ends(es: &[u8], at: usize) -> bool
     ensures { λ r. ⌜ r ≡ cond (ltb at (length (now (es .entry)))) (eqb (getD (now (es .entry)) at 0) 0) false ⌝ }
 {
     if at < es.len() {

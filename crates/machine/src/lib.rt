@@ -24,7 +24,7 @@ ghost use Rattle.rules_run.specs.Turns.{stored, cased, cleared, applied, Room, 
 // ---- turns
 
 // A run error stores nothing.
-fn fails(e: Fault) -> Turn
+pub fn fails(e: Fault) -> Turn
     ensures { λ r. ⌜ r ≡ failed e ⌝ }
 {
     Turn {

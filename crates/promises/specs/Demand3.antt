@@ -11,12 +11,15 @@
 --   yes-exactly, no-exactly, refused-exactly    each answer of the fence check is given exactly when what it says is so
 --   no-breach-exactly, breach-of-no             a statement has no breach exactly when it keeps the rules; that of a no has one
 --   cannot-slip                                 what holds of every run of a unit with a yes, and its five parts in the letter's words
+--   says-yes-exactly, run-cannot-slip           both of the contracts themselves: of whatever `dibol::fence` and `dibol::run` are permitted to answer and leave
 -- Assumes nothing.
 use Prim.Native.Nat.{ℕ, _<_}
 use mathlib.Core.Path.{_≡_}
 use mathlib.Core.Logic.{_↔_}
 use mathlib.Core.List.{List}
 use lib.ListN.{length, getD}
+use denote.Ref.{now}
+use contract.Lifetimes
 use Rattle.rules_unit.specs.declared.Refusal.{Refusal}
 use Rattle.rules_unit.specs.declared.Checked.the-variants as checked
 use Rattle.rules_unit.specs.Codes.{Code}
@@ -25,10 +28,12 @@ use Rattle.rules_unit.specs.Checks.{checkOf}
 use Rattle.rules_unit.specs.Sound.{SoundUnit}
 use Rattle.rules_unit.proofs.Sound.{sound-passed}
 use Rattle.rules_run.specs.declared.State.{State}
+use Rattle.rules_run.specs.declared.Outcome.{Outcome}
 use Rattle.rules_run.specs.States.{Sound}
 use Rattle.rules_run.specs.Stops.{stopNumber}
 use Rattle.rules_run.specs.Runs.{runOf}
 use Rattle.rules_fence.specs.declared.Breach.the-variants as breach
+use Rattle.rules_fence.specs.declared.Verdict.{Verdict}
 use Rattle.rules_fence.specs.declared.Verdict.the-variants.{Refused, Yes, No}
 use Rattle.rules_fence.specs.Fence.{StatementFenced, Fenced, Breaks}
 use Rattle.rules_fence.specs.Breaches.{fenceOf, breachIn}
@@ -36,6 +41,8 @@ use Rattle.rules_fence.specs.Destinations.{Destination, AllValid, BadText}
 use Rattle.rules_fence.specs.Safety.{Safe}
 use Rattle.rules_fence.proofs.Verdicts.{fence-exactly, breach-in, breach-exactly, breach-named}
 use Rattle.rules_fence.proofs.Demand.{call-safe}
+use Rattle.dibol.proofs.fence.Reads as fence
+use Rattle.dibol.proofs.run.Reads as run
 
 -- The unit, decoded.
 abbrev pub decoded : List ℕ → Code
@@ -92,3 +99,19 @@ module _ (u : List ℕ) (yes : fenceOf u ≡ Yes) (d : List ℕ) (size : length 
   pub bad-digit-only : stopNumber (runOf u d s m .outcome .stop) ≡ 22
       → (runOf u d s m .outcome .place < partsOf u .n) × BadText (decoded u) (runOf u d s m .bytes) (decoded u .statement (runOf u d s m .outcome .place))
   bad-digit-only = cannot-slip .only-22
+
+-- ---- the functions themselves
+
+-- `Post` is what a function's `ensures` says of its arguments a, its result r and what it leaves, s. The arguments of `fence` are the unit; those of `run` the
+-- unit, the data, the state and the allowance.
+pub says-yes-exactly : (κs : Lifetimes.Lfts 1) (a : _) (r : Verdict) (s : _) → fence.Post κs a r s
+    → (r ≡ Yes) ↔ SoundUnit (now (a .0)) (partsOf (now (a .0))) × Fenced (decoded (now (a .0)))
+says-yes-exactly κs a r s p = rw p (yes-exactly (now (a .0)))
+
+pub run-cannot-slip : (κs : Lifetimes.Lfts 2) (a : _) (r : Outcome) (s : _) → run.Post κs a r s
+    → fenceOf (now (a .0)) ≡ Yes
+    → length (now (a .1 .0)) ≡ partsOf (now (a .0)) .d
+    → AllValid (decoded (now (a .0))) (now (a .1 .0))
+    → Sound (partsOf (now (a .0)) .n) (a .1 .1 .0)
+    → Safe (decoded (now (a .0))) (now (a .1 .0)) (record { outcome = r; bytes = now (s .1 .0) })
+run-cannot-slip κs a r s p fenced size valid sound = rw p (cannot-slip (now (a .0)) fenced (now (a .1 .0)) size valid (a .1 .1 .0) sound (a .1 .1 .1 .0))

@@ -1,17 +1,24 @@
--- Worked examples of source document 000, sections 3.2.1 to 3.4.2, computed from the written rules; misprints are put right (docs/DIFFERENCES.md).
--- The other examples of these sections are run and compared.
+-- Worked examples of source document 000, sections 3.2.1 to 3.2.4, 3.3, 3.4.1 and 3.4.2, computed from the written rules; misprints are put right
+-- (docs/DIFFERENCES.md).
+--   manual-examples      eleven examples of 3.2.1 to 3.2.4, 3.4.1 and 3.4.2, one or more of each section
+--   manual-subscripts    the eleven examples of 3.3
+-- The stored units tests/runs/manual-*.txt, named by section, run every worked example of these sections, those proved here among them.
 -- Assumes nothing.
 use mathlib.Core.Path.{refl}
-use mathlib.Core.List.{List, [], _∷_}
+use mathlib.Core.List.{List, [], _∷_, _++_}
+use Prim.Native.Nat.{ℕ, zero, suc}
 use lib.IntN.{pos}
 use Rattle.rules.specs.declared.Num.the-variants.{Value}
 use Rattle.rules.specs.Values.{readFrom, readOf}
 use Rattle.rules.specs.Arithmetic.{mulOf}
 use Rattle.rules.specs.Moves.{placed, widthFrom, shown, alphaFrom, alphaOf, fitted}
+use Rattle.rules_unit.specs.declared.Kind.the-variants as kind
+use Rattle.rules_unit.specs.declared.Field.{Field}
+use Rattle.rules_unit.specs.declared.Item.{Item}
 use Rattle.rules_unit.specs.Expressions.{digitsb}
-use Rattle.rules_run.specs.Spans.{within, rangeSpan, lengthSpan, spanIn}
+use Rattle.rules_run.specs.Spans.{within, elementSpan, rangeSpan, lengthSpan, spanIn}
 use Rattle.rules_run.specs.Evaluation.{digitsFrom, plainNumber, literalNumber, stepBy, placeBy, place, lastOf, workedFrom, workedOf, calc}
-use Rattle.promises.specs.Rows.{number, text, stop, Row, _is_, AllHold, top, bytes, minus, into, AM, NZ, NUM, expression, range, forth, back}
+use Rattle.promises.specs.Rows.{Answer, number, text, stop, Row, _is_, AllHold, top, bytes, minus, into, unitOver, accessed, AM, NZ, NUM, expression, whole, element, range, forth, back}
 
 abbrev pub examples : List Row
 examples =
@@ -42,3 +49,46 @@ examples =
 pub manual-examples : AllHold examples
 unfolding readOf readFrom placed alphaFrom widthFrom fitted digitsb digitsFrom plainNumber literalNumber calc stepBy within rangeSpan lengthSpan spanIn placeBy place lastOf workedFrom workedOf
 manual-examples = (refl, (refl, (refl, (refl, (refl, (refl, (refl, (refl, (refl, (refl, (refl, tt)))))))))))
+
+-- ---- 3.3
+
+-- "NAME, 4A3, 'LAS', 'FIR', 'MID', 'ADD'" and "CODE, 4D4, 0617, 1739, 5173, 2480"
+abbrev arrays : List ℕ
+arrays = bytes "LASFIRMIDADD" ++ bytes "0617173951732480"
+
+abbrev NAME : ℕ
+NAME = 0
+
+abbrev CODE : ℕ
+CODE = 1
+
+abbrev arrayOf : ℕ → Field
+arrayOf zero = record { kind = kind.Alpha; zero = 0; offset = 0; size = 3; count = 4 }
+arrayOf (suc f) = record { kind = kind.Decimal; zero = 0; offset = 12; size = 4; count = 4 }
+
+abbrev pub ofArrays : List Item → Answer
+ofArrays list = accessed (unitOver 28 2 arrayOf (λ e. [])) arrays list
+
+abbrev pub subscripts : List Row
+subscripts =
+    -- NAME is LAS, CODE is 0617
+    ofArrays (whole NAME) is text (bytes "LAS")
+    ∷ ofArrays (whole CODE) is number (pos 617)
+    -- NAME(1) is LAS, NAME(3) is MID, NAME(4) is ADD
+    ∷ ofArrays (element NAME 1) is text (bytes "LAS")
+    ∷ ofArrays (element NAME 3) is text (bytes "MID")
+    ∷ ofArrays (element NAME 4) is text (bytes "ADD")
+    -- CODE(1) is 0617, CODE(4) is 2480
+    ∷ ofArrays (element CODE 1) is number (pos 617)
+    ∷ ofArrays (element CODE 4) is number (pos 2480)
+    -- beyond the end of the array: NAME(5) is 061, NAME(6) is 717
+    ∷ ofArrays (element NAME 5) is text (bytes "061")
+    ∷ ofArrays (element NAME 6) is text (bytes "717")
+    -- beyond the end of the data: CODE(5) and NAME(10) are subscript errors
+    ∷ ofArrays (element CODE 5) is stop 21
+    ∷ ofArrays (element NAME 10) is stop 21
+    ∷ []
+
+pub manual-subscripts : AllHold subscripts
+unfolding readOf readFrom digitsb digitsFrom plainNumber literalNumber calc stepBy within elementSpan spanIn placeBy place lastOf workedFrom workedOf
+manual-subscripts = (refl, (refl, (refl, (refl, (refl, (refl, (refl, (refl, (refl, (refl, (refl, tt)))))))))))

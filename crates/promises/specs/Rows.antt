@@ -2,6 +2,7 @@
 --
 --   Answer, Row, _is_, AllHold    a number, a text or a stop's number; a row; every row of a table holds
 --   answer, into                  what a rule answers, and what a decimal then holds
+--   unitOver, accessed            a unit with given fields, and what an expression over given data comes to
 --   unit, image                   the Data Division of the papers' examples: AM, NZ and NUM
 --   expression, after             what an expression over it comes to, and what a field holds after a statement
 -- Assumes nothing.
@@ -81,6 +82,58 @@ abbrev pub into : ℕ → Num → Answer
 into n (Value z) = text (written base n z)
 into n (Failed f) = stop (faultNumber f)
 
+-- The numbers 0 to 30, as literals of two digits.
+abbrev figures : List ℕ
+figures = bytes "00010203040506070809101112131415161718192021222324252627282930"
+
+abbrev num : ℕ → Item
+num n = item.Number (2 * n) 2
+
+-- FIELD, FIELD(subscript), FIELD(start,end), FIELD(pos:length) and FIELD(pos:-length), in postfix order.
+abbrev pub whole : ℕ → List Item
+whole f = item.Reference how.Whole f ∷ []
+
+abbrev pub element : ℕ → ℕ → List Item
+element f s = num s ∷ (item.Reference how.Element f ∷ [])
+
+abbrev pub range : ℕ → ℕ → ℕ → List Item
+range f from to = num from ∷ (num to ∷ (item.Reference how.Range f ∷ []))
+
+abbrev pub forth : ℕ → ℕ → ℕ → List Item
+forth f at len = num at ∷ (num len ∷ (item.Reference how.Length f ∷ []))
+
+abbrev pub back : ℕ → ℕ → ℕ → List Item
+back f at len = num at ∷ (num len ∷ (item.Operator op.Negate ∷ (item.Reference how.Length f ∷ [])))
+
+-- A unit of len bytes of data and n fields, with the expressions of its one statement, a SET.
+abbrev pub unitOver : ℕ → ℕ → (ℕ → Field) → (ℕ → List Item) → Code
+unitOver len n fields expressions = record {
+  limit = limit;
+  base = base;
+  top = top;
+  size = len;
+  fields = n;
+  field = fields;
+  literals = figures;
+  items = expressions;
+  statements = 1;
+  statement = λ i. statement.Set 0 1;
+  unused = λ i. 0;
+}
+
+-- The answer of an expression over the data d: a number, the text at an alpha place, or the number at a decimal one.
+abbrev comes : Code → List ℕ → Worked → Answer
+comes c d (worked.Number v) = number v
+comes c d (worked.Place true a n) = answer (readAt c d a n)
+comes c d (worked.Place false a n) = text (take n (drop a d))
+comes c d (worked.Text p l) = text (take l (drop p (c .literals)))
+comes c d (worked.Failed f) = stop (faultNumber f)
+
+abbrev pub accessed : Code → List ℕ → List Item → Answer
+accessed c d list = comes c d (workedOf c d list)
+
+-- ---- the Data Division of the bench values
+
 -- "AM is A13 'abcdefghijklm', NZ A13 'nopqrstuvwxyz', NUM D10 1234567890, D = 36."
 abbrev pub image : List ℕ
 image = bytes "abcdefghijklm" ++ (bytes "nopqrstuvwxyz" ++ bytes "1234567890")
@@ -102,53 +155,16 @@ fieldOf zero = alpha 0 13
 fieldOf (suc zero) = alpha 13 13
 fieldOf (suc (suc f)) = record { kind = kind.Decimal; zero = 0; offset = 26; size = 10; count = 1 }
 
--- The numbers 0 to 30, as literals of two digits.
-abbrev figures : List ℕ
-figures = bytes "00010203040506070809101112131415161718192021222324252627282930"
-
-abbrev num : ℕ → Item
-num n = item.Number (2 * n) 2
-
--- FIELD(start,end), FIELD(pos:length) and FIELD(pos:-length), in postfix order.
-abbrev pub range : ℕ → ℕ → ℕ → List Item
-range f from to = num from ∷ (num to ∷ (item.Reference how.Range f ∷ []))
-
-abbrev pub forth : ℕ → ℕ → ℕ → List Item
-forth f at len = num at ∷ (num len ∷ (item.Reference how.Length f ∷ []))
-
-abbrev pub back : ℕ → ℕ → ℕ → List Item
-back f at len = num at ∷ (num len ∷ (item.Operator op.Negate ∷ (item.Reference how.Length f ∷ [])))
-
 -- The two expressions of the SET in the table: its place at 0, its source at 1.
 abbrev itemsOf : ℕ → List Item
 itemsOf zero = range AM 2 6
 itemsOf (suc e) = range AM 1 5
 
 abbrev pub unit : Code
-unit = record {
-  limit = limit;
-  base = base;
-  top = top;
-  size = 36;
-  fields = 3;
-  field = fieldOf;
-  literals = figures;
-  items = itemsOf;
-  statements = 1;
-  statement = λ i. statement.Set 0 1;
-  unused = λ i. 0;
-}
-
--- The answer of an expression over the image: a number, the text at an alpha place, or the number at a decimal one.
-abbrev comes : Worked → Answer
-comes (worked.Number v) = number v
-comes (worked.Place true a n) = answer (readAt unit image a n)
-comes (worked.Place false a n) = text (take n (drop a image))
-comes (worked.Text p l) = text (take l (drop p figures))
-comes (worked.Failed f) = stop (faultNumber f)
+unit = unitOver 36 3 fieldOf itemsOf
 
 abbrev pub expression : List Item → Answer
-expression list = comes (workedOf unit image list)
+expression list = accessed unit image list
 
 -- What a field of n characters at a holds after a statement, or the stop.
 abbrev pub after : ℕ → ℕ → Turn → Answer

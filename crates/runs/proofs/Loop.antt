@@ -22,15 +22,13 @@ use Rattle.rules_run.specs.declared.Stop.the-variants as stop
 use Rattle.rules_run.specs.declared.Outcome.{Outcome}
 use Rattle.rules_run.specs.States.{gone, called, returned}
 use Rattle.rules_run.specs.Turns.{Room, applied, turnOf}
-use Rattle.rules_run.specs.Runs.{Ran, movedBy, stuck, to, runFrom}
+use Rattle.rules_run.specs.Runs.{Ran, Moved, movedBy, stuck, to, runFrom}
 use Rattle.rules_run.proofs.Lengths.{passed-dialect}
 use Rattle.rules_run.proofs.Outside.{applied-length}
 use Rattle.rules_run.proofs.Room.{turn-room}
 use Rattle.rules_run.proofs.Steps.{run-ends, run-spent, run-fails, run-goes}
-use Rattle.runs.specs.declared.Stuck.{Stuck}
-use Rattle.runs.specs.declared.Stuck.the-variants.{No, By}
-use Rattle.runs.specs.Flows.{stuckBy}
-use Rattle.runs.proofs.Flows.{followed, followed-as, moved-stuck, moved-on, call-free, return-free}
+use Rattle.runs.specs.Flows.{turnUnder}
+use Rattle.runs.proofs.Flows.{led, led-as, to-as, under-moves, under-write, under-either, call-free, return-free}
 
 -- ---- a unit that passed its check
 
@@ -42,11 +40,12 @@ module _ (u : List ℕ) (p : Parts) (e : checkOf u ≡ checked.Passed p) where
   passed-place i h = omega (arith, passed-sound u p e .ranges .n-most)
 
   -- A turn's store has room, and keeps the data's length.
-  module _ (i : ℕ) (d : List ℕ) (t : Turn) (w : t ≡ turnOf (codeOf u p) i d) where
+  module _ (i depth : ℕ) (d : List ℕ) (t : Turn) (w : t ≡ turnUnder depth (turnOf (codeOf u p) i d)) where
     pub passed-room : Room (codeOf u p) (length d) (t .write)
     passed-room =
         subst (λ (x : Turn). Room (codeOf u p) (length d) (x .write)) (sym w)
-        (turn-room (codeOf u p) d (passed-dialect u p e .limit) (passed-dialect u p e .bound) i)
+        (under-either (λ (x : Turn). Room (codeOf u p) (length d) (x .write)) depth (turnOf (codeOf u p) i d) (λ e. tt)
+        (turn-room (codeOf u p) d (passed-dialect u p e .limit) (passed-dialect u p e .bound) i))
 
     pub passed-applied : (d′ : List ℕ) (n : ℕ) → length d ≡ n → d′ ≡ applied (codeOf u p) d (t .write) → length d′ ≡ n
     passed-applied d′ n l f = rw f (applied-length (codeOf u p) d (t .write) passed-room ∙ l)
@@ -69,36 +68,39 @@ module _ (u : List ℕ) (p : Parts) (s : State) (d : List ℕ) (m k : ℕ) (z : 
   pub turn-spent : (r : Outcome) → r ≡ halted stop.Spent (s .at) k s → s .at < p .n → m ≡ 0 → ran r d ≡ z
   turn-spent r q h e = ap (λ (x : Outcome). ran x d) q ∙ sym (run-spent (codeOf u p) s d k h) ∙ (rw e at rest)
 
-  module _ (t : Turn) (b : Stuck) (low : s .at < p .n) (some : m ≡ 0 → ⊥) (worked : t ≡ turnOf (codeOf u p) (s .at) d) (says : b ≡ stuckBy (s .depth) (t .flow)) where
+  module _ (t : Turn) (low : s .at < p .n) (some : m ≡ 0 → ⊥) (worked : t ≡ turnUnder (s .depth) (turnOf (codeOf u p) (s .at) d)) where
     one-less : m ≡ suc (m - 1)
     one-less = omega arith
 
-    pub turn-fails : (r : Outcome) (f : Fault) → r ≡ halted (stop.Failed f) (s .at) k s → b ≡ By f → ran r d ≡ z
-    turn-fails r f o e =
-        let q : movedBy (p .n) s (turnOf (codeOf u p) (s .at) d .flow) ≡ stuck f = rw (← worked) (moved-stuck (p .n) s (t .flow) f (sym says ∙ e)) in
-        ap (λ (x : Outcome). ran x d) o ∙ sym (run-fails (codeOf u p) s d k (m - 1) f low q) ∙ (rw one-less at rest)
+    moves : (x : Moved) → x ≡ led (p .n) s (t .flow) → movedBy (p .n) s (turnOf (codeOf u p) (s .at) d .flow) ≡ x
+    moves x e = under-moves (p .n) s (turnOf (codeOf u p) (s .at) d) ∙ (rw (← worked) (sym e))
 
-    pub turn-goes : (s′ : State) (d′ : List ℕ) → b ≡ No → s′ ≡ followed (p .n) s (t .flow) → d′ ≡ applied (codeOf u p) d (t .write)
+    pub turn-fails : (r : Outcome) (f : Fault) → r ≡ halted (stop.Failed f) (s .at) k s → t .flow ≡ flow.Bad f → ran r d ≡ z
+    turn-fails r f o e =
+        ap (λ (x : Outcome). ran x d) o ∙ sym (run-fails (codeOf u p) s d k (m - 1) f low (moves (stuck f) (rw e))) ∙ (rw one-less at rest)
+
+    pub turn-goes : (s′ : State) (d′ : List ℕ) → to s′ ≡ led (p .n) s (t .flow) → d′ ≡ applied (codeOf u p) d (t .write)
         → runFrom (codeOf u p) (m - 1) s′ d′ (k + 1) ≡ z
-    turn-goes s′ d′ e f g =
-        let q : movedBy (p .n) s (turnOf (codeOf u p) (s .at) d .flow) ≡ to s′ = rw (← worked, f) (moved-on (p .n) s (t .flow) (sym says ∙ e)) in
-        rw (add-one k, g, worked) (sym (run-goes (codeOf u p) s d k (m - 1) s′ low q) ∙ (rw one-less at rest))
+    turn-goes s′ d′ f g =
+        let w : t .write ≡ turnOf (codeOf u p) (s .at) d .write =
+        ap (λ (x : Turn). x .write) worked ∙ under-write (p .n) s (turnOf (codeOf u p) (s .at) d) s′ (rw (← worked) (sym f)) in
+        rw (add-one k, g, w) (sym (run-goes (codeOf u p) s d k (m - 1) s′ low (moves (to s′) f)) ∙ (rw one-less at rest))
 
 -- The three ways out.
 pub ruleset turn-ways = (turn-ends, turn-spent, turn-fails)
 
 -- The way on.
-pub ruleset turn-on = (turn-goes, followed-as)
+pub ruleset turn-on = (turn-goes, led-as, to-as)
 
 -- ---- the open calls
 
-module _ (s : State) (t : Turn) (b : Stuck) (says : b ≡ stuckBy (s .depth) (t .flow)) (free : b ≡ No) where
-  -- A CALL that nothing keeps back finds room, and a RETURN an open call.
+module _ (s : State) (t x : Turn) (worked : t ≡ turnUnder (s .depth) x) where
+  -- A CALL that is followed finds room, and a RETURN an open call.
   pub turn-call : (i : ℕ) → t .flow ≡ flow.Call i → s .depth < 50
-  turn-call = call-free (s .depth) (t .flow) (sym says ∙ free)
+  turn-call i h = call-free (s .depth) x i (rw (← worked) h)
 
   pub turn-return : t .flow ≡ flow.Return → 0 < s .depth
-  turn-return = return-free (s .depth) (t .flow) (sym says ∙ free)
+  turn-return h = return-free (s .depth) x (rw (← worked) h)
 
   -- No more than 50 are open after a turn.
   pub called-calls : (i : ℕ) (s′ : State) → t .flow ≡ flow.Call i → s′ ≡ called s i → s′ .depth ≤ 50

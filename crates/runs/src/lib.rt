@@ -4,15 +4,19 @@ use rules_run::Flow;
 use rules_run::Outcome;
 use rules_run::State;
 use rules_run::Stop;
+use rules_run::Turn;
 use rules_unit::Parts;
 ghost use mathlib.Core.Path.{_≡_};
+ghost use Prim.Native.Nat.{_<_};
 ghost use lib.ListN.{length};
 ghost use Rattle.rules_unit.specs.declared.Checked.the-variants as checked;
-ghost use Rattle.rules_unit.specs.Decode.{codeOf};
+ghost use Rattle.rules_unit.specs.Decode.{Fills, Dialect, codeOf};
 ghost use Rattle.rules_unit.specs.Checks.{checkOf};
+ghost use Rattle.rules_unit.specs.Sound.{ShapeSound};
 ghost use Rattle.rules_run.specs.States.{Sound, entryb, entriesb, soundb};
+ghost use Rattle.rules_run.specs.Turns.{turnOf};
 ghost use Rattle.rules_run.specs.Runs.{Ran, runFrom};
-ghost use Rattle.runs.specs.Flows.{stuckBy};
+ghost use Rattle.runs.specs.Flows.{turnUnder};
 
 // ---- the resume state
 
@@ -58,34 +62,41 @@ pub fn sound(n: u16, s: State) -> bool
 
 // ---- where a statement leads
 
-// What keeps a flow from being followed.
-pub enum Stuck {
-    No,
-    By(Fault),
-}
-
-// 24 for a CALL with 50 calls open, 25 for a RETURN with none open, and a statement's own error.
-fn stuck_by(depth: u16, flow: Flow) -> Stuck
-    ensures { λ r. ⌜ r ≡ stuckBy depth flow ⌝ }
+// What a turn comes to where depth calls are open: 24 for a CALL with 50 calls open, 25 for a RETURN with none open, and otherwise the turn itself.
+fn turn_under(depth: u16, turn: Turn) -> Turn
+    ensures { λ r. ⌜ r ≡ turnUnder depth turn ⌝ }
 {
+    let flow = turn.flow;
     match flow {
-        Flow::Next => Stuck::No,
-        Flow::Goto(i) => Stuck::No,
-        Flow::Call(i) => {
+        Flow::Next => turn,
+        Flow::Goto(_) => turn,
+        Flow::Call(_) => {
             if depth < 50 {
-                return Stuck::No;
+                return turn;
             }
-            Stuck::By(Fault::CallsFull)
+            machine::fails(Fault::CallsFull)
         }
         Flow::Return => {
             if depth == 0 {
-                return Stuck::By(Fault::NoCall);
+                return machine::fails(Fault::NoCall);
             }
-            Stuck::No
+            turn
         }
-        Flow::Stop => Stuck::No,
-        Flow::Bad(e) => Stuck::By(e),
+        Flow::Stop => turn,
+        Flow::Bad(_) => turn,
     }
+}
+
+// The turn of the statement at, where depth calls are open.
+fn turn_at(unit: &[u8], parts: Parts, bytes: &[u8], at: u16, depth: u16) -> Turn
+    requires { ⌜ Fills (now unit) parts ⌝ }
+    requires { ⌜ Dialect parts ⌝ }
+    requires { ⌜ length (now bytes) < 65536 ⌝ }
+    requires { ⌜ at < parts .n ⌝ }
+    requires { ⌜ ShapeSound (codeOf (now unit) parts) at ⌝ }
+    ensures { λ r. ⌜ r ≡ turnUnder depth (turnOf (codeOf (now (unit .entry)) parts) at (now (bytes .entry))) ⌝ }
+{
+    turn_under(depth, machine::work(unit, parts, bytes, at))
 }
 
 // ---- the run
@@ -120,12 +131,10 @@ pub fn turns(unit: &[u8], parts: Parts, bytes: &mut [u8], state: State, allowanc
         if left == 0 {
             return halt(Stop::Spent, at, count, s);
         }
-        let turn = machine::work(unit, parts, bytes, at);
+        let turn = turn_at(unit, parts, bytes, at, s.depth);
         let flow = turn.flow;
-        let kept = stuck_by(s.depth, flow);
-        match kept {
-            Stuck::By(f) => return halt(Stop::Failed(f), at, count, s),
-            Stuck::No => {}
+        if let Flow::Bad(e) = flow {
+            return halt(Stop::Failed(e), at, count, s);
         }
         let write = turn.write;
         machine::store(unit, parts, bytes, write);
@@ -137,8 +146,8 @@ pub fn turns(unit: &[u8], parts: Parts, bytes: &mut [u8], state: State, allowanc
             Flow::Call(i) => s = s.call(i),
             Flow::Return => s = s.back(),
             Flow::Stop => s = s.goto(n),
-            // Never: it keeps the statement from being completed.
-            Flow::Bad(e) => {}
+            // Never: it is told above.
+            Flow::Bad(_) => {}
         }
     }
     halt(Stop::End, n, count, s)

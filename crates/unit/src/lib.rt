@@ -92,7 +92,7 @@ fn is_record(kind: Kind) -> bool
 }
 
 // Where a field ends in the data, or would end; no sum or product of words is too large for an index.
-fn end_of(field: Field) -> usize
+pub fn end_of(field: Field) -> usize
     ensures { λ r. ⌜ r ≡ field .offset + field .count * field .size ⌝ }
 {
     decode::long(field.offset) + decode::long(field.count) * decode::long(field.size)
@@ -125,7 +125,7 @@ fn entry_good(unit: &[u8], parts: Parts, i: u16, floor: usize) -> bool
         return field.count == 1;
     }
     if decode::long(field.offset) < floor {
-        return false;
+        return false; // The offset does not rise, or a byte is shared.
     }
     if sorts::is_decimal(kind) {
         return field.size <= parts.digits;

@@ -83,19 +83,41 @@ fn bounds_are_not_ones_that_21_is_given_for() {
 }
 
 #[test]
-fn a_span_lies_inside_its_field() {
+fn subscripts_of_the_field_the_data_and_neither() {
     for (subscript, rule) in [
         ("1", 0),
         ("2", 0),
         ("3", 3),
+        ("4", 3),
+        ("5", 2),
         ("0", 3),
-        ("1 neg", 3),
         ("0 neg", 3),
-        ("999999999999999999", 3),
-        ("999999999999999999 neg", 3),
+        ("1 neg", 2),
+        ("999999999999999999", 2),
+        ("999999999999999999 neg", 2),
     ] {
         assert_eq!(read(&format!("{subscript} %1()")), rule, "{subscript}");
     }
+}
+
+#[test]
+fn a_span_outside_the_data_is_given_21() {
+    assert_eq!(read("7 14 %1(,)"), 3);
+    assert_eq!(read("7 15 %1(,)"), 2);
+    assert_eq!(read("7 999999999999999999 %1(,)"), 2);
+    assert_eq!(read("1 5 neg %1(:)"), 3);
+    assert_eq!(read("1 6 neg %1(:)"), 2);
+    assert_eq!(read("6 9 %1(:)"), 3);
+    assert_eq!(read("6 10 %1(:)"), 2);
+    assert_eq!(read("2 %3()"), 2);
+    assert_eq!(read_alpha("2 %4()"), 2);
+    assert_eq!(read_alpha("18 1 %4(:)"), 0);
+    assert_eq!(read_alpha("18 2 %4(:)"), 2);
+    assert_eq!(written("1 19 %4(,)"), 2);
+}
+
+#[test]
+fn a_span_lies_inside_its_field() {
     assert_eq!(read("6 6 %1(,)"), 0);
     assert_eq!(read("6 7 %1(,)"), 3);
     assert_eq!(read("7 7 %1(,)"), 3);
@@ -108,7 +130,6 @@ fn a_span_lies_inside_its_field() {
     assert_eq!(read_alpha("3 %2()"), 3);
     assert_eq!(read_alpha("2 %0()"), 3);
     assert_eq!(read_alpha("1 %4()"), 0);
-    assert_eq!(read_alpha("2 %4()"), 3);
     assert_eq!(written("1 5 %0(,)"), 3);
 }
 
@@ -163,20 +184,21 @@ fn an_alpha_destination_shares_no_byte_with_a_decimal() {
 fn the_first_rule_broken_is_answered() {
     // a before b, references left to right, the rules of each in their order.
     assert_eq!(broken(sample().set("%4", "%3 %1()")), 6);
-    assert_eq!(broken(sample().set("%0", "9 %1() %3 %1() +")), 3);
-    assert_eq!(broken(sample().set("%0", "%3 %1() 9 %1() +")), 1);
-    assert_eq!(broken(sample().set("9 %1() %0()", "1")), 3);
+    assert_eq!(broken(sample().set("%0", "3 %1() %3 %1() +")), 3);
+    assert_eq!(broken(sample().set("%0", "%3 %1() 3 %1() +")), 1);
+    assert_eq!(broken(sample().set("3 %1() %0()", "1")), 3);
     assert_eq!(read("0 %3 %1(,)"), 1);
     assert_eq!(read("9 0 %1(,)"), 2);
+    assert_eq!(read("3 15 %1(,)"), 2);
     assert_eq!(read("3 9 %1(,)"), 3);
     assert_eq!(written("3 5 %1(,)"), 4);
-    assert_eq!(written("1 19 %4(,)"), 3);
+    assert_eq!(written("5 19 %4(,)"), 2);
 }
 
 #[test]
 fn a_bound_that_is_a_reference_keeps_the_rules_first() {
     // The inner reference is met first, and is no literal to the outer one.
-    assert_eq!(read("9 %1() %1()"), 3);
+    assert_eq!(read("3 %1() %1()"), 3);
     assert_eq!(read("1 %1() %1()"), 1);
 }
 

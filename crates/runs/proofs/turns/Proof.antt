@@ -8,6 +8,7 @@ use lib.ListN.{length}
 use borrow.Author.Needs.{needs}
 use Rattle.rules_unit.specs.Decode.{codeOf}
 use Rattle.rules_run.specs.Runs.{runFrom}
+use Rattle.runs.proofs.Flows.{never-bad}
 use Rattle.runs.proofs.Loop.{passed-laws, turn-ways, turn-on, turn-call, turn-return, turn-calls, passed-place, passed-applied}
 use Rattle.runs.proofs.turns.Statement.{statement}
 use Rattle.runs.proofs.turns.Tie as tie
@@ -31,14 +32,11 @@ same-length c = search needs
 returns : tie.Need-returns Inv-loop μ-loop
 returns c = search turn-ways depth 3
 
-work-requires : tie.Need-work-requires Inv-loop μ-loop
-work-requires c κs = (search passed-laws depth 3, (search passed-laws depth 3, (search needs, (search needs, search passed-laws depth 3))))
+turn-at-requires : tie.Need-turn-at-requires Inv-loop μ-loop
+turn-at-requires c κs = (search passed-laws depth 3, (search passed-laws depth 3, (search needs, (search needs, search passed-laws depth 3))))
 
-stuck-by-requires : tie.Need-stuck-by-requires Inv-loop μ-loop
-stuck-by-requires c κs = search needs
-
-enum-known-kept : tie.Need-enum-known-kept Inv-loop μ-loop
-enum-known-kept c = search needs
+enum-known-flow : tie.Need-enum-known-flow Inv-loop μ-loop
+enum-known-flow c = search needs
 
 halt-requires-2 : tie.Need-halt-requires-2 Inv-loop μ-loop
 halt-requires-2 c κs = search needs
@@ -49,9 +47,6 @@ same-length-2 c = search needs
 returns-2 : tie.Need-returns-2 Inv-loop μ-loop
 returns-2 c = search turn-ways depth 3
 
-enum-told : tie.Need-enum-told Inv-loop μ-loop
-enum-told c = search needs
-
 store-requires : tie.Need-store-requires Inv-loop μ-loop
 store-requires c κs = search passed-laws depth 3
 
@@ -61,8 +56,8 @@ sub-left c = search needs
 add-count : tie.Need-add-count Inv-loop μ-loop
 add-count c = search needs
 
-enum-told-2 : tie.Need-enum-told-2 Inv-loop μ-loop
-enum-told-2 c = search needs
+enum-told : tie.Need-enum-told Inv-loop μ-loop
+enum-told c = search needs
 
 advance-requires : tie.Need-advance-requires Inv-loop μ-loop
 advance-requires c κs = search passed-place depth 3
@@ -73,8 +68,8 @@ loop-less c = search needs
 loop-again : tie.Need-loop-again Inv-loop μ-loop
 loop-again c = (search turn-on depth 4, search needs, search turn-calls depth 3, search passed-applied depth 3)
 
-enum-known-flow : tie.Need-enum-known-flow Inv-loop μ-loop
-enum-known-flow c = search needs
+enum-known-flow-2 : tie.Need-enum-known-flow-2 Inv-loop μ-loop
+enum-known-flow-2 c = search needs
 
 goto-requires : tie.Need-goto-requires Inv-loop μ-loop
 goto-requires c κs = search needs
@@ -85,8 +80,8 @@ loop-less-2 c = search needs
 loop-again-2 : tie.Need-loop-again-2 Inv-loop μ-loop
 loop-again-2 c = (search turn-on depth 4, search needs, search turn-calls depth 3, search passed-applied depth 3)
 
-enum-known-flow-2 : tie.Need-enum-known-flow-2 Inv-loop μ-loop
-enum-known-flow-2 c = search needs
+enum-known-flow-3 : tie.Need-enum-known-flow-3 Inv-loop μ-loop
+enum-known-flow-3 c = search needs
 
 call-requires : tie.Need-call-requires Inv-loop μ-loop
 call-requires c κs = (search passed-place depth 3, search turn-call depth 3)
@@ -97,8 +92,8 @@ loop-less-3 c = search needs
 loop-again-3 : tie.Need-loop-again-3 Inv-loop μ-loop
 loop-again-3 c = (search turn-on depth 4, search needs, search turn-calls depth 3, search passed-applied depth 3)
 
-enum-told-3 : tie.Need-enum-told-3 Inv-loop μ-loop
-enum-told-3 c = search needs
+enum-told-2 : tie.Need-enum-told-2 Inv-loop μ-loop
+enum-told-2 c = search needs
 
 back-requires : tie.Need-back-requires Inv-loop μ-loop
 back-requires c κs = (search turn-return depth 3, search needs)
@@ -109,8 +104,8 @@ loop-less-4 c = search needs
 loop-again-4 : tie.Need-loop-again-4 Inv-loop μ-loop
 loop-again-4 c = (search turn-on depth 4, search needs, search turn-calls depth 3, search passed-applied depth 3)
 
-enum-told-4 : tie.Need-enum-told-4 Inv-loop μ-loop
-enum-told-4 c = search needs
+enum-told-3 : tie.Need-enum-told-3 Inv-loop μ-loop
+enum-told-3 c = search needs
 
 goto-requires-2 : tie.Need-goto-requires-2 Inv-loop μ-loop
 goto-requires-2 c κs = search needs
@@ -121,14 +116,14 @@ loop-less-5 c = search needs
 loop-again-5 : tie.Need-loop-again-5 Inv-loop μ-loop
 loop-again-5 c = (search turn-on depth 4, search needs, search turn-calls depth 3, search passed-applied depth 3)
 
-enum-known-flow-3 : tie.Need-enum-known-flow-3 Inv-loop μ-loop
-enum-known-flow-3 c = search needs
+enum-told-4 : tie.Need-enum-told-4 Inv-loop μ-loop
+enum-told-4 c = search needs
 
 loop-less-6 : tie.Need-loop-less-6 Inv-loop μ-loop
 loop-less-6 c = search needs
 
 loop-again-6 : tie.Need-loop-again-6 Inv-loop μ-loop
-loop-again-6 c = (search turn-on depth 4, search needs, search turn-calls depth 3, search passed-applied depth 3)
+loop-again-6 c = absurd (search never-bad depth 3)
 
 halt-requires-3 : tie.Need-halt-requires-3 Inv-loop μ-loop
 halt-requires-3 c κs = search needs
@@ -149,37 +144,35 @@ turns-spec =
     halt-requires
     same-length
     returns
-    work-requires
-    stuck-by-requires
-    enum-known-kept
+    turn-at-requires
+    enum-known-flow
     halt-requires-2
     same-length-2
     returns-2
-    enum-told
     store-requires
     sub-left
     add-count
-    enum-told-2
+    enum-told
     advance-requires
     loop-less
     loop-again
-    enum-known-flow
+    enum-known-flow-2
     goto-requires
     loop-less-2
     loop-again-2
-    enum-known-flow-2
+    enum-known-flow-3
     call-requires
     loop-less-3
     loop-again-3
-    enum-told-3
+    enum-told-2
     back-requires
     loop-less-4
     loop-again-4
-    enum-told-4
+    enum-told-3
     goto-requires-2
     loop-less-5
     loop-again-5
-    enum-known-flow-3
+    enum-told-4
     loop-less-6
     loop-again-6
     halt-requires-3

@@ -1,0 +1,25 @@
+-- `fence::breach_by` meets its contract: a statement number below N has the breach of that statement, and any other has none.
+-- Assumes nothing.
+use borrow.Author.Needs.{needs}
+use Rattle.fence.proofs.Statements.{by-past, by-in}
+use Rattle.fence.proofs.breach_by.Statement.{statement}
+use Rattle.fence.proofs.breach_by.Tie as tie
+
+long-requires : tie.Need-long-requires
+long-requires c κs = search needs
+
+returns : tie.Need-returns
+returns c = search by-past depth 3
+
+cast-breach-of : tie.Need-cast-breach-of
+cast-breach-of c = search needs
+
+breach-of-requires : tie.Need-breach-of-requires
+breach-of-requires c κs = search needs
+
+returns-2 : tie.Need-returns-2
+returns-2 c = search by-in depth 3
+
+pub breach-by-spec : {M : Type 1} → statement M
+breach-by-spec =
+    tie.close (tie.spec long-requires returns cast-breach-of breach-of-requires returns-2)

@@ -1,0 +1,555 @@
+// The fence check: whether every statement of a unit keeps the fence rules, and which rule a statement breaks first.
+use rules::Num;
+use rules_fence::Breach;
+use rules_fence::Seen;
+use rules_fence::Verdict;
+use rules_run::Span;
+use rules_unit::Checked;
+use rules_unit::Field;
+use rules_unit::How;
+use rules_unit::Item;
+use rules_unit::Op;
+use rules_unit::Parts;
+use rules_unit::Use;
+ghost use mathlib.Core.Path.{_≡_};
+ghost use mathlib.Core.Bool.{true, false};
+ghost use mathlib.Core.List.{[]};
+ghost use Prim.Native.Nat.{_+_, _<_, _≤_};
+ghost use Rattle.rules.specs.declared.Num.the-variants.{Value};
+ghost use Rattle.rules_unit.specs.declared.How.the-variants as how;
+ghost use Rattle.rules_unit.specs.declared.Checked.the-variants as checked;
+ghost use Rattle.rules_unit.specs.Codes.{offsetOf};
+ghost use Rattle.rules_unit.specs.Decode.{Fills, Dialect, itemsAt, codeOf};
+ghost use Rattle.rules_unit.specs.Expressions.{itemb, useb};
+ghost use Rattle.rules_unit.specs.Checks.{checkOf};
+ghost use Rattle.rules_run.specs.declared.Span.the-variants as span;
+ghost use Rattle.rules_fence.specs.declared.Seen.the-variants as seen;
+ghost use Rattle.rules_fence.specs.Bounds.{isNegate, seenNumber, seenNegate, seenAfter, boundedb, fixedSpan};
+ghost use Rattle.rules_fence.specs.Fence.{destb};
+ghost use Rattle.rules_fence.specs.Breaches.{breachNumber, keepsb, endBreach, elementBreach, apartOf, apartFrom, alphaBreach, spanBreach, referenceBreach, itemBreach, breachFrom, useBreach, breachOf, verdictFrom, fenceOf, breachBy, breachIn};
+ghost use Rattle.fence.specs.Asked.{firstBound, lastBound, startBound, Small, AllKnown, closesb};
+
+// Whether no rule is broken.
+fn keeps(b: Breach) -> bool
+    ensures { λ r. ⌜ r ≡ keepsb b ⌝ }
+{
+    match b {
+        Breach::None => true,
+        Breach::BoundNotLiteral => false,
+        Breach::BoundsWrong => false,
+        Breach::LeavesField => false,
+        Breach::OverElements => false,
+        Breach::StopsMidElement => false,
+        Breach::OnDecimal => false,
+    }
+}
+
+// The number of a breach, in the order of the rules; 0 where none is broken.
+pub fn breach_number(b: Breach) -> u8
+    ensures { λ r. ⌜ r ≡ breachNumber b ⌝ }
+{
+    match b {
+        Breach::None => 0,
+        Breach::BoundNotLiteral => 1,
+        Breach::BoundsWrong => 2,
+        Breach::LeavesField => 3,
+        Breach::OverElements => 4,
+        Breach::StopsMidElement => 5,
+        Breach::OnDecimal => 6,
+    }
+}
+
+// ---- the bounds that stand directly before an item
+
+// Whether an operator is negate.
+fn is_negate(op: Op) -> bool
+    ensures { λ r. ⌜ r ≡ isNegate op ⌝ }
+{
+    match op {
+        Op::Add => false,
+        Op::Subtract => false,
+        Op::Multiply => false,
+        Op::Divide => false,
+        Op::Round => false,
+        Op::Negate => true,
+        Op::Eq => false,
+        Op::Ne => false,
+        Op::Gt => false,
+        Op::Lt => false,
+        Op::Ge => false,
+        Op::Le => false,
+        Op::Not => false,
+        Op::And => false,
+        Op::Or => false,
+        Op::Xor => false,
+    }
+}
+
+// The bounds after a literal of the value v.
+fn seen_value(v: i64, s: Seen) -> Seen
+    ensures { λ r. ⌜ r ≡ seenNumber (Value v) s ⌝ }
+{
+    match s {
+        Seen::Nothing => Seen::One {
+            last: v,
+            plain: true,
+        },
+        Seen::One { last, plain: _ } => Seen::Two {
+            first: last,
+            last: v,
+            plain: true,
+        },
+        Seen::Two {
+            first: _,
+            last,
+            plain: _,
+        } => Seen::Two {
+            first: last,
+            last: v,
+            plain: true,
+        },
+    }
+}
+
+// The bounds after a literal; a literal that is no number is no bound.
+fn seen_number(n: Num, s: Seen) -> Seen
+    ensures { λ r. ⌜ r ≡ seenNumber n s ⌝ }
+{
+    match n {
+        Num::Value(v) => seen_value(v, s),
+        Num::Failed(_) => Seen::Nothing,
+    }
+}
+
+// The bounds after a negate: it turns a plain literal, and a second negate leaves no bound.
+fn seen_negate(s: Seen) -> Seen
+    requires { ⌜ Small s ⌝ }
+    ensures { λ r. ⌜ r ≡ seenNegate s ⌝ }
+{
+    match s {
+        Seen::Nothing => Seen::Nothing,
+        Seen::One { last, plain } => {
+            if plain {
+                return Seen::One {
+                    last: number::negate(last),
+                    plain: false, // A second negate is no part of a bound.
+                };
+            }
+            Seen::Nothing
+        }
+        Seen::Two { first, last, plain } => {
+            if plain {
+                return Seen::Two {
+                    first: first,
+                    last: number::negate(last),
+                    plain: false,
+                };
+            }
+            Seen::Nothing
+        }
+    }
+}
+
+// The bounds after an item.
+fn seen_after(unit: &[u8], parts: Parts, s: Seen, item: Item) -> Seen
+    requires { ⌜ Fills (now unit) parts ⌝ }
+    requires { ⌜ Dialect parts ⌝ }
+    requires { ⌜ Small s ⌝ }
+    ensures { λ r. ⌜ r ≡ seenAfter (codeOf (now (unit .entry)) parts) s item ⌝ }
+{
+    match item {
+        Item::Number { place, len } => {
+            seen_number(evaluate::literal_number(unit, parts, place, len), s)
+        }
+        Item::Reference { how: _, field: _ } => Seen::Nothing,
+        Item::Text { place: _, len: _ } => Seen::Nothing,
+        Item::Operator(op) => {
+            if is_negate(op) {
+                return seen_negate(s);
+            }
+            Seen::Nothing
+        }
+        Item::End => Seen::Nothing,
+        Item::Bad => Seen::Nothing,
+    }
+}
+
+// Whether there is a bound.
+fn has_one(s: Seen) -> bool
+    ensures { λ r. ⌜ r ≡ boundedb how.Element s ⌝ }
+{
+    match s {
+        Seen::Nothing => false,
+        Seen::One { last: _, plain: _ } => true,
+        Seen::Two {
+            first: _,
+            last: _,
+            plain: _,
+        } => true,
+    }
+}
+
+// Whether there are two bounds.
+fn has_two(s: Seen) -> bool
+    ensures { λ r. ⌜ r ≡ boundedb how.Range s ⌝ }
+{
+    match s {
+        Seen::Nothing => false,
+        Seen::One { last: _, plain: _ } => false,
+        Seen::Two {
+            first: _,
+            last: _,
+            plain: _,
+        } => true,
+    }
+}
+
+// Whether there are as many bounds as a reference takes.
+fn bounded(how: How, s: Seen) -> bool
+    ensures { λ r. ⌜ r ≡ boundedb how s ⌝ }
+{
+    match how {
+        How::Whole => true,
+        How::Element => has_one(s),
+        How::Range => has_two(s),
+        How::Length => has_two(s),
+    }
+}
+
+// The bound before the last; 0 where there is none.
+fn first_bound(s: Seen) -> i64
+    ensures { λ r. ⌜ r ≡ firstBound s ⌝ }
+{
+    match s {
+        Seen::Nothing => 0,
+        Seen::One { last: _, plain: _ } => 0,
+        Seen::Two {
+            first,
+            last: _,
+            plain: _,
+        } => first,
+    }
+}
+
+// The last bound; 0 where there is none.
+fn last_bound(s: Seen) -> i64
+    ensures { λ r. ⌜ r ≡ lastBound s ⌝ }
+{
+    match s {
+        Seen::Nothing => 0,
+        Seen::One { last, plain: _ } => last,
+        Seen::Two {
+            first: _,
+            last,
+            plain: _,
+        } => last,
+    }
+}
+
+// The bound that a reference starts from.
+fn start_bound(how: How, s: Seen) -> i64
+    ensures { λ r. ⌜ r ≡ startBound how s ⌝ }
+{
+    match how {
+        How::Whole => first_bound(s),
+        How::Element => last_bound(s),
+        How::Range => first_bound(s),
+        How::Length => first_bound(s),
+    }
+}
+
+// ---- one span
+
+// The bytes that a reference names by its bounds; Outside where 21 would be given.
+fn fixed_span(unit: &[u8], parts: Parts, how: How, field: u16, s: Seen) -> Span
+    requires { ⌜ Fills (now unit) parts ⌝ }
+    requires { ⌜ field < parts .f ⌝ }
+    requires { ⌜ Small s ⌝ }
+    requires { ⌜ boundedb how s ≡ true ⌝ }
+    ensures { λ r. ⌜ r ≡ fixedSpan (codeOf (now (unit .entry)) parts) how field s ⌝ }
+{
+    let entry = decode::field(unit, parts, field);
+    let most = decode::long(parts.d);
+    let x = start_bound(how, s);
+    let y = last_bound(s);
+    spans::span_in(0, most, entry, how, x, y)
+}
+
+// What a decimal span breaks that ends at `last`, where the element that it starts in ends at e.
+fn end_breach(dest: bool, e: usize, last: usize) -> Breach
+    ensures { λ r. ⌜ r ≡ endBreach dest e last ⌝ }
+{
+    if e < last {
+        return Breach::OverElements;
+    }
+    if dest {} else {
+        return Breach::None;
+    }
+    if last == e {
+        return Breach::None;
+    }
+    Breach::StopsMidElement
+}
+
+// What the n bytes from a on of a decimal field break, which start inside the field.
+fn element_breach(unit: &[u8], parts: Parts, dest: bool, field: u16, a: usize, n: usize) -> Breach
+    requires { ⌜ Fills (now unit) parts ⌝ }
+    requires { ⌜ field < parts .f ⌝ }
+    requires { ⌜ a + n ≤ parts .d ⌝ }
+    requires { ⌜ offsetOf (codeOf (now unit) parts) field ≤ a ⌝ }
+    ensures { λ r. ⌜ r ≡ elementBreach (codeOf (now (unit .entry)) parts) dest field a n ⌝ }
+{
+    let entry = decode::field(unit, parts, field);
+    let offset = decode::long(entry.offset);
+    let size = decode::long(entry.size);
+    // Never true of a unit that passed its check: an element has at least one byte.
+    if size == 0 {
+        return end_breach(dest, offset, a + n);
+    }
+    let k = (a - offset) / size;
+    end_breach(dest, offset + k * size + size, a + n)
+}
+
+// Whether a field is no decimal one, or shares no byte with the n bytes from a on.
+fn apart_of(field: Field, a: usize, n: usize) -> bool
+    requires { ⌜ a + n < 65536 ⌝ }
+    ensures { λ r. ⌜ r ≡ apartOf field a n ⌝ }
+{
+    let kind = field.kind;
+    if sorts::is_decimal(kind) {} else {
+        return true;
+    }
+    if a + n <= decode::long(field.offset) {
+        return true;
+    }
+    unit::end_of(field) <= a
+}
+
+// Whether no decimal field shares a byte with the n bytes from a on.
+fn apart_all(unit: &[u8], parts: Parts, a: usize, n: usize) -> bool
+    requires { ⌜ Fills (now unit) parts ⌝ }
+    requires { ⌜ a + n ≤ parts .d ⌝ }
+    ensures { λ r. ⌜ r ≡ apartFrom (codeOf (now (unit .entry)) parts) a n (parts .f) 0 ⌝ }
+{
+    let mut g: u16 = 0;
+    while g < parts.f {
+        if !apart_of(decode::field(unit, parts, g), a, n) {
+            return false;
+        }
+        g += 1;
+    }
+    true
+}
+
+// What the n bytes from a on of an alpha or record field break.
+fn alpha_breach(unit: &[u8], parts: Parts, dest: bool, a: usize, n: usize) -> Breach
+    requires { ⌜ Fills (now unit) parts ⌝ }
+    requires { ⌜ a + n ≤ parts .d ⌝ }
+    ensures { λ r. ⌜ r ≡ alphaBreach (codeOf (now (unit .entry)) parts) dest a n ⌝ }
+{
+    if dest {} else {
+        return Breach::None;
+    }
+    if apart_all(unit, parts, a, n) {
+        return Breach::None;
+    }
+    Breach::OnDecimal
+}
+
+// What the n bytes from a on break, which a reference to the field names.
+fn span_breach(unit: &[u8], parts: Parts, dest: bool, field: u16, a: usize, n: usize) -> Breach
+    requires { ⌜ Fills (now unit) parts ⌝ }
+    requires { ⌜ field < parts .f ⌝ }
+    requires { ⌜ a + n ≤ parts .d ⌝ }
+    ensures { λ r. ⌜ r ≡ spanBreach (codeOf (now (unit .entry)) parts) dest field (span.At a n) ⌝ }
+{
+    let entry = decode::field(unit, parts, field);
+    let kind = entry.kind;
+    if a < decode::long(entry.offset) {
+        return Breach::LeavesField;
+    }
+    if unit::end_of(entry) < a + n {
+        return Breach::LeavesField;
+    }
+    if sorts::is_decimal(kind) {
+        return element_breach(unit, parts, dest, field, a, n);
+    }
+    alpha_breach(unit, parts, dest, a, n)
+}
+
+// ---- references, expressions, statements
+
+// What a reference breaks, before which the bounds s stand.
+fn reference_breach(unit: &[u8], parts: Parts, dest: bool, how: How, field: u16, s: Seen) -> Breach
+    requires { ⌜ Fills (now unit) parts ⌝ }
+    requires { ⌜ field < parts .f ⌝ }
+    requires { ⌜ Small s ⌝ }
+    ensures { λ r. ⌜ r ≡ referenceBreach (codeOf (now (unit .entry)) parts) dest how field s ⌝ }
+{
+    if bounded(how, s) {} else {
+        return Breach::BoundNotLiteral;
+    }
+    match fixed_span(unit, parts, how, field, s) {
+        Span::At { start, len } => span_breach(unit, parts, dest, field, start, len),
+        Span::Outside => Breach::BoundsWrong,
+    }
+}
+
+// What an item breaks, where `dest` says whether it is the last one of a place that is written.
+fn item_breach(unit: &[u8], parts: Parts, dest: bool, s: Seen, item: Item) -> Breach
+    requires { ⌜ Fills (now unit) parts ⌝ }
+    requires { ⌜ Small s ⌝ }
+    requires { ⌜ itemb (codeOf (now unit) parts) item ≡ true ⌝ }
+    ensures { λ r. ⌜ r ≡ itemBreach (codeOf (now (unit .entry)) parts) dest s item [] ⌝ }
+{
+    match item {
+        Item::Number { place: _, len: _ } => Breach::None,
+        Item::Reference { how, field } => reference_breach(unit, parts, dest, how, field, s),
+        Item::Text { place: _, len: _ } => Breach::None,
+        Item::Operator(_) => Breach::None,
+        Item::End => Breach::None,
+        Item::Bad => Breach::None,
+    }
+}
+
+// Whether a reference that ends before the offset `next` is a destination: the last item of a place that is written.
+fn aimed(dest: bool, es: &[u8], next: usize) -> bool
+    ensures { λ r. ⌜ r ≡ destb dest (itemsAt (now (es .entry)) next) ⌝ }
+{
+    if dest {
+        return evaluate::ends(es, next);
+    }
+    false
+}
+
+// Whether no item follows that belongs to the expression.
+fn closes(item: Item) -> bool
+    ensures { λ r. ⌜ r ≡ closesb item ⌝ }
+{
+    match item {
+        Item::Number { place: _, len: _ } => false,
+        Item::Reference { how: _, field: _ } => false,
+        Item::Text { place: _, len: _ } => false,
+        Item::Operator(_) => false,
+        Item::End => true,
+        Item::Bad => true,
+    }
+}
+
+// What the expression at an offset of the expressions es breaks first.
+fn breach_in(unit: &[u8], parts: Parts, dest: bool, es: &[u8], at: usize) -> Breach
+    requires { ⌜ Fills (now unit) parts ⌝ }
+    requires { ⌜ Dialect parts ⌝ }
+    requires { ⌜ AllKnown (codeOf (now unit) parts) (itemsAt (now es) at) ⌝ }
+    ensures { λ r. ⌜ r ≡ breachFrom (codeOf (now (unit .entry)) parts) dest seen.Nothing (itemsAt (now (es .entry)) at) ⌝ }
+{
+    let mut s = Seen::Nothing;
+    let mut i = at;
+    while i < es.len() {
+        let item = decode::item_at(es, i);
+        if closes(item) {
+            return Breach::None;
+        }
+        let next = i + decode::width_of(item);
+        let b = item_breach(unit, parts, aimed(dest, es, next), s, item);
+        if !keeps(b) {
+            return b;
+        }
+        s = seen_after(unit, parts, s, item);
+        i = next;
+    }
+    Breach::None
+}
+
+// What the expression at an offset breaks first.
+fn breach_at(unit: &[u8], parts: Parts, dest: bool, e: u16) -> Breach
+    requires { ⌜ Fills (now unit) parts ⌝ }
+    requires { ⌜ Dialect parts ⌝ }
+    requires { ⌜ AllKnown (codeOf (now unit) parts) (codeOf (now unit) parts .items e) ⌝ }
+    ensures { λ r. ⌜ r ≡ breachFrom (codeOf (now (unit .entry)) parts) dest seen.Nothing (codeOf (now (unit .entry)) parts .items e) ⌝ }
+{
+    let start = decode::expressions_offset(parts);
+    let end = decode::literals_offset(parts);
+    breach_in(unit, parts, dest, &unit[start..end], decode::long(e))
+}
+
+// What a use of an expression breaks first.
+fn use_breach(unit: &[u8], parts: Parts, u: Use) -> Breach
+    requires { ⌜ Fills (now unit) parts ⌝ }
+    requires { ⌜ Dialect parts ⌝ }
+    requires { ⌜ useb (codeOf (now unit) parts) u ≡ true ⌝ }
+    ensures { λ r. ⌜ r ≡ useBreach (codeOf (now (unit .entry)) parts) u ⌝ }
+{
+    match u {
+        Use::Nothing => Breach::None,
+        Use::Of {
+            want: _,
+            at,
+            written,
+        } => breach_at(unit, parts, written, at),
+    }
+}
+
+// What the statement i of a unit that passed its check breaks first: its uses in order, their references left to right.
+pub fn breach_of(unit: &[u8], parts: Parts, i: u16) -> Breach
+    requires { ⌜ checkOf (now unit) ≡ checked.Passed parts ⌝ }
+    requires { ⌜ i < parts .n ⌝ }
+    ensures { λ r. ⌜ r ≡ breachOf (codeOf (now (unit .entry)) parts) i ⌝ }
+{
+    let s = decode::statement(unit, parts, i);
+    let first = use_breach(unit, parts, sorts::use_at(s, 0));
+    if !keeps(first) {
+        return first;
+    }
+    use_breach(unit, parts, sorts::use_at(s, 1))
+}
+
+// ---- the check
+
+// Yes, or no with the first statement that breaks a rule, of a unit that passed its check.
+fn verdict_of(unit: &[u8], parts: Parts) -> Verdict
+    requires { ⌜ checkOf (now unit) ≡ checked.Passed parts ⌝ }
+    ensures { λ r. ⌜ r ≡ verdictFrom (codeOf (now (unit .entry)) parts) (parts .n) 0 ⌝ }
+{
+    let mut i: u16 = 0;
+    while i < parts.n {
+        if !keeps(breach_of(unit, parts, i)) {
+            return Verdict::No(i);
+        }
+        i += 1;
+    }
+    Verdict::Yes
+}
+
+// The fence check of a unit: a refusal of its check, yes, or no with the first statement that breaks a rule.
+pub fn fence(unit: &[u8]) -> Verdict
+    ensures { λ r. ⌜ r ≡ fenceOf (now (unit .entry)) ⌝ }
+{
+    let answer = unit::check(unit);
+    match answer {
+        Checked::Passed(parts) => verdict_of(unit, parts),
+        Checked::Refused(r) => Verdict::Refused(r),
+    }
+}
+
+// The breach of the statement i of a unit that passed its check; none where there is no such statement.
+fn breach_by(unit: &[u8], parts: Parts, i: usize) -> Breach
+    requires { ⌜ checkOf (now unit) ≡ checked.Passed parts ⌝ }
+    ensures { λ r. ⌜ r ≡ breachBy (now (unit .entry)) i (checked.Passed parts) ⌝ }
+{
+    if decode::long(parts.n) <= i {
+        return Breach::None;
+    }
+    breach_of(unit, parts, i as u16)
+}
+
+// The rule that the statement i breaks first; none where the unit is refused or has no such statement.
+pub fn breach(unit: &[u8], i: usize) -> Breach
+    ensures { λ r. ⌜ r ≡ breachIn (now (unit .entry)) i ⌝ }
+{
+    let answer = unit::check(unit);
+    match answer {
+        Checked::Passed(parts) => breach_by(unit, parts, i),
+        Checked::Refused(_) => Breach::None,
+    }
+}
