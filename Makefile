@@ -1,6 +1,6 @@
 SHELL := /bin/bash
 .SHELLFLAGS := -eu -o pipefail -c
-.PHONY: run check bench test rim units second
+.PHONY: run check fence list owner bench test rim units second
 export CARGO_TARGET_DIR := $(CURDIR)/build/cargo
 
 # An example unit, run by the proved bench program, with its fields before and after.
@@ -9,11 +9,18 @@ run:
 	@rt check bench > build/run.log || { tail -n 20 build/run.log; exit 1; }
 	@tools/show-run target/bin/bench examples/seats.txt
 
-# The owner's program over the stored units.
-check:
+# The owner's program over the stored units; then of an example where it can slip, and all that it holds.
+check: owner
+	@cd crates/boxlever/data && ../../../target/bin/boxlever check *.unit
+fence: owner
+	@target/bin/boxlever fence build/slip.unit
+list: owner
+	@target/bin/boxlever list build/slip.unit
+
+owner:
 	@mkdir -p build
 	@rt check boxlever > build/check.log || { tail -n 20 build/check.log; exit 1; }
-	@cd crates/boxlever/data && ../../../target/bin/boxlever check *.unit
+	@tools/dibasm asm examples/slip-upcase.txt -o build/slip.unit
 
 # The proved library against the second interpreter: instructions and time for each statement of a settlement.
 bench: second
@@ -31,11 +38,14 @@ test:
 	tail -n 1 build/ci.log
 
 # What is not proved: everything stored is what the texts and the second interpreter make; the proved bench program writes what is
-# expected of each stored run, in one call and in many; and the second interpreter's own tests.
+# expected of each stored run; the owner's program answers each call and each stored unit as expected; the second interpreter's own
+# tests; hosts in C and Rust; and the library against the second interpreter.
 rim:
 	tools/store-units --check
-	tools/run-stored target/bin/bench target/bin/pauses
+	tools/run-stored target/bin/bench
+	tools/run-owner target/bin/boxlever
 	UNITS=$(CURDIR)/build/units cargo test --release --offline --quiet --manifest-path second/Cargo.toml
+	$(MAKE) --no-print-directory hosts differential
 
 second:
 	@cargo build --release --offline --quiet --manifest-path second/Cargo.toml
@@ -43,3 +53,62 @@ second:
 # Stores the test units anew from their texts.
 units:
 	tools/store-units
+
+# ---- Hosts: the library as C and Rust programs take it ----
+
+# The folders of the proved archive and of its header, those of another build if they are named; where things are installed; how
+# many cases `make fuzz` tries, and from which seed.
+LIB := target/staticlib
+INCLUDE := include
+PREFIX ?= /usr/local
+DESTDIR ?=
+N := 1000000
+SEED := 1
+.PHONY: lib hosts differential fuzz install uninstall
+export DIBOL_LIB_DIR := $(CURDIR)/build/lib
+
+# The proved archive, under the name that hosts link.
+lib:
+	@mkdir -p build/lib
+ifeq ($(LIB),target/staticlib)
+	@rt staticlib dibol_c > build/staticlib.log || { tail -n 20 build/staticlib.log; exit 1; }
+endif
+	@cmp -s $(LIB)/libdibol_c.a build/lib/libdibol.a || install -m 644 $(LIB)/libdibol_c.a build/lib/libdibol.a
+
+# The library installed, tested as C hosts take it, and taken out again; then the Rust binding with its documentation's examples.
+hosts: lib
+	@rm -rf build/prefix
+	@$(MAKE) --no-print-directory install PREFIX=$(CURDIR)/build/prefix DESTDIR=
+	tools/test-hosts build/prefix
+	@$(MAKE) --no-print-directory uninstall PREFIX=$(CURDIR)/build/prefix DESTDIR=
+	@test -z "$$(find build/prefix -type f)"
+	cargo test --offline --quiet --manifest-path bindings/rust/Cargo.toml
+
+# The library against the second interpreter: some cases that reach everything, in the gate; as many as you like.
+differential: lib
+	@cargo test --release --offline --quiet --manifest-path tests/differential/Cargo.toml
+	@cargo run --release --offline --quiet --manifest-path tests/differential/Cargo.toml -- 300000 1 --reached
+
+fuzz: lib
+	@cargo run --release --offline --quiet --manifest-path tests/differential/Cargo.toml -- $(N) $(SEED)
+
+# What stands below PREFIX: the library for C, the manual pages, and the programs where they have been built: the owner's program with
+# the wrapper that gives it an exit status before it, and the bench program by a longer name.
+to := $(DESTDIR)$(PREFIX)
+pages := $(notdir $(wildcard man/*.[1-8]))
+
+install: lib
+	@install -d $(to)/lib/pkgconfig $(to)/include $(to)/bin
+	install -m 644 build/lib/libdibol.a $(to)/lib/libdibol.a
+	install -m 644 $(INCLUDE)/dibol.h $(to)/include/dibol.h
+	@version=$$(sed -n 's/^.define DIBOL_VERSION "\(.*\)"/\1/p' $(INCLUDE)/dibol.h); \
+	sed "s|@PREFIX@|$(PREFIX)|; s|@VERSION@|$$version|" include/dibol.pc.in > $(to)/lib/pkgconfig/dibol.pc
+	@for page in $(pages); do install -D -m 644 man/$$page $(to)/share/man/man$${page##*.}/$$page; done
+	@for program in $(wildcard target/bin/boxlever); do \
+		install -m 755 tools/boxlever $(to)/bin/boxlever; install -m 755 $$program $(to)/bin/boxlever-program; done
+	@for program in $(wildcard target/bin/bench); do install -m 755 $$program $(to)/bin/boxlever-bench; done
+
+uninstall:
+	rm -f $(to)/lib/libdibol.a $(to)/include/dibol.h $(to)/lib/pkgconfig/dibol.pc
+	@rm -f $(foreach page,$(pages),$(to)/share/man/man$(subst .,,$(suffix $(page)))/$(page))
+	@rm -f $(addprefix $(to)/bin/,boxlever boxlever-program boxlever-bench)

@@ -49,7 +49,7 @@ impl Breach {
     pub fn words(self) -> &'static str {
         match self {
             Breach::Bound => "a bound is not a literal",
-            Breach::Bounds => "the bounds are wrong",
+            Breach::Bounds => "the bounds give 21",
             Breach::Outside => "a span leaves its field",
             Breach::Elements => "a decimal span is not in one element",
             Breach::MidField => "a decimal destination ends inside its element",

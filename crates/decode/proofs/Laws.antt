@@ -1,9 +1,12 @@
--- What the proofs of the decoder cite: equal parts make equal items, an entry stands at its number's place, and unused parts add up to little.
+-- What the proofs of the decoder cite: equal parts make equal items, an entry stands at its number's place, a code above 6, and unused parts add up to little.
 -- Assumes nothing.
 use mathlib.Core.Path.{_≡_, ap, _∙_}
+use mathlib.Core.Bool.{false}
 use mathlib.Core.List.{List}
-use Prim.Native.Nat.{ℕ, _+_, _*_, _≤_}
+use Prim.Native.Nat.{ℕ, _+_, _*_, _≤_, _<_}
 use native.Mathlib.Omega.{arith}
+use lib.Dec.{ltb, eqb}
+use borrow.Author.Tests.{ltb-false, ne-eqb}
 use Rattle.rules_unit.specs.declared.Parts.{Parts}
 use Rattle.rules_unit.specs.declared.Field.{Field}
 use Rattle.rules_unit.specs.declared.How.{How}
@@ -20,6 +23,17 @@ text-eq p p′ n n′ e f = cc
 
 pub reference-eq : (h : How) (f f′ : ℕ) → f ≡ f′ → item.Reference h f ≡ item.Reference h f′
 reference-eq h f f′ e = cc
+
+-- A code that is none of those up to 6 is above 6.
+next : (k code : ℕ) → k ≤ code → (code ≡ k → ⊥) → k + 1 ≤ code
+next k code h e = omega arith
+
+pub past-six : (code : ℕ) → (code ≡ 0 → ⊥) → (code ≡ 1 → ⊥) → (code ≡ 2 → ⊥) → (code ≡ 3 → ⊥) → (code ≡ 4 → ⊥) → (code ≡ 5 → ⊥) → (code ≡ 6 → ⊥) → 6 < code
+past-six code a b c d e f g = next 6 code (next 5 code (next 4 code (next 3 code (next 2 code (next 1 code (next 0 code (omega arith) a) b) c) d) e) f) g
+
+-- A code above 6 is none of those up to 6.
+pub above-six : (code k : ℕ) → 6 < code → ltb 6 k ≡ false → eqb code k ≡ false
+above-six code k h e = ne-eqb code k (λ q. omega (arith, ltb-false 6 k e))
 
 -- x and y are the code's own copies of D and of the entry's number; at is where the code finds the statement
 module _ (u : List ℕ) (p : Parts) (i : ℕ) where

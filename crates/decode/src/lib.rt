@@ -12,7 +12,7 @@ ghost use lib.ListN.{length};
 ghost use Rattle.rules_unit.specs.Decode.{Fills, wordAt, partsOf, kindOf, fieldAt, referenceAt, numberAt, textAt, itemBy, itemAt, widthOf, statementBy, statementAt, unusedOf, unusedAt, expressionsAt, literalsAt, statementsAt, fullLength, codeOf};
 
 // A byte as a word.
-fn wide(x: u8) -> u16
+pub fn wide(x: u8) -> u16
     ensures { λ r. ⌜ (r ≡ x) × (r < 256) ⌝ }
 {
     x as u16
@@ -168,19 +168,12 @@ fn text_at(s: &[u8], at: usize) -> Item
     }
 }
 
-// The item of the code given, which stands at the offset.
-fn item_by(s: &[u8], at: usize, code: u8) -> Item
-    requires { ⌜ at < length (now s) ⌝ }
+// The operator of a code above those of literals and references; Bad for a code that is none. The bytes are named for the contract alone.
+pub fn operator_at(s: &[u8], at: usize, code: u8) -> Item
+    requires { ⌜ 6 < code ⌝ }
     ensures { λ r. ⌜ r ≡ itemBy (now (s .entry)) at code ⌝ }
 {
     match code {
-        0x00 => Item::End,
-        0x01 => number_at(s, at),
-        0x02 => reference_at(s, at, How::Whole),
-        0x03 => reference_at(s, at, How::Element),
-        0x04 => reference_at(s, at, How::Range),
-        0x05 => reference_at(s, at, How::Length),
-        0x06 => text_at(s, at),
         0x10 => Item::Operator(Op::Add),
         0x11 => Item::Operator(Op::Subtract),
         0x12 => Item::Operator(Op::Multiply),
@@ -198,6 +191,23 @@ fn item_by(s: &[u8], at: usize, code: u8) -> Item
         0x1e => Item::Operator(Op::Or),
         0x1f => Item::Operator(Op::Xor),
         _ => Item::Bad,
+    }
+}
+
+// The item of the code given, which stands at the offset.
+fn item_by(s: &[u8], at: usize, code: u8) -> Item
+    requires { ⌜ at < length (now s) ⌝ }
+    ensures { λ r. ⌜ r ≡ itemBy (now (s .entry)) at code ⌝ }
+{
+    match code {
+        0x00 => Item::End,
+        0x01 => number_at(s, at),
+        0x02 => reference_at(s, at, How::Whole),
+        0x03 => reference_at(s, at, How::Element),
+        0x04 => reference_at(s, at, How::Range),
+        0x05 => reference_at(s, at, How::Length),
+        0x06 => text_at(s, at),
+        _ => operator_at(s, at, code),
     }
 }
 

@@ -5,13 +5,15 @@ use rules_run::Outcome;
 use rules_run::State;
 use rules_run::Stop;
 use rules_unit::Checked;
+use rules_unit::Stretch;
 ghost use mathlib.Core.Path.{_≡_};
 ghost use Rattle.rules_unit.specs.Checks.{checkOf};
-ghost use Rattle.rules_unit.specs.Literals.{literalOf};
+ghost use Rattle.rules_unit.specs.Literals.{stretchOf, literalOf};
 ghost use Rattle.rules_run.specs.States.{started};
 ghost use Rattle.rules_run.specs.Stops.{stopNumber};
 ghost use Rattle.rules_run.specs.Runs.{Ran, runOf};
-ghost use Rattle.rules_fence.specs.Breaches.{fenceOf, breachIn};
+ghost use Rattle.rules_fence.specs.Breaches.{breachNumber, fenceOf, breachIn};
+ghost use Rattle.words.specs.Words.{Said, saidOf};
 
 // Checks a unit by the rules 1 to 5 of document 01, in their order. The answer is Passed with the lengths of the unit's parts,
 // or Refused with the first rule that does not hold and its place: `refusal_number` and `refusal_place` give both as numbers.
@@ -41,13 +43,27 @@ pub fn breach(unit: &[u8], i: usize) -> Breach
     fence::breach(unit, i)
 }
 
+// The number of a breach, in the order of the fence rules: 0 where none is broken, 1 to 6 otherwise.
+pub fn breach_number(b: Breach) -> u8
+    ensures { λ r. ⌜ r ≡ breachNumber b ⌝ }
+{
+    fence::breach_number(b)
+}
+
 // The alpha literal of the statement i, counted from 0: the bytes of the unit itself that hold it, not a copy. It is empty unless the
 // unit passes its check and the statement is a SET whose source is an alpha literal and nothing more; an i past the last statement
 // gives an empty answer too. A literal has at least one byte, so an empty answer always means that there is none.
 pub fn literal(unit: &[u8], i: usize) -> &[u8]
     ensures { λ r. ⌜ now r ≡ literalOf (now (unit .entry)) i ⌝ }
 {
-    unit::literal(unit, i)
+    literals::literal(unit, i)
+}
+
+// Where `literal` of the statement i starts in the unit, and its length; both are 0 where there is none.
+pub fn stretch(unit: &[u8], i: usize) -> Stretch
+    ensures { λ r. ⌜ r ≡ stretchOf (now (unit .entry)) i ⌝ }
+{
+    literals::stretch(unit, i)
 }
 
 // The resume state of a run that has not begun: the first statement, and no call open.
@@ -103,4 +119,12 @@ pub fn stop_number(s: Stop) -> u8
     ensures { λ r. ⌜ r ≡ stopNumber s ⌝ }
 {
     rules_run::stop_number(s)
+}
+
+// The words of a stop's number, for people. The answer is their whole length, also where `text` is shorter; as many of their bytes as fit
+// are written at the front of `text`, and the rest of it stays as it was. A number that is no stop has no words: the answer is 0.
+pub fn words(stop: u64, text: &mut [u8]) -> usize
+    ensures { λ r. ⌜ _≡_ {A = Said} (record { size = r; text = now (text .exit) }) (saidOf stop (now (text .entry))) ⌝ }
+{
+    words::words(stop, text)
 }

@@ -1,5 +1,4 @@
 -- The values held: the code's array with their number, and the rules' list, the last held first.
---   topDown held n          the list of the first n of the array
 --   top-push                a value stored over those that an item took
 --   left-one, left-other    what is left at 00
 --   too-few, step-at, full, room-for    what an item does with the values held
@@ -31,10 +30,7 @@ use Rattle.rules_unit.specs.Expressions.{howTakes, takes, textb}
 use Rattle.rules_run.specs.declared.Worked.the-variants as worked
 use Rattle.rules_run.specs.Spans.{spanIn}
 use Rattle.rules_run.specs.Evaluation.{calc, reference, apply, halt, push, room, stepBy, left, placeBy, place, textBy}
-
-unfoldable pub topDown : List ℤ → ℕ → List ℤ
-topDown held zero = []
-topDown held (suc n) = getD held n (pos 0) ∷ topDown held n
+use Rattle.evaluate.specs.Steps.{topDown, Vals}
 
 top-length : (held : List ℤ) (n : ℕ) → length (topDown held n) ≡ n
 unfolding topDown
@@ -168,9 +164,6 @@ module _ (c : Code) (d : List ℕ) (held : List ℤ) where
   text-held p l (suc n) = rw (ne-eqb (suc n) 0 (λ e. omega arith))
 
 -- ---- the range
-
-abbrev pub Vals : List ℤ → Type 0
-Vals held = (j : ℕ) → Val (10 ^ 18) (getD held j (pos 0))
 
 pub vals-zero : (k : ℕ) → Vals (replicate k (pos 0))
 vals-zero zero j = record { small = lit< tt }

@@ -1,8 +1,8 @@
 pub mod Operators
 pub mod Literals
 pub mod Places
-pub mod Items
 pub mod Numbers
 pub mod Held
 pub mod Closing
-pub mod Turns
+pub mod Coded
+pub mod Steps

@@ -1,5 +1,3 @@
-pub mod Seeing
-pub mod Bounds
 pub mod Spans
 pub mod References
 pub mod Turns

@@ -1,82 +1,48 @@
--- References: the bytes that one names by its bounds, and the first rule that it breaks, by itself and as an item. One law for each way out of the
--- code.
+-- References: the first rule that one breaks, by itself and as an item. One law for each way out of the code.
 -- Assumes nothing.
-use mathlib.Core.Path.{_≡_, refl, sym, _∙_}
-use mathlib.Core.Bool.{Bool, true, false, false≢true}
+use mathlib.Core.Path.{_≡_, sym, _∙_}
+use mathlib.Core.Bool.{Bool, true, false}
 use mathlib.Core.List.{List, []}
-use Prim.Native.Nat.{ℕ, _+_, _^_, _≤_, _<_}
-use lib.IntN.{ℤ}
+use Prim.Native.Nat.{ℕ, _+_, _≤_, _<_}
 use borrow.Author.Tests.{ltb-true}
-use mir.Syntax.{w64}
-use mir.Val.{toZ, ofZ}
-use Rattle.rules.specs.Values.{Val}
-use Rattle.rules.proofs.Signed.{val-fits, op-plain}
 use Rattle.rules_unit.specs.declared.Parts.{Parts}
-use Rattle.rules_unit.specs.declared.Field.{Field}
 use Rattle.rules_unit.specs.declared.How.{How}
-use Rattle.rules_unit.specs.declared.How.the-variants as how
 use Rattle.rules_unit.specs.declared.Op.{Op}
 use Rattle.rules_unit.specs.declared.Item.{Item}
 use Rattle.rules_unit.specs.declared.Item.the-variants as item
-use Rattle.rules_unit.specs.Codes.{Code}
 use Rattle.rules_unit.specs.Decode.{codeOf}
 use Rattle.rules_unit.specs.Expressions.{itemb}
 use Rattle.rules_run.specs.declared.Span.{Span}
 use Rattle.rules_run.specs.declared.Span.the-variants.{At, Outside}
-use Rattle.rules_run.specs.Spans.{spanIn}
 use Rattle.rules_run.proofs.Windows.{inside-window}
 use Rattle.rules_fence.specs.declared.Breach.{Breach}
 use Rattle.rules_fence.specs.declared.Breach.the-variants as breach
 use Rattle.rules_fence.specs.declared.Seen.{Seen}
-use Rattle.rules_fence.specs.declared.Seen.the-variants as seen
 use Rattle.rules_fence.specs.Bounds.{boundedb, fixedSpan}
 use Rattle.rules_fence.specs.Breaches.{spanBreach, referenceBreach, itemBreach}
-use Rattle.fence.specs.Asked.{lastBound, startBound, Small}
-use Rattle.fence.proofs.Bounds.{start-small}
+use Rattle.bounds.specs.Asked.{lastBound, startBound}
+use Rattle.bounds.proofs.Fixed.{fixed-as}
 
--- ---- the span
+-- ---- a reference
 
-fixed-as : (c : Code) (h : How) (f : ℕ) (s : Seen) → boundedb h s ≡ true
-    → spanIn 0 (c .size) (c .field f) h (startBound h s) (lastBound s) ≡ fixedSpan c h f s
-unfolding spanIn fixedSpan
-fixed-as c how.Whole f s e = refl
-fixed-as c how.Element f seen.Nothing e = absurd (false≢true e)
-fixed-as c how.Element f (seen.One y plain) e = refl
-fixed-as c how.Element f (seen.Two x y plain) e = refl
-fixed-as c how.Range f seen.Nothing e = absurd (false≢true e)
-fixed-as c how.Range f (seen.One y plain) e = absurd (false≢true e)
-fixed-as c how.Range f (seen.Two x y plain) e = refl
-fixed-as c how.Length f seen.Nothing e = absurd (false≢true e)
-fixed-as c how.Length f (seen.One y plain) e = absurd (false≢true e)
-fixed-as c how.Length f (seen.Two x y plain) e = refl
+module _ (u : List ℕ) (p : Parts) (h : How) (f : ℕ) (s : Seen) (dest b : Bool) (eb : b ≡ boundedb h s) where
+  pub reference-unbound : b ≡ false → breach.BoundNotLiteral ≡ referenceBreach (codeOf u p) dest h f s
+  unfolding referenceBreach
+  reference-unbound e = rw (sym eb ∙ e)
 
-module _ (u : List ℕ) (p : Parts) (h : How) (f : ℕ) (s : Seen) where
-  pub fixed-found : (entry : Field) (most : ℕ) (x y : ℤ) (r : Span) → Small s → boundedb h s ≡ true → entry ≡ codeOf u p .field f → most ≡ p .d
-      → x ≡ startBound h s → y ≡ lastBound s → r ≡ spanIn 0 most entry h (toZ w64 (ofZ w64 x)) (toZ w64 (ofZ w64 y))
-      → r ≡ fixedSpan (codeOf u p) h f s
-  fixed-found entry most x y r m t ee em ex ey q =
-      let vx : Val (10 ^ 18) x = rw ex (start-small h s m) in
-      let vy : Val (10 ^ 18) y = rw ey (m .last) in
-      (rw (em, ee, ex, ey) at (q ∙ op-plain (spanIn 0 most entry h) (val-fits vx) (val-fits vy))) ∙ fixed-as (codeOf u p) h f s t
+  module _ (t : b ≡ true) (span : Span) (es : span ≡ fixedSpan (codeOf u p) h f s) where
+    -- "it must stay inside the D bytes"
+    pub found-inside : (a n : ℕ) → span ≡ At a n → a + n ≤ p .d
+    found-inside a n e =
+        inside-window 0 (p .d) (codeOf u p .field f) h (startBound h s) (lastBound s) (fixed-as (codeOf u p) h f s (sym eb ∙ t) ∙ sym es ∙ e) .1
 
-  module _ (dest b : Bool) (eb : b ≡ boundedb h s) where
-    pub reference-unbound : b ≡ false → breach.BoundNotLiteral ≡ referenceBreach (codeOf u p) dest h f s
+    pub reference-at : (a n : ℕ) (r : Breach) → span ≡ At a n → r ≡ spanBreach (codeOf u p) dest f (At a n) → r ≡ referenceBreach (codeOf u p) dest h f s
     unfolding referenceBreach
-    reference-unbound e = rw (sym eb ∙ e)
+    reference-at a n r e q = rw (sym eb ∙ t, sym es ∙ e) q
 
-    module _ (t : b ≡ true) (span : Span) (es : span ≡ fixedSpan (codeOf u p) h f s) where
-      -- "it must stay inside the D bytes"
-      pub found-inside : (a n : ℕ) → span ≡ At a n → a + n ≤ p .d
-      found-inside a n e =
-          inside-window 0 (p .d) (codeOf u p .field f) h (startBound h s) (lastBound s) (fixed-as (codeOf u p) h f s (sym eb ∙ t) ∙ sym es ∙ e) .1
-
-      pub reference-at : (a n : ℕ) (r : Breach) → span ≡ At a n → r ≡ spanBreach (codeOf u p) dest f (At a n) → r ≡ referenceBreach (codeOf u p) dest h f s
-      unfolding referenceBreach
-      reference-at a n r e q = rw (sym eb ∙ t, sym es ∙ e) q
-
-      pub reference-outside : span ≡ Outside → breach.BoundsWrong ≡ referenceBreach (codeOf u p) dest h f s
-      unfolding referenceBreach
-      reference-outside e = rw (sym eb ∙ t, sym es ∙ e)
+    pub reference-outside : span ≡ Outside → breach.BoundsWrong ≡ referenceBreach (codeOf u p) dest h f s
+    unfolding referenceBreach
+    reference-outside e = rw (sym eb ∙ t, sym es ∙ e)
 
 -- ---- an item
 

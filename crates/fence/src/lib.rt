@@ -1,5 +1,4 @@
 // The fence check: whether every statement of a unit keeps the fence rules, and which rule a statement breaks first.
-use rules::Num;
 use rules_fence::Breach;
 use rules_fence::Seen;
 use rules_fence::Verdict;
@@ -8,15 +7,12 @@ use rules_unit::Checked;
 use rules_unit::Field;
 use rules_unit::How;
 use rules_unit::Item;
-use rules_unit::Op;
 use rules_unit::Parts;
 use rules_unit::Use;
 ghost use mathlib.Core.Path.{_≡_};
-ghost use mathlib.Core.Bool.{true, false};
+ghost use mathlib.Core.Bool.{true};
 ghost use mathlib.Core.List.{[]};
 ghost use Prim.Native.Nat.{_+_, _<_, _≤_};
-ghost use Rattle.rules.specs.declared.Num.the-variants.{Value};
-ghost use Rattle.rules_unit.specs.declared.How.the-variants as how;
 ghost use Rattle.rules_unit.specs.declared.Checked.the-variants as checked;
 ghost use Rattle.rules_unit.specs.Codes.{offsetOf};
 ghost use Rattle.rules_unit.specs.Decode.{Fills, Dialect, itemsAt, codeOf};
@@ -24,10 +20,10 @@ ghost use Rattle.rules_unit.specs.Expressions.{itemb, useb};
 ghost use Rattle.rules_unit.specs.Checks.{checkOf};
 ghost use Rattle.rules_run.specs.declared.Span.the-variants as span;
 ghost use Rattle.rules_fence.specs.declared.Seen.the-variants as seen;
-ghost use Rattle.rules_fence.specs.Bounds.{isNegate, seenNumber, seenNegate, seenAfter, boundedb, fixedSpan};
 ghost use Rattle.rules_fence.specs.Fence.{destb};
 ghost use Rattle.rules_fence.specs.Breaches.{breachNumber, keepsb, endBreach, elementBreach, apartOf, apartFrom, alphaBreach, spanBreach, referenceBreach, itemBreach, breachFrom, useBreach, breachOf, verdictFrom, fenceOf, breachBy, breachIn};
-ghost use Rattle.fence.specs.Asked.{firstBound, lastBound, startBound, Small, AllKnown, closesb};
+ghost use Rattle.bounds.specs.Asked.{Small};
+ghost use Rattle.fence.specs.Asked.{AllKnown, closesb};
 
 // Whether no rule is broken.
 fn keeps(b: Breach) -> bool
@@ -59,221 +55,7 @@ pub fn breach_number(b: Breach) -> u8
     }
 }
 
-// ---- the bounds that stand directly before an item
-
-// Whether an operator is negate.
-fn is_negate(op: Op) -> bool
-    ensures { λ r. ⌜ r ≡ isNegate op ⌝ }
-{
-    match op {
-        Op::Add => false,
-        Op::Subtract => false,
-        Op::Multiply => false,
-        Op::Divide => false,
-        Op::Round => false,
-        Op::Negate => true,
-        Op::Eq => false,
-        Op::Ne => false,
-        Op::Gt => false,
-        Op::Lt => false,
-        Op::Ge => false,
-        Op::Le => false,
-        Op::Not => false,
-        Op::And => false,
-        Op::Or => false,
-        Op::Xor => false,
-    }
-}
-
-// The bounds after a literal of the value v.
-fn seen_value(v: i64, s: Seen) -> Seen
-    ensures { λ r. ⌜ r ≡ seenNumber (Value v) s ⌝ }
-{
-    match s {
-        Seen::Nothing => Seen::One {
-            last: v,
-            plain: true,
-        },
-        Seen::One { last, plain: _ } => Seen::Two {
-            first: last,
-            last: v,
-            plain: true,
-        },
-        Seen::Two {
-            first: _,
-            last,
-            plain: _,
-        } => Seen::Two {
-            first: last,
-            last: v,
-            plain: true,
-        },
-    }
-}
-
-// The bounds after a literal; a literal that is no number is no bound.
-fn seen_number(n: Num, s: Seen) -> Seen
-    ensures { λ r. ⌜ r ≡ seenNumber n s ⌝ }
-{
-    match n {
-        Num::Value(v) => seen_value(v, s),
-        Num::Failed(_) => Seen::Nothing,
-    }
-}
-
-// The bounds after a negate: it turns a plain literal, and a second negate leaves no bound.
-fn seen_negate(s: Seen) -> Seen
-    requires { ⌜ Small s ⌝ }
-    ensures { λ r. ⌜ r ≡ seenNegate s ⌝ }
-{
-    match s {
-        Seen::Nothing => Seen::Nothing,
-        Seen::One { last, plain } => {
-            if plain {
-                return Seen::One {
-                    last: number::negate(last),
-                    plain: false, // A second negate is no part of a bound.
-                };
-            }
-            Seen::Nothing
-        }
-        Seen::Two { first, last, plain } => {
-            if plain {
-                return Seen::Two {
-                    first: first,
-                    last: number::negate(last),
-                    plain: false,
-                };
-            }
-            Seen::Nothing
-        }
-    }
-}
-
-// The bounds after an item.
-fn seen_after(unit: &[u8], parts: Parts, s: Seen, item: Item) -> Seen
-    requires { ⌜ Fills (now unit) parts ⌝ }
-    requires { ⌜ Dialect parts ⌝ }
-    requires { ⌜ Small s ⌝ }
-    ensures { λ r. ⌜ r ≡ seenAfter (codeOf (now (unit .entry)) parts) s item ⌝ }
-{
-    match item {
-        Item::Number { place, len } => {
-            seen_number(evaluate::literal_number(unit, parts, place, len), s)
-        }
-        Item::Reference { how: _, field: _ } => Seen::Nothing,
-        Item::Text { place: _, len: _ } => Seen::Nothing,
-        Item::Operator(op) => {
-            if is_negate(op) {
-                return seen_negate(s);
-            }
-            Seen::Nothing
-        }
-        Item::End => Seen::Nothing,
-        Item::Bad => Seen::Nothing,
-    }
-}
-
-// Whether there is a bound.
-fn has_one(s: Seen) -> bool
-    ensures { λ r. ⌜ r ≡ boundedb how.Element s ⌝ }
-{
-    match s {
-        Seen::Nothing => false,
-        Seen::One { last: _, plain: _ } => true,
-        Seen::Two {
-            first: _,
-            last: _,
-            plain: _,
-        } => true,
-    }
-}
-
-// Whether there are two bounds.
-fn has_two(s: Seen) -> bool
-    ensures { λ r. ⌜ r ≡ boundedb how.Range s ⌝ }
-{
-    match s {
-        Seen::Nothing => false,
-        Seen::One { last: _, plain: _ } => false,
-        Seen::Two {
-            first: _,
-            last: _,
-            plain: _,
-        } => true,
-    }
-}
-
-// Whether there are as many bounds as a reference takes.
-fn bounded(how: How, s: Seen) -> bool
-    ensures { λ r. ⌜ r ≡ boundedb how s ⌝ }
-{
-    match how {
-        How::Whole => true,
-        How::Element => has_one(s),
-        How::Range => has_two(s),
-        How::Length => has_two(s),
-    }
-}
-
-// The bound before the last; 0 where there is none.
-fn first_bound(s: Seen) -> i64
-    ensures { λ r. ⌜ r ≡ firstBound s ⌝ }
-{
-    match s {
-        Seen::Nothing => 0,
-        Seen::One { last: _, plain: _ } => 0,
-        Seen::Two {
-            first,
-            last: _,
-            plain: _,
-        } => first,
-    }
-}
-
-// The last bound; 0 where there is none.
-fn last_bound(s: Seen) -> i64
-    ensures { λ r. ⌜ r ≡ lastBound s ⌝ }
-{
-    match s {
-        Seen::Nothing => 0,
-        Seen::One { last, plain: _ } => last,
-        Seen::Two {
-            first: _,
-            last,
-            plain: _,
-        } => last,
-    }
-}
-
-// The bound that a reference starts from.
-fn start_bound(how: How, s: Seen) -> i64
-    ensures { λ r. ⌜ r ≡ startBound how s ⌝ }
-{
-    match how {
-        How::Whole => first_bound(s),
-        How::Element => last_bound(s),
-        How::Range => first_bound(s),
-        How::Length => first_bound(s),
-    }
-}
-
 // ---- one span
-
-// The bytes that a reference names by its bounds; Outside where 21 would be given.
-fn fixed_span(unit: &[u8], parts: Parts, how: How, field: u16, s: Seen) -> Span
-    requires { ⌜ Fills (now unit) parts ⌝ }
-    requires { ⌜ field < parts .f ⌝ }
-    requires { ⌜ Small s ⌝ }
-    requires { ⌜ boundedb how s ≡ true ⌝ }
-    ensures { λ r. ⌜ r ≡ fixedSpan (codeOf (now (unit .entry)) parts) how field s ⌝ }
-{
-    let entry = decode::field(unit, parts, field);
-    let most = decode::long(parts.d);
-    let x = start_bound(how, s);
-    let y = last_bound(s);
-    spans::span_in(0, most, entry, how, x, y)
-}
 
 // What a decimal span breaks that ends at `last`, where the element that it starts in ends at e.
 fn end_breach(dest: bool, e: usize, last: usize) -> Breach
@@ -322,7 +104,7 @@ fn apart_of(field: Field, a: usize, n: usize) -> bool
     if a + n <= decode::long(field.offset) {
         return true;
     }
-    unit::end_of(field) <= a
+    entries::end_of(field) <= a
 }
 
 // Whether no decimal field shares a byte with the n bytes from a on.
@@ -368,7 +150,7 @@ fn span_breach(unit: &[u8], parts: Parts, dest: bool, field: u16, a: usize, n: u
     if a < decode::long(entry.offset) {
         return Breach::LeavesField;
     }
-    if unit::end_of(entry) < a + n {
+    if entries::end_of(entry) < a + n {
         return Breach::LeavesField;
     }
     if sorts::is_decimal(kind) {
@@ -386,10 +168,10 @@ fn reference_breach(unit: &[u8], parts: Parts, dest: bool, how: How, field: u16,
     requires { ⌜ Small s ⌝ }
     ensures { λ r. ⌜ r ≡ referenceBreach (codeOf (now (unit .entry)) parts) dest how field s ⌝ }
 {
-    if bounded(how, s) {} else {
+    if bounds::bounded(how, s) {} else {
         return Breach::BoundNotLiteral;
     }
-    match fixed_span(unit, parts, how, field, s) {
+    match bounds::fixed_span(unit, parts, how, field, s) {
         Span::At { start, len } => span_breach(unit, parts, dest, field, start, len),
         Span::Outside => Breach::BoundsWrong,
     }
@@ -455,7 +237,7 @@ fn breach_in(unit: &[u8], parts: Parts, dest: bool, es: &[u8], at: usize) -> Bre
         if !keeps(b) {
             return b;
         }
-        s = seen_after(unit, parts, s, item);
+        s = bounds::seen_after(unit, parts, s, item);
         i = next;
     }
     Breach::None
@@ -491,7 +273,7 @@ fn use_breach(unit: &[u8], parts: Parts, u: Use) -> Breach
 }
 
 // What the statement i of a unit that passed its check breaks first: its uses in order, their references left to right.
-pub fn breach_of(unit: &[u8], parts: Parts, i: u16) -> Breach
+fn breach_of(unit: &[u8], parts: Parts, i: u16) -> Breach
     requires { ⌜ checkOf (now unit) ≡ checked.Passed parts ⌝ }
     requires { ⌜ i < parts .n ⌝ }
     ensures { λ r. ⌜ r ≡ breachOf (codeOf (now (unit .entry)) parts) i ⌝ }

@@ -3,6 +3,7 @@ pub mod BenchValues
 pub mod Manual
 pub mod Units
 pub mod Settled
+pub mod Hosts
 pub mod Demand1
 pub mod Demand2
 pub mod Demand3

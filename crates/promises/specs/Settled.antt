@@ -9,17 +9,26 @@
 --   start-settled      the state that `dibol::start` answers
 --   run-settled        the outcome of `dibol::run` (stop, place, count and next state), and each byte of the data buffer
 --   number-settled     the number that `dibol::stop_number` answers
+--   breach-number-settled, stretch-settled    the answers of `dibol::breach_number` and `dibol::stretch`
+--   words-settled      the length that `dibol::words` answers, and each byte of the text
+--   c-run-settled      the stop that `dibol_run` answers, each byte of the data, and each number of the state and of the answer
+--   c-check-settled, c-fence-settled, c-literal-settled    what `dibol_check`, `dibol_fence` and `dibol_literal` answer, and each number of the answer
+--   c-words-settled    as words-settled, of `dibol_words`
+--   c-breach-settled, c-version-settled, c-state-len-settled    the numbers that `dibol_breach`, `dibol_version` and `dibol_state_len` answer
 -- Assumes nothing.
 use Prim.Native.Nat.{ℕ}
 use mathlib.Core.Path.{_≡_, sym, ap, _∙_}
 use denote.Ref.{now}
 use contract.Lifetimes
 use Rattle.rules_unit.specs.declared.Checked.{Checked}
+use Rattle.rules_unit.specs.declared.Stretch.{Stretch}
 use Rattle.rules_run.specs.declared.State.{State}
 use Rattle.rules_run.specs.declared.Outcome.{Outcome}
 use Rattle.rules_run.specs.Runs.{Ran}
 use Rattle.rules_fence.specs.declared.Breach.{Breach}
 use Rattle.rules_fence.specs.declared.Verdict.{Verdict}
+use Rattle.words.specs.Words.{Said}
+use Rattle.dibol_c.specs.Calls.{Told, Handed}
 use Rattle.dibol.proofs.check.Reads as check
 use Rattle.dibol.proofs.fence.Reads as fence
 use Rattle.dibol.proofs.breach.Reads as breach
@@ -27,6 +36,17 @@ use Rattle.dibol.proofs.literal.Reads as literal
 use Rattle.dibol.proofs.start.Reads as start
 use Rattle.dibol.proofs.run.Reads as run
 use Rattle.dibol.proofs.stop_number.Reads as stop-number
+use Rattle.dibol.proofs.breach_number.Reads as breach-number
+use Rattle.dibol.proofs.stretch.Reads as stretch
+use Rattle.dibol.proofs.words.Reads as words
+use Rattle.dibol_c.proofs.dibol_run.Reads as c-run
+use Rattle.dibol_c.proofs.dibol_check.Reads as c-check
+use Rattle.dibol_c.proofs.dibol_fence.Reads as c-fence
+use Rattle.dibol_c.proofs.dibol_breach.Reads as c-breach
+use Rattle.dibol_c.proofs.dibol_literal.Reads as c-literal
+use Rattle.dibol_c.proofs.dibol_words.Reads as c-words
+use Rattle.dibol_c.proofs.dibol_version.Reads as c-version
+use Rattle.dibol_c.proofs.dibol_state_len.Reads as c-state-len
 
 pub check-settled : (κs : Lifetimes.Lfts 1) (a : _) (r r′ : Checked) (s s′ : _) → check.Post κs a r s → check.Post κs a r′ s′ → r ≡ r′
 check-settled κs a r r′ s s′ p q = p ∙ sym q
@@ -48,3 +68,45 @@ run-settled κs a r r′ s s′ p q = (ap (λ (x : Ran). x .outcome) (p ∙ sym 
 
 pub number-settled : (κs : Lifetimes.Lfts 0) (a : _) (r r′ : ℕ) (s s′ : _) → stop-number.Post κs a r s → stop-number.Post κs a r′ s′ → r ≡ r′
 number-settled κs a r r′ s s′ p q = p ∙ sym q
+
+pub breach-number-settled : (κs : Lifetimes.Lfts 0) (a : _) (r r′ : ℕ) (s s′ : _) → breach-number.Post κs a r s → breach-number.Post κs a r′ s′ → r ≡ r′
+breach-number-settled κs a r r′ s s′ p q = p ∙ sym q
+
+pub stretch-settled : (κs : Lifetimes.Lfts 1) (a : _) (r r′ : Stretch) (s s′ : _) → stretch.Post κs a r s → stretch.Post κs a r′ s′ → r ≡ r′
+stretch-settled κs a r r′ s s′ p q = p ∙ sym q
+
+pub words-settled : (κs : Lifetimes.Lfts 1) (a : _) (r r′ : ℕ) (s s′ : _) → words.Post κs a r s → words.Post κs a r′ s′ → (r ≡ r′) × (now (s .1 .0) ≡ now (s′ .1 .0))
+words-settled κs a r r′ s s′ p q = (ap (λ (x : Said). x .size) (p ∙ sym q), ap (λ (x : Said). x .text) (p ∙ sym q))
+
+-- ---- the functions for C
+
+pub c-run-settled : (κs : Lifetimes.Lfts 4) (a : _) (r r′ : ℕ) (s s′ : _) → c-run.Post κs a r s → c-run.Post κs a r′ s′
+    → (r ≡ r′) × (now (s .1 .0) ≡ now (s′ .1 .0)) × (now (s .1 .1 .0) ≡ now (s′ .1 .1 .0)) × (now (s .1 .1 .1 .1 .0) ≡ now (s′ .1 .1 .1 .1 .0))
+c-run-settled κs a r r′ s s′ p q = (
+  ap (λ (x : Handed). x .stop) (p ∙ sym q),
+  ap (λ (x : Handed). x .bytes) (p ∙ sym q),
+  ap (λ (x : Handed). x .state) (p ∙ sym q),
+  ap (λ (x : Handed). x .answer) (p ∙ sym q),
+)
+
+pub c-check-settled : (κs : Lifetimes.Lfts 2) (a : _) (r r′ : ℕ) (s s′ : _) → c-check.Post κs a r s → c-check.Post κs a r′ s′ → (r ≡ r′) × (now (s .1 .0) ≡ now (s′ .1 .0))
+c-check-settled κs a r r′ s s′ p q = (ap (λ (x : Told). x .value) (p ∙ sym q), ap (λ (x : Told). x .answer) (p ∙ sym q))
+
+pub c-fence-settled : (κs : Lifetimes.Lfts 2) (a : _) (r r′ : ℕ) (s s′ : _) → c-fence.Post κs a r s → c-fence.Post κs a r′ s′ → (r ≡ r′) × (now (s .1 .0) ≡ now (s′ .1 .0))
+c-fence-settled κs a r r′ s s′ p q = (ap (λ (x : Told). x .value) (p ∙ sym q), ap (λ (x : Told). x .answer) (p ∙ sym q))
+
+pub c-breach-settled : (κs : Lifetimes.Lfts 1) (a : _) (r r′ : ℕ) (s s′ : _) → c-breach.Post κs a r s → c-breach.Post κs a r′ s′ → r ≡ r′
+c-breach-settled κs a r r′ s s′ p q = p ∙ sym q
+
+pub c-literal-settled : (κs : Lifetimes.Lfts 2) (a : _) (r r′ : ℕ) (s s′ : _) → c-literal.Post κs a r s → c-literal.Post κs a r′ s′
+    → (r ≡ r′) × (now (s .1 .1 .0) ≡ now (s′ .1 .1 .0))
+c-literal-settled κs a r r′ s s′ p q = (ap (λ (x : Told). x .value) (p ∙ sym q), ap (λ (x : Told). x .answer) (p ∙ sym q))
+
+pub c-words-settled : (κs : Lifetimes.Lfts 1) (a : _) (r r′ : ℕ) (s s′ : _) → c-words.Post κs a r s → c-words.Post κs a r′ s′ → (r ≡ r′) × (now (s .1 .0) ≡ now (s′ .1 .0))
+c-words-settled κs a r r′ s s′ p q = (ap (λ (x : Said). x .size) (p ∙ sym q), ap (λ (x : Said). x .text) (p ∙ sym q))
+
+pub c-version-settled : (κs : Lifetimes.Lfts 0) (a : _) (r r′ : ℕ) (s s′ : _) → c-version.Post κs a r s → c-version.Post κs a r′ s′ → r ≡ r′
+c-version-settled κs a r r′ s s′ p q = p ∙ sym q
+
+pub c-state-len-settled : (κs : Lifetimes.Lfts 0) (a : _) (r r′ : ℕ) (s s′ : _) → c-state-len.Post κs a r s → c-state-len.Post κs a r′ s′ → r ≡ r′
+c-state-len-settled κs a r r′ s s′ p q = p ∙ sym q

@@ -38,7 +38,7 @@ fn digits(s: &[u8]) -> bool
 }
 
 // How many values an operator takes.
-fn op_takes(op: Op) -> u16
+pub fn op_takes(op: Op) -> u16
     ensures { λ r. ⌜ r ≡ opTakes op ⌝ }
 {
     match op {

@@ -8,6 +8,7 @@ ghost use lib.IntN.{pos, _-ℤ_};
 ghost use lib.ListN.{length, take, drop};
 ghost use Rattle.rules.specs.Values.{Val};
 ghost use Rattle.rules.specs.Moves.{fitted};
+ghost use Rattle.rules_unit.specs.declared.How.the-variants as how;
 ghost use Rattle.rules_run.specs.Spans.{within, elementSpan, rangeSpan, lengthSpan, spanIn};
 ghost use Rattle.rules_run.specs.Turns.{stored};
 
@@ -121,6 +122,13 @@ fn length_span(lo: usize, hi: usize, offset: usize, p: i64, n: i64) -> Span
         return inside(lo, hi, offset + a - k, k);
     }
     inside(lo, hi, offset + (a - 1), k)
+}
+
+// The span of a reference without bounds, the field's first element, inside the window from lo up to hi.
+pub fn first_in(lo: usize, hi: usize, field: Field) -> Span
+    ensures { λ r. ⌜ r ≡ spanIn lo hi field how.Whole (pos 0) (pos 0) ⌝ }
+{
+    inside(lo, hi, field.offset as usize, field.size as usize)
 }
 
 // The span of a reference to a field with the bounds x and y, inside the window from lo up to hi.

@@ -1,4 +1,2 @@
-pub mod Entries
 pub mod Scans
 pub mod Whole
-pub mod Stretches

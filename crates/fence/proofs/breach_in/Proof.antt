@@ -12,8 +12,9 @@ use Rattle.rules_unit.specs.Decode.{itemsAt, codeOf}
 use Rattle.rules_unit.proofs.Items.{width-some, width-most}
 use Rattle.rules_fence.specs.declared.Seen.the-variants as seen
 use Rattle.rules_fence.specs.Breaches.{breachFrom}
-use Rattle.fence.specs.Asked.{Small, AllKnown}
-use Rattle.fence.proofs.Seeing.{small-none, small-next}
+use Rattle.bounds.specs.Asked.{Small}
+use Rattle.bounds.proofs.Seeing.{small-none, small-next}
+use Rattle.fence.specs.Asked.{AllKnown}
 use Rattle.fence.proofs.Turns.{turn-beyond, turn-closes, turn-breaks, turn-on, item-known, next-known}
 use Rattle.fence.proofs.breach_in.Statement.{statement}
 use Rattle.fence.proofs.breach_in.Tie as tie

@@ -1,0 +1,71 @@
+//! The C functions of `dibol.h`, declared.
+//!
+//! Nothing here is safe to call with pointers that do not fit their lengths; the crate `dibol` has
+//! the same functions for Rust's slices. Numbers of `size_t` are `usize` here.
+//!
+//! What every caller owes: each pointer is valid for its length, the lent buffers do not overlap,
+//! and nobody writes to them during the call. Of an answer, as many numbers are written as fit into
+//! the `answer_len` that are lent; the rest of a longer buffer stays as it was.
+
+#![no_std]
+#![warn(missing_docs)]
+
+/// How many numbers a resume state has: the statement, the open calls and 50 return numbers.
+pub const DIBOL_STATE_LEN: usize = 52;
+
+extern "C" {
+    /// The version of the library: 100 is 0.1.0.
+    pub fn dibol_version() -> u64;
+
+    /// How many numbers the library's resume state has.
+    pub fn dibol_state_len() -> u64;
+
+    /// Checks a unit. It gives 0, or the refusal 1 to 5; the answer is the stop, the place and D.
+    pub fn dibol_check(
+        unit: *const u8,
+        unit_len: usize,
+        answer: *mut u64,
+        answer_len: usize,
+    ) -> u64;
+
+    /// Runs a unit over a data buffer, from a resume state and for at most `allowance` statements.
+    /// It gives the stop; the answer is the stop, the place and the count. The state is rewritten
+    /// with the next one. After 1 to 7 neither the bytes nor the state are changed.
+    pub fn dibol_run(
+        unit: *const u8,
+        unit_len: usize,
+        bytes: *mut u8,
+        bytes_len: usize,
+        state: *mut u64,
+        state_len: usize,
+        allowance: u64,
+        answer: *mut u64,
+        answer_len: usize,
+    ) -> u64;
+
+    /// The fence check. It gives 0 for yes, 1 for no and 2 for refused; the answer is the statement
+    /// and the number of its breach for a no, the stop and the place for a refusal.
+    pub fn dibol_fence(
+        unit: *const u8,
+        unit_len: usize,
+        answer: *mut u64,
+        answer_len: usize,
+    ) -> u64;
+
+    /// The number, 1 to 6, of the fence rule that a statement breaks first, or 0 for none.
+    pub fn dibol_breach(unit: *const u8, unit_len: usize, statement: usize) -> u64;
+
+    /// The alpha literal of a statement. It gives the length, 0 where there is none; the answer is
+    /// its offset in the unit and its length.
+    pub fn dibol_literal(
+        unit: *const u8,
+        unit_len: usize,
+        statement: usize,
+        answer: *mut u64,
+        answer_len: usize,
+    ) -> u64;
+
+    /// The words of a stop. It gives their whole length, 0 for a number that is no stop, and writes
+    /// as many of their bytes as fit; no zero byte is added.
+    pub fn dibol_words(stop: u64, text: *mut u8, room: usize) -> u64;
+}

@@ -1,0 +1,102 @@
+//! What the fence check answers.
+
+use std::fmt;
+
+/// The answer of the fence check for a unit that passes checks 1 to 5.
+#[derive(Clone, Copy, Debug, PartialEq, Eq, Hash)]
+pub enum Verdict {
+    /// Every statement keeps the fence rules.
+    Yes,
+    /// A statement breaks a rule.
+    No {
+        /// The first statement that does.
+        statement: usize,
+        /// The rule that it breaks first.
+        breach: Breach,
+    },
+}
+
+impl Verdict {
+    /// Whether every statement keeps the fence rules.
+    pub fn is_yes(self) -> bool {
+        self == Verdict::Yes
+    }
+}
+
+impl fmt::Display for Verdict {
+    fn fmt(&self, f: &mut fmt::Formatter<'_>) -> fmt::Result {
+        match self {
+            Verdict::Yes => f.write_str("yes"),
+            Verdict::No { statement, breach } => write!(f, "no {statement}: {breach}"),
+        }
+    }
+}
+
+/// Why a statement breaks the fence rules.
+///
+/// ```
+/// use dibol::Breach;
+/// assert_eq!(Breach::Outside.number(), 3);
+/// assert_eq!(Breach::Outside.to_string(), "a span leaves its field");
+/// ```
+#[derive(Clone, Copy, Debug, PartialEq, Eq, Hash)]
+#[non_exhaustive]
+pub enum Breach {
+    /// 1: a bound is neither a number literal nor one followed by negate, standing directly before.
+    Bound,
+    /// 2: the bounds are ones that 21 is given for.
+    Bounds,
+    /// 3: the span does not lie inside the field's size x count bytes.
+    Outside,
+    /// 4: a decimal span does not lie in one element.
+    Elements,
+    /// 5: a decimal destination does not end at its element's last character.
+    MidField,
+    /// 6: an alpha destination shares a byte with a decimal field.
+    OverDecimal,
+    /// A number that this version of the crate has no name for.
+    Other(u64),
+}
+
+impl Breach {
+    /// The breach of a number; none for 0, which stands for no breach.
+    pub fn from_number(number: u64) -> Option<Breach> {
+        Some(match number {
+            0 => return None,
+            1 => Breach::Bound,
+            2 => Breach::Bounds,
+            3 => Breach::Outside,
+            4 => Breach::Elements,
+            5 => Breach::MidField,
+            6 => Breach::OverDecimal,
+            _ => Breach::Other(number),
+        })
+    }
+
+    /// The number of the rule, in the order in which document 01 lists them.
+    pub fn number(self) -> u64 {
+        match self {
+            Breach::Bound => 1,
+            Breach::Bounds => 2,
+            Breach::Outside => 3,
+            Breach::Elements => 4,
+            Breach::MidField => 5,
+            Breach::OverDecimal => 6,
+            Breach::Other(number) => number,
+        }
+    }
+}
+
+impl fmt::Display for Breach {
+    fn fmt(&self, f: &mut fmt::Formatter<'_>) -> fmt::Result {
+        f.write_str(match self {
+            Breach::Bound => "a bound is not a literal",
+            Breach::Bounds => "the bounds are wrong",
+            Breach::Outside => "a span leaves its field",
+            Breach::Elements => "a decimal span is not in one element",
+            Breach::MidField => "a decimal destination ends inside its element",
+            Breach::OverDecimal => "an alpha destination shares a byte with a decimal field",
+            Breach::Other(number) => return write!(f, "breach {number}"),
+        })
+    }
+}

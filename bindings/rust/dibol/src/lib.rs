@@ -1,0 +1,54 @@
+//! Coded DIBOL units, checked and run by the proved runtime.
+//!
+//! A host lends a coded unit and a data buffer as slices of bytes. [`Unit::check`] refuses whatever
+//! is no sound unit; a [`Unit`] borrows the bytes it was made of, so they cannot change under a run.
+//! [`Unit::run`] works over the host's buffer for as many statements as are allowed, and hands back
+//! the [`State`] to go on from.
+//!
+//! ```
+//! use dibol::{State, Stop, Unit};
+//!
+//! // INCR of a decimal field that holds "41", then STOP.
+//! let bytes = *b"41\x01\0\0\0\0\x02\0\x01\x02\0\0\0\
+//!     \x03\0\0\0\0\0\0\0\x0B\0\0\0\0\0\0\0\0\x02\0\x01\0\x04\0\0\0\x02DB";
+//!
+//! let unit = Unit::check(&bytes)?;
+//! let mut data = unit.image().to_vec();
+//! let outcome = unit.run(&mut data, State::START, 100_000);
+//!
+//! assert_eq!(outcome.stop, Stop::End);
+//! assert_eq!((outcome.place, outcome.count), (2, 2));
+//! assert_eq!(data, b"42");
+//! # Ok::<(), dibol::Refusal>(())
+//! ```
+//!
+//! The functions of the C library stand in [`ffi`]; they are proved, and this crate, which only
+//! lends them slices, is tested.
+
+#![warn(missing_docs)]
+
+mod fence;
+mod state;
+mod stop;
+mod unit;
+
+pub use dibol_sys as ffi;
+pub use fence::{Breach, Verdict};
+pub use state::State;
+pub use stop::{Refusal, Stop};
+pub use unit::{Outcome, Unit};
+
+/// The version of the library that is linked: 100 is 0.1.0.
+///
+/// ```
+/// assert_eq!(dibol::version() / 100, 1);
+/// ```
+pub fn version() -> u64 {
+    // SAFETY: the function takes nothing and reads nothing.
+    unsafe { ffi::dibol_version() }
+}
+
+/// The Rust of docs/HOST.md, compiled and run with the other examples.
+#[cfg(doctest)]
+#[doc = include_str!("../../../../docs/HOST.md")]
+struct HostPage;

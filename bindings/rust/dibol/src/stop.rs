@@ -1,0 +1,187 @@
+//! Why a call ended: the stops of document 01, with their numbers and words.
+
+use crate::ffi;
+use std::error::Error;
+use std::fmt;
+
+/// Why a call ended.
+///
+/// Shown by `{}`, it is the library's own words for it.
+///
+/// ```
+/// use dibol::Stop;
+/// assert_eq!(Stop::ZeroDivisor.number(), 23);
+/// assert_eq!(Stop::from(23), Stop::ZeroDivisor);
+/// assert!(!Stop::ZeroDivisor.to_string().is_empty());
+/// ```
+#[derive(Clone, Copy, Debug, PartialEq, Eq, Hash)]
+#[non_exhaustive]
+pub enum Stop {
+    /// 0: the end is reached.
+    End,
+    /// 1: the length, the mark or the filling of the unit is wrong.
+    Form,
+    /// 2: the length of a part is outside its range.
+    Range,
+    /// 3: a field entry breaks its rule.
+    Field,
+    /// 4: an expression is badly formed, or of the wrong sort for its use.
+    Expression,
+    /// 5: a statement's code, zero part, count or target is wrong.
+    Statement,
+    /// 6: the data buffer is not as long as the unit's image.
+    DataLength,
+    /// 7: the resume state is unsound.
+    State,
+    /// 20: more than 18 digits.
+    Digits,
+    /// 21: a subscript or substring.
+    Subscript,
+    /// 22: a bad digit.
+    BadDigit,
+    /// 23: a zero divisor.
+    ZeroDivisor,
+    /// 24: a CALL with 50 calls open.
+    Call,
+    /// 25: a RETURN with none open.
+    Return,
+    /// 26: a rounding count outside 0 to 18.
+    Rounding,
+    /// 30: the allowance is spent before the end; the run can go on.
+    Allowance,
+    /// A number that this version of the crate has no name for.
+    Other(u64),
+}
+
+/// The stops that have a name, each with its number.
+const NAMED: [(u64, Stop); 16] = [
+    (0, Stop::End),
+    (1, Stop::Form),
+    (2, Stop::Range),
+    (3, Stop::Field),
+    (4, Stop::Expression),
+    (5, Stop::Statement),
+    (6, Stop::DataLength),
+    (7, Stop::State),
+    (20, Stop::Digits),
+    (21, Stop::Subscript),
+    (22, Stop::BadDigit),
+    (23, Stop::ZeroDivisor),
+    (24, Stop::Call),
+    (25, Stop::Return),
+    (26, Stop::Rounding),
+    (30, Stop::Allowance),
+];
+
+impl Stop {
+    /// Document 01's number of the stop.
+    pub fn number(self) -> u64 {
+        if let Stop::Other(number) = self {
+            return number;
+        }
+        let named = NAMED.iter().find(|(_, stop)| *stop == self);
+        named.expect("every other stop is named").0
+    }
+
+    /// Whether the call was refused, 1 to 7: nothing was changed.
+    pub fn is_refusal(self) -> bool {
+        (1..=7).contains(&self.number())
+    }
+
+    /// Whether a statement could not be completed, 20 to 26: it has changed nothing.
+    pub fn is_run_error(self) -> bool {
+        (20..=26).contains(&self.number())
+    }
+}
+
+impl From<u64> for Stop {
+    fn from(number: u64) -> Stop {
+        let named = NAMED.iter().find(|(named, _)| *named == number);
+        named.map_or(Stop::Other(number), |(_, stop)| *stop)
+    }
+}
+
+impl fmt::Display for Stop {
+    fn fmt(&self, f: &mut fmt::Formatter<'_>) -> fmt::Result {
+        let words = words(self.number());
+        if words.is_empty() {
+            return write!(f, "stop {}", self.number());
+        }
+        f.pad(&words)
+    }
+}
+
+/// The library's words for a stop number; none for a number that is no stop.
+fn words(stop: u64) -> String {
+    let mut text = vec![0; words_into(stop, &mut [])];
+    words_into(stop, &mut text);
+    String::from_utf8_lossy(&text).into_owned()
+}
+
+/// Writes as much of the words as fits, and gives their whole length.
+fn words_into(stop: u64, text: &mut [u8]) -> usize {
+    // SAFETY: the pointer is that of a slice, lent for its length.
+    let length = unsafe { ffi::dibol_words(stop, text.as_mut_ptr(), text.len()) };
+    length as usize
+}
+
+/// A unit that is refused: the stop, 1 to 5, and the place it names.
+///
+/// ```
+/// use dibol::{Stop, Unit};
+/// let refusal = Unit::check(b"no unit at all").unwrap_err();
+/// assert_eq!((refusal.stop, refusal.place), (Stop::Form, 0));
+/// ```
+#[derive(Clone, Copy, Debug, PartialEq, Eq, Hash)]
+pub struct Refusal {
+    /// Why the unit is refused.
+    pub stop: Stop,
+    /// The field entry for 3, the statement for 4 and 5, and 0 for 1 and 2.
+    pub place: usize,
+}
+
+impl fmt::Display for Refusal {
+    fn fmt(&self, f: &mut fmt::Formatter<'_>) -> fmt::Result {
+        let number = self.stop.number();
+        write!(f, "refused {number} at {}: {}", self.place, self.stop)
+    }
+}
+
+impl Error for Refusal {}
+
+#[cfg(test)]
+mod tests {
+    use super::*;
+
+    #[test]
+    fn numbers_and_names_go_both_ways() {
+        for number in 0..=100 {
+            assert_eq!(Stop::from(number).number(), number);
+        }
+        let named = |number: &u64| !matches!(Stop::from(*number), Stop::Other(_));
+        let numbers: Vec<u64> = (0..=100).filter(named).collect();
+        let paper = [0, 1, 2, 3, 4, 5, 6, 7, 20, 21, 22, 23, 24, 25, 26, 30];
+        assert_eq!(numbers, paper);
+    }
+
+    #[test]
+    fn each_stop_has_words_of_its_own() {
+        let mut all: Vec<String> = NAMED.iter().map(|(_, stop)| stop.to_string()).collect();
+        all.sort();
+        all.dedup();
+        assert_eq!(all.len(), NAMED.len());
+        assert!(all.iter().all(|words| words.len() > 5 && words.is_ascii()));
+        assert_eq!(Stop::Other(99).to_string(), "stop 99");
+    }
+
+    #[test]
+    fn sorts_of_stop() {
+        let numbers = |test: fn(Stop) -> bool| -> Vec<u64> {
+            (0..=40)
+                .filter(|&number| test(Stop::from(number)))
+                .collect()
+        };
+        assert_eq!(numbers(Stop::is_refusal), [1, 2, 3, 4, 5, 6, 7]);
+        assert_eq!(numbers(Stop::is_run_error), [20, 21, 22, 23, 24, 25, 26]);
+    }
+}

@@ -1,0 +1,167 @@
+//! A checked unit, and what can be asked of it.
+
+use crate::fence::{Breach, Verdict};
+use crate::ffi;
+use crate::state::State;
+use crate::stop::{Refusal, Stop};
+
+/// A coded unit that has passed checks 1 to 5. It borrows the unit's bytes.
+#[derive(Clone, Copy, Debug, PartialEq, Eq)]
+pub struct Unit<'a> {
+    bytes: &'a [u8],
+    image_len: usize,
+}
+
+/// How a run stopped.
+#[derive(Clone, Copy, Debug, PartialEq, Eq)]
+pub struct Outcome {
+    /// Why it stopped.
+    pub stop: Stop,
+    /// The place that the stop names: the end, the statement of a run error, or the next statement.
+    pub place: usize,
+    /// The number of statements that this call completed.
+    pub count: u64,
+    /// The state to go on from; after a refusal, the one that was given.
+    pub state: State,
+}
+
+impl<'a> Unit<'a> {
+    /// Checks a unit by the rules 1 to 5 of document 01, in their order.
+    pub fn check(bytes: &'a [u8]) -> Result<Unit<'a>, Refusal> {
+        let mut answer = [0; 3];
+        // SAFETY: both pointers are those of slices, lent for their lengths.
+        let stop = unsafe {
+            ffi::dibol_check(
+                bytes.as_ptr(),
+                bytes.len(),
+                answer.as_mut_ptr(),
+                answer.len(),
+            )
+        };
+        let [_, place, image_len] = answer.map(|number| number as usize);
+        match Stop::from(stop) {
+            Stop::End => Ok(Unit { bytes, image_len }),
+            stop => Err(Refusal { stop, place }),
+        }
+    }
+
+    /// The bytes that the unit was made of.
+    pub fn bytes(&self) -> &'a [u8] {
+        self.bytes
+    }
+
+    /// The data image. A data buffer has as many bytes, and mostly begins as a copy of them.
+    pub fn image(&self) -> &'a [u8] {
+        &self.bytes[..self.image_len]
+    }
+
+    /// N, the number of statements.
+    pub fn statements(&self) -> usize {
+        let trailer = &self.bytes[self.bytes.len() - 12..];
+        usize::from(trailer[8]) << 8 | usize::from(trailer[9])
+    }
+
+    /// Runs the unit over a data buffer, from a resume state and for at most `allowance` statements.
+    ///
+    /// The buffer must be as long as the image (6) and the state sound for this unit (7); a refused
+    /// call changes nothing. A statement that ends in a run error has changed nothing: the state
+    /// stands at it. Where the allowance is spent before the end, a further call with the state
+    /// handed back and the same buffer goes on as if there had been no stop.
+    ///
+    /// ```
+    /// # let bytes = *b"41\x01\0\0\0\0\x02\0\x01\x02\0\0\0\
+    /// #     \x03\0\0\0\0\0\0\0\x0B\0\0\0\0\0\0\0\0\x02\0\x01\0\x04\0\0\0\x02DB";
+    /// use dibol::{State, Stop, Unit};
+    ///
+    /// let unit = Unit::check(&bytes)?;
+    /// let mut data = unit.image().to_vec();
+    /// let mut outcome = unit.run(&mut data, State::START, 1);
+    /// while outcome.stop == Stop::Allowance {
+    ///     outcome = unit.run(&mut data, outcome.state, 1);
+    /// }
+    /// assert_eq!((outcome.stop, outcome.place), (Stop::End, 2));
+    /// # Ok::<(), dibol::Refusal>(())
+    /// ```
+    pub fn run(&self, data: &mut [u8], mut state: State, allowance: u64) -> Outcome {
+        let mut answer = [0; 3];
+        let numbers = state.numbers_mut();
+        // SAFETY: every pointer is that of a slice, lent for its length; those that are written are
+        // borrowed mutably, so none overlaps another.
+        let stop = unsafe {
+            ffi::dibol_run(
+                self.bytes.as_ptr(),
+                self.bytes.len(),
+                data.as_mut_ptr(),
+                data.len(),
+                numbers.as_mut_ptr(),
+                numbers.len(),
+                allowance,
+                answer.as_mut_ptr(),
+                answer.len(),
+            )
+        };
+        Outcome {
+            stop: Stop::from(stop),
+            place: answer[1] as usize,
+            count: answer[2],
+            state,
+        }
+    }
+
+    /// The fence check: whether the unit can slip.
+    ///
+    /// ```
+    /// # let bytes = *b"41\x01\0\0\0\0\x02\0\x01\x02\0\0\0\
+    /// #     \x03\0\0\0\0\0\0\0\x0B\0\0\0\0\0\0\0\0\x02\0\x01\0\x04\0\0\0\x02DB";
+    /// use dibol::{Unit, Verdict};
+    /// assert_eq!(Unit::check(&bytes)?.fence(), Verdict::Yes);
+    /// # Ok::<(), dibol::Refusal>(())
+    /// ```
+    pub fn fence(&self) -> Verdict {
+        let mut answer = [0; 2];
+        // SAFETY: both pointers are those of slices, lent for their lengths.
+        let verdict = unsafe {
+            ffi::dibol_fence(
+                self.bytes.as_ptr(),
+                self.bytes.len(),
+                answer.as_mut_ptr(),
+                answer.len(),
+            )
+        };
+        let [statement, breach] = answer;
+        match (verdict, Breach::from_number(breach)) {
+            (0, _) => Verdict::Yes,
+            (1, Some(breach)) => Verdict::No {
+                statement: statement as usize,
+                breach,
+            },
+            _ => unreachable!("a unit that has passed its check is not refused by the fence"),
+        }
+    }
+
+    /// The fence rule that a statement, counted from 0, breaks first. There is none for one that
+    /// keeps the rules or is not there.
+    pub fn breach(&self, statement: usize) -> Option<Breach> {
+        // SAFETY: the pointer is that of a slice, lent for its length.
+        let number = unsafe { ffi::dibol_breach(self.bytes.as_ptr(), self.bytes.len(), statement) };
+        Breach::from_number(number)
+    }
+
+    /// The alpha literal of a statement, counted from 0: that stretch of the unit itself if the
+    /// statement is a SET whose source is a lone alpha literal, and an empty stretch otherwise.
+    pub fn literal(&self, statement: usize) -> &'a [u8] {
+        let mut answer = [0; 2];
+        // SAFETY: both pointers are those of slices, lent for their lengths.
+        unsafe {
+            ffi::dibol_literal(
+                self.bytes.as_ptr(),
+                self.bytes.len(),
+                statement,
+                answer.as_mut_ptr(),
+                answer.len(),
+            )
+        };
+        let [offset, length] = answer.map(|number| number as usize);
+        &self.bytes[offset..offset + length]
+    }
+}

@@ -1,0 +1,189 @@
+//! The binding against the linked library: exact answers, as a host sees them.
+
+use dibol::{ffi, Breach, Refusal, State, Stop, Unit, Verdict};
+
+/// The 42 bytes of document 01's example: INCR of "41", then STOP.
+const EXAMPLE: [u8; 42] = *b"41\x01\0\0\0\0\x02\0\x01\x02\0\0\0\
+    \x03\0\0\0\0\0\0\0\x0B\0\0\0\0\0\0\0\0\x02\0\x01\0\x04\0\0\0\x02DB";
+
+const ALPHA: u8 = 0;
+const DECIMAL: u8 = 1;
+const RECORD: u8 = 2;
+
+/// A field entry or a statement: its first byte and its three numbers.
+type Entry = (u8, u16, u16, u16);
+
+/// The coded unit of these parts.
+fn coded(image: &[u8], fields: &[Entry], e: &[u8], p: &[u8], statements: &[Entry]) -> Vec<u8> {
+    let entries = |entries: &[Entry]| -> Vec<u8> {
+        let bytes = |&(first, x, y, z): &Entry| {
+            let numbers = [x, y, z].map(u16::to_be_bytes).concat();
+            [vec![first, 0], numbers].concat()
+        };
+        entries.iter().flat_map(bytes).collect()
+    };
+    let lengths = [
+        image.len(),
+        fields.len(),
+        e.len(),
+        p.len(),
+        statements.len(),
+    ];
+    let trailer = lengths.map(|length| (length as u16).to_be_bytes()).concat();
+    let (fields, statements) = (entries(fields), entries(statements));
+    [image, &fields, e, p, &statements, &trailer, b"DB"].concat()
+}
+
+/// A unit of one statement over a decimal (field 0), an alpha (1) and a record over both (2), with
+/// the literals `120` and `ab`.
+fn one(statement: Entry, expressions: &[u8]) -> Vec<u8> {
+    let fields = [(DECIMAL, 0, 2, 2), (ALPHA, 4, 4, 1), (RECORD, 0, 8, 1)];
+    coded(b"0102wxyz", &fields, expressions, b"120ab", &[statement])
+}
+
+fn refusal(unit: &[u8]) -> Option<(u64, usize)> {
+    let Refusal { stop, place } = Unit::check(unit).err()?;
+    Some((stop.number(), place))
+}
+
+#[test]
+fn the_state_has_the_librarys_length() {
+    // SAFETY: the function takes nothing.
+    assert_eq!(unsafe { ffi::dibol_state_len() }, 52);
+    assert_eq!(<[u64; 52]>::from(State::START).len(), ffi::DIBOL_STATE_LEN);
+    assert_eq!(dibol::version(), 100);
+}
+
+#[test]
+fn the_papers_example() {
+    let unit = Unit::check(&EXAMPLE).unwrap();
+    assert_eq!((unit.bytes(), unit.image()), (&EXAMPLE[..], &b"41"[..]));
+    assert_eq!(unit.statements(), 2);
+    assert_eq!(unit.fence(), Verdict::Yes);
+    let mut data = *b"41";
+    let outcome = unit.run(&mut data, State::default(), 100_000);
+    assert_eq!((outcome.stop, outcome.place), (Stop::End, 2));
+    assert_eq!(outcome.count, 2);
+    assert_eq!(outcome.state.statement(), 2);
+    assert_eq!(data, *b"42");
+}
+
+#[test]
+fn refusals_have_their_places() {
+    assert_eq!(refusal(&EXAMPLE), None);
+    for length in 0..EXAMPLE.len() {
+        assert_eq!(refusal(&EXAMPLE[..length]), Some((1, 0)));
+    }
+    assert_eq!(refusal(b"\0\0\0\0\0\0\0\0\0\0DB"), Some((2, 0)));
+    let stop = [(11, 0, 0, 0)];
+    let fields = [(ALPHA, 0, 1, 1), (ALPHA, 1, 2, 1)];
+    assert_eq!(
+        refusal(&coded(b"ab", &fields, b"", b"", &stop)),
+        Some((3, 1))
+    );
+    assert_eq!(refusal(&one((2, 9, 0, 0), b"")), Some((4, 0)));
+    assert_eq!(refusal(&one((13, 0, 0, 0), b"")), Some((5, 0)));
+}
+
+#[test]
+fn a_refused_run_changes_nothing() {
+    let unit = Unit::check(&EXAMPLE).unwrap();
+    let mut long = *b"411";
+    let outcome = unit.run(&mut long, State::START, 9);
+    assert_eq!((outcome.stop, outcome.count), (Stop::DataLength, 0));
+    assert_eq!((long, outcome.state), (*b"411", State::START));
+    for (entry, number) in [(0, 3), (1, 51), (2, 1), (51, 1), (0, 65_536), (1, u64::MAX)] {
+        let mut numbers = [0; 52];
+        numbers[entry] = number;
+        let state = State::from(numbers);
+        let mut data = *b"41";
+        let outcome = unit.run(&mut data, state, 9);
+        assert_eq!((outcome.stop, outcome.place), (Stop::State, 0));
+        assert_eq!(
+            (data, outcome.state),
+            (*b"41", state),
+            "{number} at {entry}"
+        );
+    }
+}
+
+/// A CALL to itself, so that every statement opens another call.
+fn calls() -> Vec<u8> {
+    coded(b"x", &[], b"", b"", &[(9, 0, 0, 0)])
+}
+
+#[test]
+fn a_paused_run_is_one_run() {
+    let bytes = calls();
+    let unit = Unit::check(&bytes).unwrap();
+    let mut data = *b"x";
+    let whole = unit.run(&mut data, State::START, 1_000);
+    assert_eq!((whole.stop, whole.place, whole.count), (Stop::Call, 0, 50));
+    assert_eq!(whole.state.open_calls(), 50);
+    assert_eq!(whole.state.returns(), [1; 50]);
+    for slice in 1..=51 {
+        let mut count = 0;
+        let mut outcome = unit.run(&mut data, State::START, slice);
+        while outcome.stop == Stop::Allowance {
+            assert_eq!(outcome.count, slice);
+            count += outcome.count;
+            outcome = unit.run(&mut data, outcome.state, slice);
+        }
+        assert_eq!((outcome.stop, outcome.state), (whole.stop, whole.state));
+        assert_eq!(count + outcome.count, whole.count);
+    }
+}
+
+#[test]
+fn a_run_error_leaves_the_data() {
+    // SET field 0 from 120 / 0: the zero is the literal's last digit.
+    let bytes = one((1, 0, 4, 0), b"\x02\0\0\0\x01\0\0\x03\x01\0\x02\x01\x13\0");
+    let unit = Unit::check(&bytes).unwrap();
+    let mut data = unit.image().to_vec();
+    let outcome = unit.run(&mut data, State::START, 9);
+    assert_eq!((outcome.stop, outcome.place), (Stop::ZeroDivisor, 0));
+    assert_eq!((outcome.count, outcome.state), (0, State::START));
+    assert_eq!(data, unit.image());
+}
+
+#[test]
+fn an_allowance_of_0_is_30_and_at_the_end_0() {
+    let unit = Unit::check(&EXAMPLE).unwrap();
+    let mut data = *b"41";
+    let before = unit.run(&mut data, State::START, 0);
+    assert_eq!((before.stop, before.place), (Stop::Allowance, 0));
+    let end = unit.run(&mut data, State::START, u64::MAX);
+    let after = unit.run(&mut data, end.state, 0);
+    assert_eq!((after.stop, after.place, after.count), (Stop::End, 2, 0));
+}
+
+#[test]
+fn the_fence_names_statement_and_rule() {
+    // UPCASE of the record, which covers the decimals.
+    let bytes = one((5, 0, 0, 0), b"\x02\0\x02\0");
+    let unit = Unit::check(&bytes).unwrap();
+    let breach = Breach::OverDecimal;
+    let verdict = Verdict::No {
+        statement: 0,
+        breach,
+    };
+    assert_eq!(unit.fence(), verdict);
+    assert!(!verdict.is_yes());
+    assert_eq!(unit.breach(0), Some(breach));
+    assert_eq!(unit.breach(1), None);
+    let words = "no 0: an alpha destination shares a byte with a decimal field";
+    assert_eq!(verdict.to_string(), words);
+}
+
+#[test]
+fn a_literal_is_a_stretch_of_the_unit_itself() {
+    // SET field 1 from the alpha literal `ab`.
+    let bytes = one((1, 0, 4, 0), b"\x02\0\x01\0\x06\0\x03\0\x02\0");
+    let unit = Unit::check(&bytes).unwrap();
+    let literal = unit.literal(0);
+    let start = 8 + 3 * 8 + 10 + 3;
+    assert_eq!(literal, b"ab");
+    assert_eq!(literal.as_ptr(), bytes[start..].as_ptr());
+    assert!(unit.literal(1).is_empty());
+    assert!(unit.literal(usize::MAX).is_empty());
+}

@@ -1,0 +1,92 @@
+-- `boxlever::fence::say_references` ends: each turn takes one item.
+-- The invariant: the line keeps its length. The measure: the items that may be left. Assumes nothing.
+use mathlib.Core.Path.{_≡_}
+use borrow.Author.Needs.{needs}
+use lib.ListN.{length}
+use Rattle.boxlever.proofs.fence.say_references.Statement.{statement}
+use Rattle.boxlever.proofs.fence.say_references.Tie as tie
+
+abbrev Inv-loop : tie.InvT-loop
+Inv-loop unit parts e written es t₀ h₀ k₀ from₀ left₀ t h k from left = length t ≡ length t₀
+
+abbrev μ-loop : tie.MeasureT-loop
+μ-loop unit parts e written es t₀ h₀ k₀ from₀ left₀ t h k from left = left
+
+expressions-of-requires : tie.Need-expressions-of-requires Inv-loop μ-loop
+expressions-of-requires c κs = search needs
+
+slice-aggregate-t : tie.Need-slice-aggregate-t Inv-loop μ-loop
+slice-aggregate-t c = search needs
+
+none-held-requires : tie.Need-none-held-requires Inv-loop μ-loop
+none-held-requires c κs = search needs
+
+nothing-known-requires : tie.Need-nothing-known-requires Inv-loop μ-loop
+nothing-known-requires c κs = search needs
+
+long-requires : tie.Need-long-requires Inv-loop μ-loop
+long-requires c κs = search needs
+
+loop-holds : tie.Need-loop-holds Inv-loop μ-loop
+loop-holds c = search needs
+
+item-at-requires : tie.Need-item-at-requires Inv-loop μ-loop
+item-at-requires c κs = search needs
+
+is-end-requires : tie.Need-is-end-requires Inv-loop μ-loop
+is-end-requires c κs = search needs
+
+returns : tie.Need-returns Inv-loop μ-loop
+returns c = search needs
+
+hold-item-requires : tie.Need-hold-item-requires Inv-loop μ-loop
+hold-item-requires c κs = search needs
+
+say-item-requires : tie.Need-say-item-requires Inv-loop μ-loop
+say-item-requires c κs = search needs
+
+known-after-requires : tie.Need-known-after-requires Inv-loop μ-loop
+known-after-requires c κs = search needs
+
+width-of-requires : tie.Need-width-of-requires Inv-loop μ-loop
+width-of-requires c κs = search needs
+
+sum-requires : tie.Need-sum-requires Inv-loop μ-loop
+sum-requires c κs = search needs
+
+sub-left : tie.Need-sub-left Inv-loop μ-loop
+sub-left c = search needs
+
+loop-less : tie.Need-loop-less Inv-loop μ-loop
+loop-less c = search needs
+
+loop-again : tie.Need-loop-again Inv-loop μ-loop
+loop-again c = search needs
+
+returns-2 : tie.Need-returns-2 Inv-loop μ-loop
+returns-2 c = search needs
+
+pub say-references-spec : {M : Type 1} → statement M
+say-references-spec =
+    tie.close
+    (tie.spec
+    Inv-loop
+    μ-loop
+    expressions-of-requires
+    slice-aggregate-t
+    none-held-requires
+    nothing-known-requires
+    long-requires
+    loop-holds
+    item-at-requires
+    is-end-requires
+    returns
+    hold-item-requires
+    say-item-requires
+    known-after-requires
+    width-of-requires
+    sum-requires
+    sub-left
+    loop-less
+    loop-again
+    returns-2)

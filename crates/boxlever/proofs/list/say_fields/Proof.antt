@@ -1,0 +1,71 @@
+-- `boxlever::list::say_fields` ends: each turn takes one field.
+-- The invariant: nothing is kept. The measure: the fields that are left. Assumes nothing.
+use Prim.Native.Nat.{_-_}
+use borrow.Author.Needs.{needs}
+use Rattle.boxlever.proofs.list.say_fields.Statement.{statement}
+use Rattle.boxlever.proofs.list.say_fields.Tie as tie
+
+abbrev Inv-loop : tie.InvT-loop
+Inv-loop unit parts «data» column i₀ i = Unit {0}
+
+abbrev μ-loop : tie.MeasureT-loop
+μ-loop unit parts «data» column i₀ i = parts .f - i
+
+returns : tie.Need-returns Inv-loop μ-loop
+returns c = search needs
+
+add-sum : tie.Need-add-sum Inv-loop μ-loop
+add-sum c = search needs
+
+widest-requires : tie.Need-widest-requires Inv-loop μ-loop
+widest-requires c κs = search needs
+
+sum-requires : tie.Need-sum-requires Inv-loop μ-loop
+sum-requires c κs = search needs
+
+slice-aggregate-say : tie.Need-slice-aggregate-say Inv-loop μ-loop
+slice-aggregate-say c = search needs
+
+say-requires : tie.Need-say-requires Inv-loop μ-loop
+say-requires c κs = search needs
+
+say-field-head-requires : tie.Need-say-field-head-requires Inv-loop μ-loop
+say-field-head-requires c κs = search needs
+
+loop-holds : tie.Need-loop-holds Inv-loop μ-loop
+loop-holds c = search needs
+
+say-field-requires : tie.Need-say-field-requires Inv-loop μ-loop
+say-field-requires c κs = search needs
+
+add-i : tie.Need-add-i Inv-loop μ-loop
+add-i c = search needs
+
+loop-less : tie.Need-loop-less Inv-loop μ-loop
+loop-less c = search needs
+
+loop-again : tie.Need-loop-again Inv-loop μ-loop
+loop-again c = search needs
+
+returns-2 : tie.Need-returns-2 Inv-loop μ-loop
+returns-2 c = search needs
+
+pub say-fields-spec : {M : Type 1} → statement M
+say-fields-spec =
+    tie.close
+    (tie.spec
+    Inv-loop
+    μ-loop
+    returns
+    add-sum
+    widest-requires
+    sum-requires
+    slice-aggregate-say
+    say-requires
+    say-field-head-requires
+    loop-holds
+    say-field-requires
+    add-i
+    loop-less
+    loop-again
+    returns-2)

@@ -1,0 +1,53 @@
+-- `boxlever::say::put_solid` ends: each turn looks at one byte.
+-- The invariant: the line keeps its length. The measure: the bytes that are left. Assumes nothing.
+use mathlib.Core.Path.{_≡_}
+use Prim.Native.Nat.{_-_}
+use borrow.Author.Needs.{needs}
+use lib.ListN.{length}
+use Rattle.boxlever.proofs.say.put_solid.Statement.{statement}
+use Rattle.boxlever.proofs.say.put_solid.Tie as tie
+
+abbrev Inv-loop : tie.InvT-loop
+Inv-loop t₀ at s next₀ i₀ t next i = length t ≡ length t₀
+
+abbrev μ-loop : tie.MeasureT-loop
+μ-loop t₀ at s next₀ i₀ t next i = length s - i
+
+loop-holds : tie.Need-loop-holds Inv-loop μ-loop
+loop-holds c = search needs
+
+shared-slice-read-put-mark : tie.Need-shared-slice-read-put-mark Inv-loop μ-loop
+shared-slice-read-put-mark c = search needs
+
+put-mark-requires : tie.Need-put-mark-requires Inv-loop μ-loop
+put-mark-requires c κs = search needs
+
+add-i : tie.Need-add-i Inv-loop μ-loop
+add-i c = search needs
+
+loop-less : tie.Need-loop-less Inv-loop μ-loop
+loop-less c = search needs
+
+loop-again : tie.Need-loop-again Inv-loop μ-loop
+loop-again c = search needs
+
+same-length : tie.Need-same-length Inv-loop μ-loop
+same-length c = search needs
+
+returns : tie.Need-returns Inv-loop μ-loop
+returns c = search needs
+
+pub put-solid-spec : {M : Type 1} → statement M
+put-solid-spec =
+    tie.close
+    (tie.spec
+    Inv-loop
+    μ-loop
+    loop-holds
+    shared-slice-read-put-mark
+    put-mark-requires
+    add-i
+    loop-less
+    loop-again
+    same-length
+    returns)

@@ -1,0 +1,159 @@
+// `boxlever check FILES..`: a row for each unit with the answer of the fence check, and a line of totals.
+use crate::say::open;
+use crate::say::put_number;
+use crate::say::put_right;
+use crate::say::put_text;
+use crate::say::say_line;
+use crate::words::put_breach;
+use crate::words::put_refused;
+use rules_fence::Verdict;
+ghost use Prim.Native.Nat.{_≤_};
+ghost use lib.ListN.{length};
+
+// How many units the fence says yes and no of, are refused, and could not be read.
+struct Tally {
+    yes: u32,
+    no: u32,
+    refused: u32,
+    unread: u32,
+}
+
+// One more, up to what is counted at all.
+fn one_more(n: u32) -> u32 {
+    if n < 4000000000 { n + 1 } else { n }
+}
+
+// Where the name of a file starts: behind the last slash of its path.
+fn name_at(path: &[u8]) -> usize
+    ensures { λ r. ⌜ r ≤ length (now (path .entry)) ⌝ }
+{
+    let mut i = path.len();
+    while 0 < i {
+        if path[i - 1] == b'/' {
+            return i;
+        }
+        i -= 1;
+    }
+    0
+}
+
+fn put_name(t: &mut [u8], at: usize, path: &[u8]) -> usize {
+    let from = name_at(path);
+    let end = path.len();
+    put_text(t, at, &path[from..end])
+}
+
+fn put_no(t: &mut [u8], at: usize, unit: &[u8], i: u16) -> usize {
+    let mut next = put_text(t, at, b"no at ");
+    next = put_number(t, next, i as u64);
+    next = put_text(t, next, b": ");
+    put_breach(t, next, dibol::breach(unit, i as usize))
+}
+
+fn put_answer(t: &mut [u8], at: usize, unit: &[u8], v: Verdict) -> usize {
+    match v {
+        Verdict::Yes => put_text(t, at, b"yes"),
+        Verdict::No(i) => put_no(t, at, unit, i),
+        Verdict::Refused(r) => put_refused(t, at, r),
+    }
+}
+
+// The tally with one answer more.
+fn counted(tally: Tally, v: Verdict) -> Tally {
+    let mut next = tally;
+    match v {
+        Verdict::Yes => next.yes = one_more(tally.yes),
+        Verdict::No(_) => next.no = one_more(tally.no),
+        Verdict::Refused(_) => next.refused = one_more(tally.refused),
+    }
+    next
+}
+
+// The row of a unit that was read.
+fn say_unit(path: &[u8], unit: &[u8], v: Verdict) {
+    let mut space = [0u8; 4400];
+    let t: &mut [u8] = &mut space;
+    let mut at = put_right(t, 0, unit.len() as u64, 6);
+    at = put_text(t, at, b"  ");
+    at = put_name(t, at, path);
+    at = put_text(t, at, b" ");
+    at = put_answer(t, at, unit, v);
+    say_line(t, at);
+}
+
+// The row of a file that cannot be read.
+fn say_unread(path: &[u8]) {
+    let mut space = [0u8; 4400];
+    let t: &mut [u8] = &mut space;
+    let mut at = put_text(t, 0, b"     -  ");
+    at = put_name(t, at, path);
+    at = put_text(t, at, b" cannot be read");
+    say_line(t, at);
+}
+
+// The row of a file, and the tally with it. Of one longer than the longest unit the first 65,536 bytes are enough to refuse it.
+fn say_file(path: &[u8], tally: Tally) -> Tally {
+    let fd = open(path);
+    if fd < 0 {
+        say_unread(path);
+        let mut next = tally;
+        next.unread = one_more(tally.unread);
+        return next;
+    }
+    let mut buf = io::large_buffer();
+    let n = io::read_full(fd, &mut buf);
+    let closed = libc::close(fd);
+    let verdict = dibol::fence(&buf[..n]);
+    say_unit(path, &buf[..n], verdict);
+    counted(tally, verdict)
+}
+
+// Puts a number of units and what they are.
+fn put_sum(t: &mut [u8], at: usize, n: u32, what: &[u8]) -> usize {
+    let next = put_number(t, at, n as u64);
+    put_text(t, next, what)
+}
+
+fn put_unread(t: &mut [u8], at: usize, n: u32) -> usize {
+    if n == 0 {
+        return at;
+    }
+    let next = put_text(t, at, b", ");
+    put_sum(t, next, n, b" not read")
+}
+
+fn say_totals(tally: Tally) {
+    let mut space = [0u8; 200];
+    let t: &mut [u8] = &mut space;
+    let units = tally.yes as u64 + tally.no as u64 + tally.refused as u64;
+    let mut at = put_number(t, 0, units);
+    at = put_text(t, at, b" units: ");
+    at = put_sum(t, at, tally.yes, b" yes, ");
+    at = put_sum(t, at, tally.no, b" no, ");
+    at = put_sum(t, at, tally.refused, b" refused");
+    at = put_unread(t, at, tally.unread);
+    say_line(t, at);
+}
+
+// The row of the file that the argument i names.
+fn say_argument(i: usize, tally: Tally) -> Tally {
+    let mut path = io::buffer();
+    let n = os::arg(i, &mut path);
+    say_file(&path[..n], tally)
+}
+
+// The rows of the files that the arguments from the second on name, and their totals.
+pub fn check_files(count: usize) {
+    let mut tally = Tally {
+        yes: 0,
+        no: 0,
+        refused: 0,
+        unread: 0,
+    };
+    let mut i = 2;
+    while i < count {
+        tally = say_argument(i, tally);
+        i += 1;
+    }
+    say_totals(tally);
+}

@@ -1,0 +1,97 @@
+// The parts of a unit, read without a condition: where the lengths do not fill the unit, or a number is past the last entry, what is
+// answered is an empty entry. Of a unit that passed its check neither is so.
+use crate::say::part;
+use rules::Num;
+use rules_unit::Field;
+use rules_unit::Kind;
+use rules_unit::Parts;
+use rules_unit::Statement;
+ghost use Prim.Native.Nat.{_<_, _^_};
+
+// A number in figures: whether it is one, whether it is below 0, and its magnitude.
+pub struct Figures {
+    pub good: bool,
+    pub below: bool,
+    pub size: u64,
+}
+
+fn no_field() -> Field {
+    Field {
+        kind: Kind::Bad,
+        zero: 0,
+        offset: 0,
+        size: 0,
+        count: 0,
+    }
+}
+
+// The field i.
+pub fn field_of(unit: &[u8], parts: Parts, i: u16) -> Field {
+    if decode::full_length(parts) != unit.len() {
+        return no_field();
+    }
+    if parts.f <= i {
+        return no_field();
+    }
+    decode::field(unit, parts, i)
+}
+
+// The statement i.
+pub fn statement_of(unit: &[u8], parts: Parts, i: u16) -> Statement {
+    if decode::full_length(parts) != unit.len() {
+        return Statement::Bad;
+    }
+    if parts.n <= i {
+        return Statement::Bad;
+    }
+    decode::statement(unit, parts, i)
+}
+
+// The bytes of the expressions.
+pub fn expressions_of(unit: &[u8], parts: Parts) -> &[u8] {
+    part(
+        unit,
+        decode::expressions_offset(parts),
+        decode::long(parts.e),
+    )
+}
+
+// The len bytes from a place of the literals on.
+pub fn literal_of(unit: &[u8], parts: Parts, place: u16, len: u16) -> &[u8] {
+    let at = decode::literals_offset(parts);
+    let literals = part(unit, at, decode::long(parts.p));
+    part(literals, decode::long(place), decode::long(len))
+}
+
+pub fn is_decimal(kind: Kind) -> bool {
+    match kind {
+        Kind::Alpha => false,
+        Kind::Decimal => true,
+        Kind::Record => false,
+        Kind::Bad => false,
+    }
+}
+
+fn no_figures() -> Figures
+    ensures { λ r. ⌜ r .size < 10 ^ 18 ⌝ }
+{
+    Figures {
+        good: false,
+        below: false,
+        size: 0,
+    }
+}
+
+// A decimal in figures.
+pub fn figures_of(s: &[u8]) -> Figures
+    ensures { λ r. ⌜ r .size < 10 ^ 18 ⌝ }
+{
+    match text::read(18, 112, s) {
+        Num::Value(v) => Figures {
+            good: true,
+            below: number::is_neg(v),
+            size: number::magnitude(v),
+        },
+        Num::Failed(_) => no_figures(),
+    }
+}

@@ -1,0 +1,173 @@
+-- A resume state over several calls: what is written is read back, what is no state is 7, and a run goes on from the state that it left.
+-- Assumes nothing.
+use Prim.Native.Nat.{ℕ, suc, _<_, _≤_}
+use native.Mathlib.Omega.{arith}
+use mathlib.Core.Path.{_≡_, refl, sym, ap, subst, _∙_}
+use mathlib.Core.Bool.{Bool, true, false, cond, false≢true}
+use mathlib.Core.List.{List, [], _∷_}
+use lib.Dec.{ltb, eqb}
+use lib.ListN.{length, getD, replicate, length-drop, length-set}
+use borrow.Author.Tests.{le-leb, eq-eqb, eqb-true, ltb-true, ltb-false}
+use Rattle.rules_unit.specs.declared.Parts.{Parts}
+use Rattle.rules_unit.specs.declared.Refusal.{Refusal}
+use Rattle.rules_unit.specs.declared.Refusal.the-variants as refusal
+use Rattle.rules_unit.specs.declared.Checked.the-variants as checked
+use Rattle.rules_unit.specs.Codes.{Code}
+use Rattle.rules_unit.specs.Decode.{codeOf}
+use Rattle.rules_unit.specs.Checks.{refusalNumber, refusalPlace, checkOf}
+use Rattle.rules_unit.proofs.Sound.{passed-sound}
+use Rattle.rules_run.specs.declared.Flow.{Flow}
+use Rattle.rules_run.specs.declared.Flow.the-variants as flow
+use Rattle.rules_run.specs.declared.State.{State}
+use Rattle.rules_run.specs.declared.Stop.{Stop}
+use Rattle.rules_run.specs.declared.Stop.the-variants as stop
+use Rattle.rules_run.specs.Turns.{turnOf}
+use Rattle.rules_run.specs.States.{Sound, started}
+use Rattle.rules_run.specs.Stops.{stopNumber}
+use Rattle.rules_run.specs.Runs.{Moved, to, stuck, movedBy, runFrom, runOf}
+use Rattle.rules_run.proofs.Calls.{beforeb, call-refused, call-wrong-size, call-unsound, every-call}
+use Rattle.rules_run.proofs.Steps.{every-run}
+use Rattle.rules_run.proofs.SoundRuns.{run-sound}
+use Rattle.words.proofs.Laid.{laid-same}
+use Rattle.dibol_c.specs.States.{numbersOf, Held, smallb, stateb, nowhere, stateOf}
+use Rattle.dibol_c.specs.Calls.{refusedb, handedOf, untouched}
+
+-- ---- read after write
+
+small-all : (l : List ℕ) → ((i : ℕ) → i < length l → getD l i 0 ≤ 65535) → smallb l ≡ true
+unfolding smallb
+small-all [] h = refl
+small-all (x ∷ l) h = rw (le-leb x 65535 (h 0 (omega arith)), small-all l (λ i k. h (suc i) (omega arith)))
+
+pub read-written : (s : State) → Held s → stateOf (numbersOf s) ≡ s
+unfolding stateOf stateb smallb
+read-written s h =
+    let n : suc (suc (length (s .returns))) ≡ 52 = omega (arith, h .count) in
+    rw (eq-eqb (suc (suc (length (s .returns)))) 52 n, le-leb (s .at) 65535 (h .at), le-leb (s .depth) 65535 (h .depth), small-all (s .returns) (h .each))
+
+-- A sound state of a unit is held.
+sound-held : (u : List ℕ) (p : Parts) (s : State) → checkOf u ≡ checked.Passed p → Sound (p .n) s → length (s .returns) ≡ 50 → Held s
+sound-held u p s e t l =
+    let n : p .n ≤ 2048 = passed-sound u p e .ranges .n-most in
+    record { at = omega (arith, t .place); depth = omega (arith, t .calls); count = l; each = λ i h. by i h (ltb i (s .depth)) refl }
+  where
+    by : (i : ℕ) → i < length (s .returns) → (b : Bool) → ltb i (s .depth) ≡ b → getD (s .returns) i 0 ≤ 65535
+    by i h true f = omega (arith, t .used i (ltb-true i (s .depth) f) h, passed-sound u p e .ranges .n-most)
+    by i h false f = omega (arith, t .unused i (ltb-false i (s .depth) f) h)
+
+-- ---- what is no state
+
+pub none-unsound : (u : List ℕ) (p : Parts) → checkOf u ≡ checked.Passed p → Sound (p .n) nowhere → ⊥
+none-unsound u p e t = omega (arith, t .place, passed-sound u p e .ranges .n-most)
+
+pub none-nowhere : (w : List ℕ) → stateb w ≡ false → stateOf w ≡ nowhere
+unfolding stateOf
+none-nowhere w e = rw e
+
+-- Where the state read is sound for a unit, its numbers are a state's.
+sound-state : (u w : List ℕ) (p : Parts) → checkOf u ≡ checked.Passed p → Sound (p .n) (stateOf w) → stateb w ≡ true
+sound-state u w p e t = by (stateb w) refl
+  where
+    by : (b : Bool) → stateb w ≡ b → stateb w ≡ true
+    by true f = f
+    by false f = absurd (none-unsound u p e (subst (Sound (p .n)) (none-nowhere w f) t))
+
+state-52 : (w : List ℕ) → stateb w ≡ true → length w ≡ 52
+unfolding stateb
+state-52 w e = by (eqb (length w) 52) refl e
+  where
+    by : (b : Bool) → eqb (length w) 52 ≡ b → cond b (smallb w) false ≡ true → length w ≡ 52
+    by true f g = eqb-true (length w) 52 f
+    by false f g = absurd (false≢true g)
+
+state-returns : (w : List ℕ) → stateb w ≡ true → length (stateOf w .returns) ≡ 50
+unfolding stateOf
+state-returns w e = rw e (omega (arith, state-52 w e, length-drop 2 w))
+
+-- ---- the return numbers stay 50
+
+abbrev Kept : ℕ → Moved → Type 0
+Kept n (to s) = length (s .returns) ≡ n
+Kept n (stuck f) = Unit {0}
+
+kept-either : (n : ℕ) (b : Bool) (x y : Moved) → Kept n x → Kept n y → Kept n (cond b x y)
+kept-either n true x y f g = f
+kept-either n false x y f g = g
+
+moved-kept : (n : ℕ) (s : State) (f : Flow) → Kept (length (s .returns)) (movedBy n s f)
+unfolding movedBy
+moved-kept n s flow.Next = refl
+moved-kept n s (flow.Goto i) = refl
+moved-kept n s (flow.Call i) = kept-either (length (s .returns)) (ltb (s .depth) 50) _ _ (length-set (s .returns) (s .depth) _) tt
+moved-kept n s flow.Return = kept-either (length (s .returns)) (eqb (s .depth) 0) _ _ tt (length-set (s .returns) _ 0)
+moved-kept n s flow.Stop = refl
+moved-kept n s (flow.Bad e) = tt
+
+run-kept : (c : Code) (m : ℕ) (s : State) (d : List ℕ) (k : ℕ) → length (runFrom c m s d k .outcome .state .returns) ≡ length (s .returns)
+run-kept c =
+    every-run c (λ m s d k r. length (r .outcome .state .returns) ≡ length (s .returns)) (λ m s d k h. refl) (λ s d k h. refl) (λ m s d k f h q. refl)
+    (λ m s s′ d k r h q x. x ∙ subst (Kept (length (s .returns))) q (moved-kept (c .statements) s (turnOf c (s .at) d .flow)))
+
+-- ---- what a call leaves
+
+refusal-refuses : (r : Refusal) → refusedb (refusalNumber r) ≡ true
+unfolding refusedb
+refusal-refuses refusal.NotFilled = refl
+refusal-refuses refusal.BadRange = refl
+refusal-refuses (refusal.BadField i) = refl
+refusal-refuses (refusal.BadExpression i) = refl
+refusal-refuses (refusal.BadStatement i) = refl
+
+before-refuses : (e : Stop) → beforeb e ≡ true → refusedb (stopNumber e) ≡ true
+unfolding refusedb
+before-refuses stop.End b = absurd (false≢true b)
+before-refuses (stop.Refused r) b = refusal-refuses r
+before-refuses stop.WrongSize b = refl
+before-refuses stop.Unsound b = refl
+before-refuses (stop.Failed f) b = absurd (false≢true b)
+before-refuses stop.Spent b = absurd (false≢true b)
+
+module _ (u d w : List ℕ) (m : ℕ) (a : List ℕ) where
+  pub left-refused : (r : Refusal) → checkOf u ≡ checked.Refused r → handedOf u d w m a ≡ untouched (refusalNumber r) (refusalPlace r) d w a
+  unfolding handedOf
+  left-refused r e = rw (call-refused u d (stateOf w) m r e, refusal-refuses r)
+
+  module _ (p : Parts) (e : checkOf u ≡ checked.Passed p) where
+    pub left-wrong-size : (length d ≡ p .d → ⊥) → handedOf u d w m a ≡ untouched 6 0 d w a
+    unfolding handedOf refusedb
+    left-wrong-size n = rw (call-wrong-size u d (stateOf w) m p e n)
+
+    pub left-unsound : length d ≡ p .d → (Sound (p .n) (stateOf w) → ⊥) → handedOf u d w m a ≡ untouched 7 0 d w a
+    unfolding handedOf refusedb
+    left-unsound l n = rw (call-unsound u d (stateOf w) m p e l n)
+
+    pub left-none : length d ≡ p .d → stateb w ≡ false → handedOf u d w m a ≡ untouched 7 0 d w a
+    left-none l n = left-unsound l (λ t. none-unsound u p e (subst (Sound (p .n)) (none-nowhere w n) t))
+
+  -- Any other stop: the numbers are a state's, and so are those of the next state.
+  ran-held : refusedb (stopNumber (runOf u d (stateOf w) m .outcome .stop)) ≡ false → (length w ≡ 52) × Held (runOf u d (stateOf w) m .outcome .state)
+  ran-held =
+      every-call (λ r. refusedb (stopNumber (r .outcome .stop)) ≡ false → (length w ≡ 52) × Held (r .outcome .state)) u d (stateOf w) m
+      (λ e b f. absurd (false≢true (sym f ∙ before-refuses e b)))
+      (λ p e l t f.
+      let s : stateb w ≡ true = sound-state u w p e t in
+      let c = codeOf u p in (
+        state-52 w s,
+        sound-held u p (runFrom c m (stateOf w) d 0 .outcome .state) e (run-sound c (passed-sound u p e .code) m (stateOf w) d 0 t)
+            (run-kept c m (stateOf w) d 0 ∙ state-returns w s),
+      ))
+
+  pub left-state : refusedb (handedOf u d w m a .stop) ≡ false → handedOf u d w m a .state ≡ numbersOf (runOf u d (stateOf w) m .outcome .state)
+  unfolding handedOf
+  left-state f =
+      let h = ran-held f in
+      let l : length (numbersOf (runOf u d (stateOf w) m .outcome .state)) ≡ length w = omega (arith, h .0, h .1 .count) in
+      rw (f, laid-same (numbersOf (runOf u d (stateOf w) m .outcome .state)) w l)
+
+  pub goes-on : refusedb (handedOf u d w m a .stop) ≡ false → stateOf (handedOf u d w m a .state) ≡ runOf u d (stateOf w) m .outcome .state
+  unfolding handedOf
+  goes-on f = ap stateOf (left-state f) ∙ read-written (runOf u d (stateOf w) m .outcome .state) (ran-held f .1)
+
+pub zeros-start : stateOf (replicate 52 0) ≡ started
+unfolding stateOf stateb smallb
+zeros-start = refl

@@ -1,0 +1,68 @@
+-- What a host in C holds, beyond the contracts themselves: the resume state as numbers, over one call and from one call to the next.
+--
+-- A call of `dibol_run` on the unit u, the data d, the state's numbers w, the allowance m and the answer a leaves `handedOf u d w m a`: that is its
+-- contract, over `runOf`, which is what `dibol::run` answers and leaves.
+--
+--   refused-by-the-check     1 to 5: nothing is changed
+--   refused-for-its-size     6: nothing is changed
+--   refused-for-its-state    7, after 1 to 6: nothing is changed, where the state is unsound
+--   refused-for-its-numbers  .. and where the numbers are no state's: there are not 52, or one is over 65,535
+--   read-after-write         the numbers of a state are read as that state
+--   left-with-the-next       after any other stop the numbers are those of the next state
+--   goes-on-from-there       so that a further call goes on from that state
+--   begins-at-zeros          52 zeros are the state before the first statement
+--   words-fit                63 bytes have room for the words of every stop
+-- Assumes nothing.
+use Prim.Native.Nat.{ℕ, _≤_}
+use mathlib.Core.Path.{_≡_}
+use mathlib.Core.Bool.{false}
+use mathlib.Core.List.{List}
+use lib.ListN.{length, replicate}
+use Rattle.rules_unit.specs.declared.Parts.{Parts}
+use Rattle.rules_unit.specs.declared.Refusal.{Refusal}
+use Rattle.rules_unit.specs.declared.Checked.the-variants as checked
+use Rattle.rules_unit.specs.Checks.{refusalNumber, refusalPlace, checkOf}
+use Rattle.rules_run.specs.declared.State.{State}
+use Rattle.rules_run.specs.States.{Sound, started}
+use Rattle.rules_run.specs.Runs.{runOf}
+use Rattle.words.specs.Words as words
+use Rattle.words.proofs.Short.{words-short}
+use Rattle.dibol_c.specs.States.{numbersOf, Held, stateb, stateOf}
+use Rattle.dibol_c.specs.Calls.{refusedb, handedOf, untouched}
+use Rattle.dibol_c.proofs.Resume as resume
+
+-- ---- one call
+
+module _ (u d w : List ℕ) (m : ℕ) (a : List ℕ) where
+  pub refused-by-the-check : (r : Refusal) → checkOf u ≡ checked.Refused r → handedOf u d w m a ≡ untouched (refusalNumber r) (refusalPlace r) d w a
+  refused-by-the-check = resume.left-refused u d w m a
+
+  pub refused-for-its-size : (p : Parts) → checkOf u ≡ checked.Passed p → (length d ≡ p .d → ⊥) → handedOf u d w m a ≡ untouched 6 0 d w a
+  refused-for-its-size = resume.left-wrong-size u d w m a
+
+  pub refused-for-its-state : (p : Parts) → checkOf u ≡ checked.Passed p → length d ≡ p .d → (Sound (p .n) (stateOf w) → ⊥)
+      → handedOf u d w m a ≡ untouched 7 0 d w a
+  refused-for-its-state = resume.left-unsound u d w m a
+
+  pub refused-for-its-numbers : (p : Parts) → checkOf u ≡ checked.Passed p → length d ≡ p .d → stateb w ≡ false → handedOf u d w m a ≡ untouched 7 0 d w a
+  refused-for-its-numbers = resume.left-none u d w m a
+
+-- ---- from one call to the next
+
+pub read-after-write : (s : State) → Held s → stateOf (numbersOf s) ≡ s
+read-after-write = resume.read-written
+
+module _ (u d w : List ℕ) (m : ℕ) (a : List ℕ) where
+  pub left-with-the-next : refusedb (handedOf u d w m a .stop) ≡ false → handedOf u d w m a .state ≡ numbersOf (runOf u d (stateOf w) m .outcome .state)
+  left-with-the-next = resume.left-state u d w m a
+
+  pub goes-on-from-there : refusedb (handedOf u d w m a .stop) ≡ false → stateOf (handedOf u d w m a .state) ≡ runOf u d (stateOf w) m .outcome .state
+  goes-on-from-there = resume.goes-on u d w m a
+
+pub begins-at-zeros : stateOf (replicate 52 0) ≡ started
+begins-at-zeros = resume.zeros-start
+
+-- ---- the words
+
+pub words-fit : (n : ℕ) → length (words.wordsOf n) ≤ 63
+words-fit = words-short

@@ -1,0 +1,3 @@
+pub mod Laid
+pub mod Said
+pub mod Short

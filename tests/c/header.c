@@ -1,0 +1,29 @@
+/* The header in strict C11, included twice, with what a host relies on at compile time. */
+#include "dibol.h"
+
+_Static_assert(DIBOL_STATE_LEN == 52, "a statement, the open calls and 50 return numbers");
+_Static_assert(sizeof DIBOL_VERSION > 1, "the version as text");
+_Static_assert(DIBOL_END == 0 && DIBOL_SPENT == 30, "the stops have document 01's numbers");
+_Static_assert(DIBOL_YES == 0 && DIBOL_NO == 1 && DIBOL_REFUSED == 2, "the fence's answers");
+
+/* Every function, with the type that the header declares. */
+typedef uint64_t answers(const uint8_t *, size_t, uint64_t *, size_t);
+typedef uint64_t asks(const uint8_t *, size_t, size_t);
+typedef uint64_t finds(const uint8_t *, size_t, size_t, uint64_t *, size_t);
+typedef uint64_t runs(const uint8_t *, size_t, uint8_t *, size_t, uint64_t *, size_t, uint64_t,
+                      uint64_t *, size_t);
+typedef uint64_t tells(uint64_t, uint8_t *, size_t);
+typedef uint64_t counts(void);
+
+static answers *const check = dibol_check, *const fence = dibol_fence;
+static asks *const breach = dibol_breach;
+static finds *const literal = dibol_literal;
+static runs *const run = dibol_run;
+static tells *const words = dibol_words;
+static counts *const version = dibol_version, *const state_len = dibol_state_len;
+
+int main(void)
+{
+    return !check || !fence || !breach || !literal || !run || !words ||
+           version() != DIBOL_VERSION_NUMBER || state_len() != DIBOL_STATE_LEN;
+}

@@ -1,0 +1,155 @@
+//! The cases: a unit with a data buffer, a resume state and allowances, all from a case's number.
+
+use crate::damage::damaged;
+use crate::data::{fill, Quality};
+use crate::draft::Draft;
+use crate::limits::limit_unit;
+use crate::random::Random;
+use crate::units::random_unit;
+
+/// How a case's unit was made.
+#[derive(Clone, Copy, Debug, PartialEq, Eq)]
+pub enum Kind {
+    Random,
+    Fenced,
+    Limit,
+    Damaged,
+}
+
+pub const KINDS: [Kind; 4] = [Kind::Random, Kind::Fenced, Kind::Limit, Kind::Damaged];
+
+/// One case.
+pub struct Case {
+    pub kind: Kind,
+    pub unit: Vec<u8>,
+    pub data: Vec<u8>,
+    pub state: Vec<u64>,
+    /// The allowance of the run, and of the run that goes on where it ended in 30.
+    pub allowances: [u64; 2],
+    /// A statement number to ask about that is not there, if it is past the last one: some would
+    /// come back to a statement if bits of them were lost.
+    pub absent: usize,
+    /// How many numbers are lent for an answer.
+    pub room: usize,
+    /// Whether the case is also run one statement at a time.
+    pub is_stepped: bool,
+}
+
+impl Case {
+    /// The case of a number.
+    pub fn of(seed: u64, number: u64) -> Case {
+        let random = &mut Random::of_case(seed, number);
+        let kind = random.weighed(&[
+            (36, Kind::Random),
+            (22, Kind::Fenced),
+            (14, Kind::Limit),
+            (28, Kind::Damaged),
+        ]);
+        let draft = draft(random, kind);
+        let unit = match kind {
+            Kind::Damaged => damaged(random, draft.clone()),
+            _ => draft.unit(),
+        };
+        Case {
+            kind,
+            unit,
+            data: data(random, &draft),
+            state: state(random, draft.statements.len()),
+            allowances: [allowance(random), allowance(random)],
+            absent: absent(random),
+            room: random.weighed(&[(20, 3), (1, 0), (1, 1), (1, 2), (1, 4)]),
+            is_stepped: random.chance(15),
+        }
+    }
+}
+
+fn draft(random: &mut Random, kind: Kind) -> Draft {
+    let fenced = random.chance(40);
+    match kind {
+        Kind::Random => random_unit(random, false),
+        Kind::Fenced => random_unit(random, true),
+        Kind::Limit => limit_unit(random),
+        Kind::Damaged if random.chance(15) => limit_unit(random),
+        Kind::Damaged => random_unit(random, fenced),
+    }
+}
+
+/// A data buffer: the image, or one filled anew; rarely of another length.
+fn data(random: &mut Random, draft: &Draft) -> Vec<u8> {
+    let mut data = draft.image.clone();
+    if random.chance(3) {
+        let length = data.len() + random.pick(&[0, 2, 9]);
+        data.resize(length.saturating_sub(1), b'0');
+    }
+    let quality = random.weighed(&[
+        (50, None),
+        (34, Some(Quality::Valid)),
+        (12, Some(Quality::Mixed)),
+        (4, Some(Quality::Noise)),
+    ]);
+    if let Some(quality) = quality {
+        fill(random, &draft.fields, &mut data, quality);
+    }
+    data
+}
+
+fn absent(random: &mut Random) -> usize {
+    let wrapped = random.pick(&[1 << 16, 1 << 32, 1 << 61]) + random.below(4);
+    random.weighed(&[(2, 0), (1, 2_049), (3, wrapped), (1, usize::MAX)])
+}
+
+fn allowance(random: &mut Random) -> u64 {
+    let most = random.weighed(&[(1, 0), (3, 1), (5, 4), (12, 30), (3, 120)]);
+    random.within(0..=most) as u64
+}
+
+/// A resume state for a unit of `count` statements: the start, another that is sound, or one that
+/// is not in some way.
+fn state(random: &mut Random, count: usize) -> Vec<u64> {
+    let mut state = vec![0; 52];
+    let roll = random.below(100);
+    if roll < 60 {
+        return state;
+    }
+    sound_state(random, count, &mut state);
+    if roll < 88 {
+        return state;
+    }
+    match random.below(4) {
+        0 => {
+            let length = random.pick(&[0, 1, 2, 51, 53, 104]);
+            state.resize(length, 0);
+        }
+        1 => {
+            let at = random.below(52);
+            let wrap = random.pick(&[1 << 16, 1 << 32, 1 << 63, !0xFFFF]);
+            state[at] += wrap;
+        }
+        _ => unsound(random, count, &mut state),
+    }
+    state
+}
+
+/// Fills in a sound state.
+fn sound_state(random: &mut Random, count: usize, state: &mut [u64]) {
+    let depth = random.weighed(&[(6, 0), (4, 1), (4, 3), (1, 48), (1, 49), (2, 50)]);
+    state[0] = random.within(0..=count) as u64;
+    state[1] = depth as u64;
+    for back in &mut state[2..2 + depth] {
+        *back = random.within(0..=count) as u64;
+    }
+}
+
+/// Changes one number of a state to a wrong one, or one at the edge.
+fn unsound(random: &mut Random, count: usize, state: &mut [u64]) {
+    let past = count as u64 + random.pick(&[0, 1, 2]);
+    let wrong = random.pick(&[past, 65_535]);
+    match random.below(4) {
+        0 => state[0] = wrong,
+        1 => state[1] = random.pick(&[state[1] + 1, 50, 51, 255, 65_535]),
+        _ => {
+            let at = random.within(2..=51);
+            state[at] = random.pick(&[wrong, 1]);
+        }
+    }
+}

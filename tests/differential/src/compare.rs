@@ -1,0 +1,246 @@
+//! One case on both sides: every answer of the C library beside that of the second interpreter.
+
+use crate::cases::Case;
+use crate::decode::Sound;
+use crate::library::{self, Given, Lent};
+use crate::promises;
+use crate::reached::Reached;
+use second::{Fence, Outcome, State};
+use std::fmt::Debug;
+
+/// Two answers that differ, or a promise that is not kept.
+#[derive(Debug)]
+pub struct Difference {
+    pub what: String,
+    pub library: String,
+    pub wanted: String,
+}
+
+/// Compares an answer of the library with the one that is wanted.
+pub fn same<T: Debug + PartialEq>(
+    what: impl FnOnce() -> String,
+    library: T,
+    wanted: T,
+) -> Result<(), Difference> {
+    if library == wanted {
+        return Ok(());
+    }
+    Err(Difference {
+        what: what(),
+        library: format!("{library:?}"),
+        wanted: format!("{wanted:?}"),
+    })
+}
+
+/// For a unit of more statements than this, only some of them are asked about.
+const ASKED_MOST: usize = 40;
+
+/// Compares all that can be asked about a case.
+pub fn compare(case: &Case, reached: &mut Reached) -> Result<(), Difference> {
+    let unit = &case.unit[..];
+    let has_passed = check(case)?;
+    reached.case(case.kind, has_passed);
+    fence(case, reached)?;
+    let count = match has_passed {
+        true => Sound::of(unit).statement_count(),
+        false => 1,
+    };
+    for i in asked(case, count) {
+        breach(unit, i, reached)?;
+        literal(case, i, reached)?;
+    }
+    let (data, state) = (Lent::bytes(&case.data), Lent::numbers(&case.state));
+    let ran = run(case, (data, state), case.allowances[0], reached)?;
+    if ran.given.result == 30 {
+        resume(case, &ran, reached)?;
+    }
+    if has_passed && case.is_stepped {
+        step(case, reached)?;
+    }
+    promises::error_changed_nothing(case, &ran)?;
+    promises::demand_3(case, &ran, reached)
+}
+
+/// The statements to ask about: all of a short unit, some of a long one, and one that is not there.
+fn asked(case: &Case, count: usize) -> impl Iterator<Item = usize> {
+    let step = count / ASKED_MOST + 1;
+    let first = case.unit.len() % step;
+    let there = (first..count).step_by(step);
+    there.chain([case.absent.max(count)])
+}
+
+fn check(case: &Case) -> Result<bool, Difference> {
+    let (stop, place, image) = match second::check(&case.unit) {
+        Ok(parts) => (0, 0, parts.image.len() as u64),
+        Err(refusal) => (refusal.stop.into(), refusal.place as u64, 0),
+    };
+    let expected = Given::expected(stop, &[stop, place, image], case.room);
+    let given = library::check(&case.unit, case.room);
+    same(|| "check".to_string(), given, expected)?;
+    Ok(stop == 0)
+}
+
+fn fence(case: &Case, reached: &mut Reached) -> Result<(), Difference> {
+    let unit = &case.unit[..];
+    let (verdict, numbers) = match second::fence(unit) {
+        Fence::Yes => (0, [0, 0]),
+        Fence::No(i) => (1, [i as u64, second_breach(unit, i)]),
+        Fence::Refused(refusal) => (2, [refusal.stop.into(), refusal.place as u64]),
+    };
+    let expected = Given::expected(verdict, &numbers, case.room);
+    let given = library::fence(unit, case.room);
+    reached.verdict(given.result.min(2));
+    same(|| "fence".to_string(), given, expected)
+}
+
+fn second_breach(unit: &[u8], i: usize) -> u64 {
+    second::breach(unit, i).map_or(0, |breach| breach.number().into())
+}
+
+fn breach(unit: &[u8], i: usize, reached: &mut Reached) -> Result<(), Difference> {
+    let number = library::breach(unit, i);
+    reached.breach(number.min(6));
+    same(
+        || format!("breach of statement {i}"),
+        number,
+        second_breach(unit, i),
+    )
+}
+
+fn literal(case: &Case, i: usize, reached: &mut Reached) -> Result<(), Difference> {
+    let unit = &case.unit[..];
+    let range = second::literal_range(unit, i).unwrap_or(0..0);
+    let (offset, length) = (range.start as u64, range.len() as u64);
+    if length > 0 {
+        reached.literal();
+    }
+    let expected = Given::expected(length, &[offset, length], case.room);
+    let given = library::literal(unit, i, case.room);
+    same(|| format!("literal of statement {i}"), given, expected)
+}
+
+/// A run of the library, as it left everything.
+#[derive(Clone, Debug, PartialEq, Eq)]
+pub struct Ran {
+    pub given: Given,
+    pub data: Lent<u8>,
+    pub state: Lent<u64>,
+    /// The number of statements completed.
+    pub count: u64,
+}
+
+/// The second interpreter's state of the numbers that are lent, or one that is never sound where
+/// the numbers are too many, too few or too large.
+fn state_of(numbers: &[u64]) -> State {
+    let mut state = State {
+        at: usize::MAX,
+        ..State::START
+    };
+    let small: Option<Vec<u16>> = numbers.iter().map(|&n| u16::try_from(n).ok()).collect();
+    if let Some([at, depth, returns @ ..]) = small.as_deref() {
+        if let Ok(returns) = returns.try_into() {
+            state = State {
+                at: usize::from(*at),
+                depth: usize::from(*depth),
+                returns,
+            };
+        }
+    }
+    state
+}
+
+/// Puts the second interpreter's next state into a lent one, which a refusal leaves as it is.
+fn put_state(outcome: &Outcome, numbers: &mut Lent<u64>) {
+    if (1..=7).contains(&outcome.stop) {
+        return;
+    }
+    let State { at, depth, returns } = outcome.state;
+    let heads = [at as u64, depth as u64].into_iter();
+    let all = heads.chain(returns.map(u64::from));
+    for (number, next) in numbers.part_mut().iter_mut().zip(all) {
+        *number = next;
+    }
+}
+
+/// Runs a case on both sides and compares stop, place, count, state and every byte.
+fn run(
+    case: &Case,
+    from: (Lent<u8>, Lent<u64>),
+    allowance: u64,
+    reached: &mut Reached,
+) -> Result<Ran, Difference> {
+    let (mut data, mut state) = from.clone();
+    let outcome = second::run(
+        &case.unit,
+        data.part_mut(),
+        state_of(state.part()),
+        allowance,
+    );
+    put_state(&outcome, &mut state);
+    let stop = u64::from(outcome.stop);
+    let answer = [stop, outcome.place as u64, outcome.count];
+    let expected = Ran {
+        given: Given::expected(stop, &answer, case.room),
+        data,
+        state,
+        count: outcome.count,
+    };
+    let ran = library_run(case, from, allowance, outcome.count);
+    reached.run(ran.given.result, outcome.count);
+    same(
+        || format!("run with allowance {allowance}"),
+        &ran,
+        &expected,
+    )?;
+    Ok(ran)
+}
+
+/// A run of the library alone. The count is told for a case that lends no room for it.
+pub fn library_run(case: &Case, from: (Lent<u8>, Lent<u64>), allowance: u64, count: u64) -> Ran {
+    let (mut data, mut state) = from;
+    let given = library::run(&case.unit, &mut data, &mut state, allowance, case.room);
+    Ran {
+        given,
+        data,
+        state,
+        count,
+    }
+}
+
+/// Goes on where a run ended in 30, on both sides, and holds the library to the law of pausing: the
+/// two runs come to what one run with both allowances comes to.
+fn resume(case: &Case, first: &Ran, reached: &mut Reached) -> Result<(), Difference> {
+    reached.resumed();
+    let [before, more] = case.allowances;
+    let from = (first.data.clone(), first.state.clone());
+    let mut joined = run(case, from, more, reached)?;
+    joined.count += first.count;
+    if case.room > 2 {
+        *joined.given.answer_mut(2) = joined.count;
+    }
+    let start = (Lent::bytes(&case.data), Lent::numbers(&case.state));
+    let whole = library_run(case, start, before + more, joined.count);
+    let what = || format!("pausing: one run with {before} + {more}, and two");
+    same(what, whole, joined)
+}
+
+/// The most statements of a run that is stepped.
+const STEPS_MOST: usize = 24;
+
+/// Runs a case one statement at a time on both sides, and counts the statements completed.
+fn step(case: &Case, reached: &mut Reached) -> Result<(), Difference> {
+    let unit = Sound::of(&case.unit);
+    let mut from = (Lent::bytes(&case.data), Lent::numbers(&case.state));
+    for _ in 0..STEPS_MOST {
+        let at = from.1.part().first().map_or(0, |&at| at as usize);
+        let ran = run(case, from, 1, reached)?;
+        if ran.count == 1 {
+            reached.statement(&unit, at);
+        }
+        if ran.given.result != 30 {
+            break;
+        }
+        from = (ran.data, ran.state);
+    }
+    Ok(())
+}

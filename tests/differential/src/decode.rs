@@ -1,0 +1,221 @@
+//! A sound unit, read by the harness itself: what its statements name. Nothing of this is taken
+//! from either interpreter.
+
+use crate::draft::{code, Field, Statement};
+use std::ops::Range;
+
+/// A unit that has passed checks 1 to 5.
+pub struct Sound<'a> {
+    image: usize,
+    fields: &'a [u8],
+    expressions: &'a [u8],
+    literals: &'a [u8],
+    statements: &'a [u8],
+}
+
+/// An item of an expression: its code, and the number and the length that follow it, if any.
+#[derive(Clone, Copy, Debug, PartialEq, Eq)]
+pub struct Item {
+    pub code: u8,
+    number: usize,
+    length: usize,
+}
+
+fn word(bytes: &[u8], at: usize) -> u16 {
+    u16::from_be_bytes([bytes[at], bytes[at + 1]])
+}
+
+impl<'a> Sound<'a> {
+    pub fn of(unit: &'a [u8]) -> Sound<'a> {
+        let (body, trailer) = unit.split_at(unit.len() - 12);
+        let length = |i: usize| usize::from(word(trailer, 2 * i));
+        let (fields, rest) = body[length(0)..].split_at(8 * length(1));
+        let (expressions, rest) = rest.split_at(length(2));
+        let (literals, statements) = rest.split_at(length(3));
+        Sound {
+            image: length(0),
+            fields,
+            expressions,
+            literals,
+            statements,
+        }
+    }
+
+    pub fn statement_count(&self) -> usize {
+        self.statements.len() / 8
+    }
+
+    pub fn statement(&self, i: usize) -> Statement {
+        let entry = &self.statements[8 * i..][..8];
+        Statement::new(entry[0], word(entry, 2), word(entry, 4), word(entry, 6))
+    }
+
+    pub fn field(&self, i: usize) -> Field {
+        let entry = &self.fields[8 * i..][..8];
+        let number = |at| usize::from(word(entry, at));
+        Field::new(entry[0], number(2), number(4), number(6))
+    }
+
+    /// The items of the expression at `offset`, without the 00 that closes it.
+    pub fn items(&self, offset: u16) -> Vec<Item> {
+        let mut items = Vec::new();
+        let mut rest = &self.expressions[usize::from(offset)..];
+        while rest[0] != 0 {
+            let code = rest[0];
+            let (number, length, width) = match code {
+                0x01 => (word(rest, 1), u16::from(rest[3]), 4),
+                0x02..=0x05 => (word(rest, 1), 0, 3),
+                0x06 => (word(rest, 1), word(rest, 3), 5),
+                _ => (0, 0, 1),
+            };
+            items.push(Item {
+                code,
+                number: number.into(),
+                length: length.into(),
+            });
+            rest = &rest[width..];
+        }
+        items
+    }
+
+    /// The expressions that a statement names.
+    pub fn uses(&self, statement: &Statement) -> Vec<u16> {
+        match statement.code {
+            code::SET => vec![statement.a, statement.b],
+            code::CLEAR..=code::LOCASE => vec![statement.a],
+            code::GOTO_IF_ZERO | code::COMPUTED_GOTO => vec![statement.b],
+            _ => vec![],
+        }
+    }
+
+    /// Whether statement `i` moves alpha text to a decimal place.
+    pub fn is_text_to_decimal(&self, i: usize) -> bool {
+        let statement = self.statement(i);
+        if statement.code != code::SET {
+            return false;
+        }
+        let place = self.items(statement.a).pop();
+        let source = self.items(statement.b).pop();
+        let is_decimal = |item: Item| self.field(item.number).is_decimal();
+        let is_text = |item: Item| match item.code {
+            0x02..=0x05 => !is_decimal(item),
+            code => code == 0x06,
+        };
+        place.is_some_and(is_decimal) && source.is_some_and(is_text)
+    }
+
+    /// The destinations of a unit that the fence says yes to: the span of each place that is
+    /// written, reachable or not.
+    pub fn destinations(&self) -> Vec<Range<usize>> {
+        (0..self.statement_count())
+            .map(|i| self.statement(i))
+            .filter(|statement| (code::SET..=code::LOCASE).contains(&statement.code))
+            .map(|statement| self.destination(statement.a))
+            .collect()
+    }
+
+    /// The span of a place whose bounds are literals, some of them with a negate.
+    fn destination(&self, offset: u16) -> Range<usize> {
+        let mut items = self.items(offset);
+        let reference = items.pop().expect("a place has a reference");
+        let mut bounds: Vec<i64> = Vec::new();
+        for item in items {
+            match item.code {
+                0x01 => bounds.push(self.literal_value(item)),
+                _ => *bounds.last_mut().expect("a negate has a literal before it") *= -1,
+            }
+        }
+        let field = self.field(reference.number);
+        let size = field.size() as i64;
+        let (start, end) = match (reference.code, bounds[..].first(), bounds[..].last()) {
+            (0x03, Some(s), _) => ((s - 1) * size, s * size),
+            (0x04, Some(start), Some(end)) => (start - 1, *end),
+            (0x05, Some(pos), Some(length)) if *length > 0 => (pos - 1, pos - 1 + length),
+            (0x05, Some(pos), Some(length)) => (pos + length, *pos),
+            _ => (0, size),
+        };
+        field.start() + start as usize..field.start() + end as usize
+    }
+
+    fn literal_value(&self, item: Item) -> i64 {
+        let digits = &self.literals[item.number..item.number + item.length];
+        let value = |value: i64, digit: &u8| 10 * value + i64::from(digit - b'0');
+        digits.iter().fold(0, value)
+    }
+
+    /// Whether every element of every decimal field is valid.
+    pub fn is_valid(&self, data: &[u8]) -> bool {
+        let fields = (0..self.fields.len() / 8).map(|i| self.field(i));
+        fields.filter(Field::is_decimal).all(|field| {
+            let elements = data[field.start()..field.end()].chunks(field.size());
+            elements.into_iter().all(is_valid_element)
+        })
+    }
+
+    /// Whether a resume state is sound.
+    pub fn is_sound_state(&self, state: &[u64]) -> bool {
+        let end = self.statement_count() as u64;
+        let [at, depth, returns @ ..] = state else {
+            return false;
+        };
+        let open = |(i, back): (usize, &u64)| *back <= if (i as u64) < *depth { end } else { 0 };
+        returns.len() == 50 && *at <= end && *depth <= 50 && returns.iter().enumerate().all(open)
+    }
+
+    /// D.
+    pub fn image_len(&self) -> usize {
+        self.image
+    }
+}
+
+fn is_valid_element(element: &[u8]) -> bool {
+    let (last, leading) = element.split_last().expect("an element has a byte");
+    leading.iter().all(u8::is_ascii_digit)
+        && (last.is_ascii_digit() || (b'p'..=b'y').contains(last))
+}
+
+#[cfg(test)]
+mod tests {
+    use super::Sound;
+    use crate::draft::{Draft, Field, Statement, ALPHA, DECIMAL};
+
+    /// SET A(2:-2) from `x`, CLEAR D(2), INCR D(1,3), LOCASE A, over A at 1 and D at 6.
+    fn unit() -> Vec<u8> {
+        let draft = Draft {
+            image: b".abcde123456".to_vec(),
+            fields: vec![Field::new(ALPHA, 1, 5, 1), Field::new(DECIMAL, 6, 3, 2)],
+            expressions: [
+                &b"\x01\0\x01\x01\x01\0\x01\x01\x15\x05\0\0\0"[..],
+                b"\x06\0\0\0\x01\0",
+                b"\x01\0\x01\x01\x03\0\x01\0",
+                b"\x01\0\x02\x01\x01\0\x03\x01\x04\0\x01\0",
+                b"\x02\0\0\0",
+            ]
+            .concat(),
+            literals: b"x213".to_vec(),
+            statements: [(1, 0, 13), (2, 19, 0), (3, 27, 0), (6, 39, 0), (11, 0, 0)]
+                .map(|(code, a, b)| Statement::new(code, a, b, 0))
+                .to_vec(),
+        };
+        draft.unit()
+    }
+
+    #[test]
+    fn destinations_are_the_spans_written() {
+        let unit = unit();
+        assert!(second::check(&unit).is_ok());
+        let destinations = Sound::of(&unit).destinations();
+        assert_eq!(destinations, [1..3, 9..12, 6..9, 1..6]);
+    }
+
+    #[test]
+    fn validity_is_about_decimal_elements() {
+        let unit = unit();
+        let sound = Sound::of(&unit);
+        assert!(sound.is_valid(b".abcde12345p"));
+        assert!(sound.is_valid(b"......12p00y"));
+        assert!(!sound.is_valid(b".abcde1p3456"));
+        assert!(!sound.is_valid(b".abcde12345z"));
+        assert!(!sound.is_text_to_decimal(0) && !sound.is_text_to_decimal(3));
+    }
+}

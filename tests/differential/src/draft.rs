@@ -1,0 +1,143 @@
+//! A unit in the making: its parts, not yet coded.
+
+/// A field entry.
+#[derive(Clone, Copy, Debug)]
+pub struct Field {
+    pub kind: u8,
+    pub zero: u8,
+    pub offset: u16,
+    pub size: u16,
+    pub count: u16,
+}
+
+pub const ALPHA: u8 = 0;
+pub const DECIMAL: u8 = 1;
+pub const RECORD: u8 = 2;
+
+impl Field {
+    pub fn new(kind: u8, offset: usize, size: usize, count: usize) -> Field {
+        Field {
+            kind,
+            zero: 0,
+            offset: offset as u16,
+            size: size as u16,
+            count: count as u16,
+        }
+    }
+
+    pub fn is_decimal(&self) -> bool {
+        self.kind == DECIMAL
+    }
+
+    pub fn start(&self) -> usize {
+        usize::from(self.offset)
+    }
+
+    pub fn size(&self) -> usize {
+        usize::from(self.size)
+    }
+
+    /// The bytes of all the elements together.
+    pub fn length(&self) -> usize {
+        self.size() * usize::from(self.count)
+    }
+
+    pub fn end(&self) -> usize {
+        self.start() + self.length()
+    }
+}
+
+/// A statement.
+#[derive(Clone, Copy, Debug)]
+pub struct Statement {
+    pub code: u8,
+    pub zero: u8,
+    pub a: u16,
+    pub b: u16,
+    pub c: u16,
+}
+
+/// The codes of the statements.
+pub mod code {
+    pub const SET: u8 = 1;
+    pub const CLEAR: u8 = 2;
+    pub const INCR: u8 = 3;
+    pub const DECR: u8 = 4;
+    pub const UPCASE: u8 = 5;
+    pub const LOCASE: u8 = 6;
+    pub const GOTO: u8 = 7;
+    pub const GOTO_IF_ZERO: u8 = 8;
+    pub const CALL: u8 = 9;
+    pub const RETURN: u8 = 10;
+    pub const STOP: u8 = 11;
+    pub const COMPUTED_GOTO: u8 = 12;
+}
+
+impl Statement {
+    pub fn new(code: u8, a: u16, b: u16, c: u16) -> Statement {
+        let zero = 0;
+        Statement {
+            code,
+            zero,
+            a,
+            b,
+            c,
+        }
+    }
+}
+
+/// The five parts of a unit. The trailer follows from them.
+#[derive(Clone, Debug, Default)]
+pub struct Draft {
+    pub image: Vec<u8>,
+    pub fields: Vec<Field>,
+    pub expressions: Vec<u8>,
+    pub literals: Vec<u8>,
+    pub statements: Vec<Statement>,
+}
+
+impl Draft {
+    /// The numbers of the fields that are decimal, or of those that are not.
+    pub fn numbers_of(&self, is_decimal: bool) -> Vec<usize> {
+        (0..self.fields.len())
+            .filter(|&i| self.fields[i].is_decimal() == is_decimal)
+            .collect()
+    }
+
+    /// Whether a stretch of the data shares a byte with a decimal field.
+    pub fn shares_decimal(&self, start: usize, end: usize) -> bool {
+        let shares = |field: &Field| field.start() < end && start < field.end();
+        self.fields
+            .iter()
+            .any(|field| field.is_decimal() && shares(field))
+    }
+
+    /// The coded unit.
+    pub fn unit(&self) -> Vec<u8> {
+        let mut unit = self.image.clone();
+        for field in &self.fields {
+            let numbers = [field.offset, field.size, field.count];
+            entry(&mut unit, field.kind, field.zero, numbers);
+        }
+        unit.extend(&self.expressions);
+        unit.extend(&self.literals);
+        for statement in &self.statements {
+            let numbers = [statement.a, statement.b, statement.c];
+            entry(&mut unit, statement.code, statement.zero, numbers);
+        }
+        let (image, fields) = (self.image.len(), self.fields.len());
+        let (expressions, literals) = (self.expressions.len(), self.literals.len());
+        for length in [image, fields, expressions, literals, self.statements.len()] {
+            unit.extend((length as u16).to_be_bytes());
+        }
+        unit.extend(b"DB");
+        unit
+    }
+}
+
+fn entry(unit: &mut Vec<u8>, first: u8, zero: u8, numbers: [u16; 3]) {
+    unit.extend([first, zero]);
+    for number in numbers {
+        unit.extend(number.to_be_bytes());
+    }
+}

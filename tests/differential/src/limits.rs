@@ -1,0 +1,315 @@
+//! Units at the limits of document 01, and one past them.
+
+use crate::data::amount;
+use crate::draft::{code, Draft, Field, Statement, ALPHA, DECIMAL, RECORD};
+use crate::expressions::{Maker, GREATEST};
+use crate::random::Random;
+use crate::units::random_unit;
+
+/// What makes a unit at one of the limits.
+type Make = fn(&mut Random) -> Draft;
+
+/// A unit at some limit.
+pub fn limit_unit(random: &mut Random) -> Draft {
+    let makers: [(usize, Make); 8] = [
+        (1, sizes),
+        (12, held),
+        (10, nesting),
+        (20, digits),
+        (8, literals),
+        (2, long_table),
+        (14, spans),
+        (12, amounts),
+    ];
+    random.weighed(&makers)(random)
+}
+
+/// A random unit, filled up to the limits of some parts or one past one of them.
+fn sizes(random: &mut Random) -> Draft {
+    let mut draft = random_unit(random, false);
+    let past = random.weighed(&[(5, usize::MAX), (1, 0), (1, 1), (1, 2), (1, 3), (1, 4)]);
+    let is_full = random.chance(20);
+    let mut length = |part: usize, now: usize, limit: usize| match random.below(3) {
+        _ if part == past => limit + 1,
+        _ if is_full => limit,
+        0 => limit,
+        1 => now.max(limit - 1),
+        _ => now,
+    };
+    let lengths = [
+        length(0, draft.image.len(), 16_383),
+        length(1, draft.fields.len(), 512),
+        length(2, draft.expressions.len(), 16_383),
+        length(3, draft.literals.len(), 4_095),
+        length(4, draft.statements.len(), 2_048),
+    ];
+    fill_up(random, &mut draft, lengths);
+    if random.chance(4) {
+        match random.below(2) {
+            0 => draft.image.clear(),
+            _ => draft.statements.clear(),
+        }
+    }
+    draft
+}
+
+/// Makes the parts of a unit as long as these lengths, none of which is below what they have.
+fn fill_up(random: &mut Random, draft: &mut Draft, lengths: [usize; 5]) {
+    draft.image.resize(lengths[0], b'0');
+    let record = Field::new(RECORD, draft.image.len() - 1, 1, 1);
+    draft.fields.resize(lengths[1], record);
+    draft.expressions.resize(lengths[2], 0);
+    draft.literals.resize(lengths[3], b'7');
+    let last = lengths[4] as u16 - 1;
+    let statement = random.pick(&[
+        Statement::new(code::RETURN, 0, 0, 0),
+        Statement::new(code::GOTO, 0, 0, last),
+        Statement::new(code::CALL, 0, 0, last),
+    ]);
+    draft.statements.resize(lengths[4], statement);
+}
+
+/// A decimal of 18 characters, an alpha, and an array of decimals over all that comes before.
+fn base(random: &mut Random) -> Draft {
+    let mut draft = Draft {
+        image: b"000000000000000001          0102030405".to_vec(),
+        fields: vec![
+            Field::new(DECIMAL, 0, 18, 1),
+            Field::new(ALPHA, 18, 10, 1),
+            Field::new(DECIMAL, 28, 2, 5),
+        ],
+        ..Draft::default()
+    };
+    if random.chance(30) {
+        draft.fields.insert(0, Field::new(RECORD, 0, 38, 1));
+    }
+    draft
+}
+
+/// The number of the 18-character decimal of `base`.
+fn wide(draft: &Draft) -> usize {
+    draft.fields.len() - 3
+}
+
+/// Adds SET of the 18-character decimal from the expression at `source`.
+fn set_wide(maker: &mut Maker, source: u16) {
+    let place = maker.draft.expressions.len() as u16;
+    let field = wide(&maker.draft);
+    maker.refer(2, field);
+    maker.draft.expressions.push(0);
+    let set = Statement::new(code::SET, place, source, 0);
+    maker.draft.statements.push(set);
+}
+
+/// An expression that holds 14 to 18 values, with an item that takes some where the most are held.
+fn held(random: &mut Random) -> Draft {
+    let draft = base(random);
+    let mut maker = Maker::new(random, draft, false);
+    let most = maker.random.within(14..=18);
+    for _ in 0..most {
+        let value = maker.random.within(1..=3) as u64;
+        maker.number_literal(value);
+    }
+    let left = most - item_at_the_most(&mut maker);
+    let operators = left - 1 + usize::from(maker.random.chance(4));
+    for _ in 0..operators {
+        let operator = maker.random.pick(&[0x10, 0x11, 0x1E, 0x1F]);
+        maker.draft.expressions.push(operator);
+    }
+    maker.draft.expressions.push(0);
+    set_wide(&mut maker, 0);
+    maker.draft
+}
+
+/// Adds an item, or none, and gives how many values fewer are held after it. A plain field holds
+/// one more, which is counted as none fewer, so that such an expression leaves two.
+fn item_at_the_most(maker: &mut Maker) -> usize {
+    let array = wide(&maker.draft) + 2;
+    match maker.random.below(6) {
+        0 => {}
+        1 => maker.draft.expressions.push(0x15),
+        2 => maker.draft.expressions.push(0x1C),
+        3 => maker.refer(2, array),
+        4 => maker.refer(3, array),
+        _ => {
+            maker.refer(4, array);
+            return 1;
+        }
+    }
+    0
+}
+
+/// CALLs that open 47 to 53 calls, with RETURNs behind them.
+fn nesting(random: &mut Random) -> Draft {
+    let mut draft = base(random);
+    let calls = random.within(47..=53);
+    for i in 0..calls {
+        let call = Statement::new(code::CALL, 0, 0, i as u16 + 1);
+        draft.statements.push(call);
+    }
+    let returns = random.pick(&[0, 1, 2, 60]);
+    for _ in 0..returns {
+        let back = Statement::new(code::RETURN, 0, 0, 0);
+        draft.statements.push(back);
+    }
+    let last = random.pick(&[code::STOP, code::RETURN]);
+    draft.statements.push(Statement::new(last, 0, 0, 0));
+    draft
+}
+
+/// Arithmetic on values near the greatest: sums, and products just inside and outside.
+fn digits(random: &mut Random) -> Draft {
+    let draft = base(random);
+    let mut maker = Maker::new(random, draft, false);
+    for _ in 0..maker.random.within(1..=3) {
+        let offset = maker.draft.expressions.len() as u16;
+        edge_values(&mut maker);
+        maker.draft.expressions.push(0);
+        set_wide(&mut maker, offset);
+        let place = maker.draft.statements[maker.draft.statements.len() - 1].a;
+        let change = maker.random.pick(&[code::INCR, code::DECR]);
+        let change = Statement::new(change, place, 0, 0);
+        maker.draft.statements.push(change);
+    }
+    maker.draft
+}
+
+/// Two values and an operator whose result lies near an edge of the range.
+fn edge_values(maker: &mut Maker) {
+    let operator = maker
+        .random
+        .pick(&[0x10, 0x11, 0x12, 0x12, 0x12, 0x13, 0x14]);
+    let (x, y) = match operator {
+        0x12 => {
+            let most = maker
+                .random
+                .pick(&[9, 1_000, 1_000_000_000, GREATEST as usize]);
+            let x = maker.random.within(1..=most) as u64;
+            let near = maker.random.below(3) as u64;
+            (
+                x,
+                ((GREATEST + 1) / x + near).saturating_sub(1).min(GREATEST),
+            )
+        }
+        0x14 => (maker.edge() / 2, maker.random.below(20) as u64),
+        _ => {
+            let x = GREATEST - maker.random.below(3) as u64;
+            (x, maker.random.below(4) as u64)
+        }
+    };
+    for value in [x, y] {
+        maker.number_literal(value);
+        if maker.random.chance(40) {
+            maker.draft.expressions.push(0x15);
+        }
+    }
+    maker.draft.expressions.push(operator);
+}
+
+/// A number or alpha literal at the end of the literals, of a length at its limit.
+fn literals(random: &mut Random) -> Draft {
+    let draft = base(random);
+    let mut maker = Maker::new(random, draft, false);
+    let room = maker.random.within(1..=40);
+    maker.draft.literals = vec![b'0'; room];
+    if maker.random.chance(15) {
+        let at = maker.random.below(room);
+        maker.draft.literals[at] = maker.random.pick(b"/:p -");
+    }
+    let length = maker.random.pick(&[0, 1, 17, 18, 19, room, room + 1]);
+    let place = (room + usize::from(maker.random.chance(20))).saturating_sub(length);
+    if maker.random.chance(60) {
+        maker.number_at(place, length);
+    } else {
+        maker.alpha_at(place, length);
+    }
+    maker.draft.expressions.push(0);
+    set_wide(&mut maker, 0);
+    maker.draft
+}
+
+/// A computed GOTO with a table of about 255 GOTOs, which ends with the unit or just before it.
+fn long_table(random: &mut Random) -> Draft {
+    let draft = base(random);
+    let mut maker = Maker::new(random, draft, false);
+    let n = maker.random.within(253..=257);
+    let value = maker.random.within(n - 2..=n + 2) as u64;
+    maker.number_literal(value);
+    maker.draft.expressions.push(0);
+    let head = Statement::new(code::COMPUTED_GOTO, n as u16, 0, 0);
+    maker.draft.statements.push(head);
+    let gotos = maker.random.pick(&[n - 1, n, n, n + 1]);
+    for _ in 0..gotos {
+        let target = maker.random.below(gotos) as u16;
+        let goto = Statement::new(code::GOTO, 0, 0, target);
+        maker.draft.statements.push(goto);
+    }
+    maker.draft
+}
+
+/// A reference whose span ends at an edge: of the data, of 18 characters, or of the bits of a
+/// product.
+fn spans(random: &mut Random) -> Draft {
+    let draft = base(random);
+    let mut maker = Maker::new(random, draft, false);
+    let number = maker.random.below(maker.draft.fields.len());
+    let field = maker.draft.fields[number];
+    let form = maker.random.within(3..=5) as u8;
+    for bound in edge_bounds(&mut maker, &field, form) {
+        maker.constant(bound);
+    }
+    maker.refer(form, number);
+    maker.draft.expressions.push(0);
+    use_span(&mut maker, 0, field.is_decimal());
+    maker.draft
+}
+
+/// The bounds of a reference of this form whose span ends at an edge or one byte beside it.
+fn edge_bounds(maker: &mut Maker, field: &Field, form: u8) -> Vec<i64> {
+    let (before, length) = (field.start() as i64, maker.draft.image.len() as i64);
+    let (size, after) = (field.size() as i64, length - before);
+    let near = maker.random.below(3) as i64 - 1;
+    match form {
+        3 => {
+            let far = maker.wrapping(field.size());
+            let edges = [-before / size + near, after / size + near, far, far];
+            vec![maker.random.pick(&edges)]
+        }
+        4 => {
+            let start = maker.random.pick(&[0, 1, after - 18, after - 17]).max(0);
+            let ends = [start + 17, after, start];
+            vec![start, maker.random.pick(&ends) + near]
+        }
+        _ => {
+            let pos = maker.random.pick(&[0, 1, 2, after]);
+            let lengths = [18, -18, -(before + pos), after - pos];
+            vec![pos, maker.random.pick(&lengths) + near]
+        }
+    }
+}
+
+/// Adds a statement that uses a reference as a place or as a source.
+fn use_span(maker: &mut Maker, offset: u16, is_decimal: bool) {
+    let changed = if is_decimal { code::INCR } else { code::UPCASE };
+    let used = maker.random.pick(&[code::CLEAR, changed, code::SET]);
+    if used == code::SET {
+        return set_wide(maker, offset);
+    }
+    let statement = Statement::new(used, offset, 0, 0);
+    maker.draft.statements.push(statement);
+}
+
+/// SETs of decimals from text with 17 to 20 digits, or from text with signs and bad characters.
+fn amounts(random: &mut Random) -> Draft {
+    let draft = base(random);
+    let mut maker = Maker::new(random, draft, false);
+    for _ in 0..maker.random.within(1..=3) {
+        let text = amount(maker.random);
+        let (offset, place) = (maker.draft.expressions.len(), maker.draft.literals.len());
+        maker.draft.literals.extend(&text);
+        maker.alpha_at(place, text.len().max(1));
+        maker.draft.expressions.push(0);
+        set_wide(&mut maker, offset as u16);
+    }
+    maker.draft
+}

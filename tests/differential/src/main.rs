@@ -1,0 +1,65 @@
+//! The C library against the second interpreter.
+//!
+//!     differential N SEED [--reached]    cases 0 to N - 1 of a seed
+//!     differential case SEED NUMBER      one case again, told in full
+//!
+//! The exit status is 0 when all answers are the same, 1 when some differ, and 2 when nothing was
+//! asked. With --reached it is also 1 when a stop, a statement, an item, a fence answer or a breach
+//! was not reached.
+
+mod cases;
+mod compare;
+mod damage;
+mod data;
+mod decode;
+mod draft;
+mod expressions;
+mod library;
+mod limits;
+mod promises;
+mod random;
+mod reached;
+mod report;
+mod threads;
+mod units;
+
+use std::env;
+use std::process::ExitCode;
+
+const USAGE: &str = "\
+usage: differential N SEED [--reached]
+       differential case SEED NUMBER";
+
+fn main() -> ExitCode {
+    let words: Vec<String> = env::args().skip(1).collect();
+    let words: Vec<&str> = words.iter().map(String::as_str).collect();
+    let number = |word: &str| word.parse::<u64>().ok();
+    let done = match words[..] {
+        ["case", seed, case] => number(seed)
+            .zip(number(case))
+            .map(|(seed, case)| one_case(seed, case)),
+        [count, seed, ref rest @ ..] if rest.is_empty() || rest == ["--reached"] => number(count)
+            .zip(number(seed))
+            .map(|(count, seed)| threads::all_cases(count, seed, !rest.is_empty())),
+        _ => None,
+    };
+    match done {
+        Some(true) => ExitCode::SUCCESS,
+        Some(false) => ExitCode::FAILURE,
+        None => {
+            eprintln!("{USAGE}");
+            ExitCode::from(2)
+        }
+    }
+}
+
+/// Tells one case in full, and whether its answers are the same.
+fn one_case(seed: u64, case: u64) -> bool {
+    println!("{}", report::told(seed, case));
+    let found = threads::attempt(seed, case, &mut reached::Reached::default());
+    match &found {
+        Ok(()) => println!("all answers are the same"),
+        Err(difference) => println!("{}", report::difference(difference)),
+    }
+    found.is_ok()
+}
