@@ -11,9 +11,10 @@
 --   left-with-the-next       after any other stop the numbers are those of the next state
 --   goes-on-from-there       so that a further call goes on from that state
 --   begins-at-zeros          52 zeros are the state before the first statement
+--   goes-on-as-one           a run that is paused and gone on with comes to what one run comes to
 --   words-fit                63 bytes have room for the words of every stop
 -- Assumes nothing.
-use Prim.Native.Nat.{ℕ, _≤_}
+use Prim.Native.Nat.{ℕ, _+_, _≤_}
 use mathlib.Core.Path.{_≡_}
 use mathlib.Core.Bool.{false}
 use mathlib.Core.List.{List}
@@ -24,7 +25,10 @@ use Rattle.rules_unit.specs.declared.Checked.the-variants as checked
 use Rattle.rules_unit.specs.Checks.{refusalNumber, refusalPlace, checkOf}
 use Rattle.rules_run.specs.declared.State.{State}
 use Rattle.rules_run.specs.States.{Sound, started}
+use Rattle.rules_run.specs.declared.Stop.the-variants as stop
 use Rattle.rules_run.specs.Runs.{runOf}
+use Rattle.rules_run.proofs.Runs.{counted}
+use Rattle.rules_run.proofs.Resumed.{call-resumed}
 use Rattle.words.specs.Words as words
 use Rattle.words.proofs.Short.{words-short}
 use Rattle.dibol_c.specs.States.{numbersOf, Held, stateb, stateOf}
@@ -66,3 +70,11 @@ begins-at-zeros = resume.zeros-start
 
 pub words-fit : (n : ℕ) → length (words.wordsOf n) ≤ 63
 words-fit = words-short
+
+-- ---- pausing
+
+-- A call that has spent its allowance m, and is gone on with from its state and its data for n more, comes to what one call with m + n comes to: the same
+-- stop, place, state and data, and the counts add up.
+pub goes-on-as-one : (u d : List ℕ) (s : State) (m n : ℕ) → runOf u d s m .outcome .stop ≡ stop.Spent
+    → runOf u d s (m + n) ≡ counted (runOf u d s m .outcome .count) (runOf u (runOf u d s m .bytes) (runOf u d s m .outcome .state) n)
+goes-on-as-one = call-resumed
