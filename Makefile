@@ -1,6 +1,6 @@
 SHELL := /bin/bash
 .SHELLFLAGS := -eu -o pipefail -c
-.PHONY: run check fence list owner bench test rim units second
+.PHONY: run check fence list owner bench test rim stored reference programs units second
 export CARGO_TARGET_DIR := $(CURDIR)/build/cargo
 
 # An example unit, run by the proved bench program, with its fields before and after.
@@ -30,23 +30,28 @@ bench: second
 	@tools/measure target/bin/bench build/cargo/release/second
 
 # The gate: layout, every proof from nothing, every must-fail edit, every program's output, then the rim. rt's own last line comes last.
-# rt waits for all of a batch before it starts the next, so four at a time keep two processors busier than two do.
+# rt waits for all of a batch before it starts the next, so eight at a time keep two processors busier than two do.
 test:
 	mkdir -p build
 	rt fmt --check
-	RT_JOBS=4 rt ci | tee build/ci.log
-	$(MAKE) --no-print-directory rim
+	RT_JOBS=8 rt ci | tee build/ci.log
+	$(MAKE) --no-print-directory --jobs=2 --output-sync rim
 	tail -n 1 build/ci.log
 
-# What is not proved: everything stored is what the texts and the second interpreter make; the proved bench program writes what is
-# expected of each stored run; the owner's program answers each call and each stored unit as expected; the second interpreter's own
-# tests; hosts in C and Rust; and the library against the second interpreter.
-rim:
+# What is not proved: everything stored is what the texts and the second interpreter make; the second interpreter's own tests; the
+# proved bench program writes what is expected of each stored run, and the owner's program answers each call and each stored unit as
+# expected; hosts in C and Rust; and the library against the second interpreter.
+rim: stored reference programs hosts differential
+
+stored:
 	tools/store-units --check
+
+reference: stored
+	UNITS=$(CURDIR)/build/units cargo test --release --offline --quiet --manifest-path second/Cargo.toml
+
+programs: stored
 	tools/run-stored target/bin/bench
 	tools/run-owner target/bin/boxlever
-	UNITS=$(CURDIR)/build/units cargo test --release --offline --quiet --manifest-path second/Cargo.toml
-	$(MAKE) --no-print-directory hosts differential
 
 second:
 	@cargo build --release --offline --quiet --manifest-path second/Cargo.toml
@@ -78,7 +83,7 @@ endif
 	@cmp -s $(LIB)/libdibol_c.a build/lib/libdibol.a || install -m 644 $(LIB)/libdibol_c.a build/lib/libdibol.a
 
 # The library installed, tested as C hosts take it, and taken out again; then the Rust binding with its documentation's examples.
-hosts: lib
+hosts: lib stored
 	@rm -rf build/prefix
 	@$(MAKE) --no-print-directory install PREFIX=$(CURDIR)/build/prefix DESTDIR=
 	tools/test-hosts build/prefix
@@ -94,21 +99,22 @@ differential: lib
 fuzz: lib
 	@cargo run --release --offline --quiet --manifest-path tests/differential/Cargo.toml -- $(N) $(SEED)
 
-# What stands below PREFIX: the library for C, the manual pages, and the programs where they have been built: the owner's program with
-# the wrapper that gives it an exit status before it, and the bench program by a longer name.
+# What stands below PREFIX: the library for C, the manual pages, and the programs: the owner's program with the wrapper that gives it an
+# exit status before it, and the bench program by a longer name.
 to := $(DESTDIR)$(PREFIX)
 pages := $(notdir $(wildcard man/*.[1-8]))
 
 install: lib
+	@rt check bench boxlever > build/install.log || { tail -n 20 build/install.log; exit 1; }
 	@install -d $(to)/lib/pkgconfig $(to)/include $(to)/bin
 	install -m 644 build/lib/libdibol.a $(to)/lib/libdibol.a
 	install -m 644 $(INCLUDE)/dibol.h $(to)/include/dibol.h
 	@version=$$(sed -n 's/^.define DIBOL_VERSION "\(.*\)"/\1/p' $(INCLUDE)/dibol.h); \
 	sed "s|@PREFIX@|$(PREFIX)|; s|@VERSION@|$$version|" include/dibol.pc.in > $(to)/lib/pkgconfig/dibol.pc
 	@for page in $(pages); do install -D -m 644 man/$$page $(to)/share/man/man$${page##*.}/$$page; done
-	@for program in $(wildcard target/bin/boxlever); do \
-		install -m 755 tools/boxlever $(to)/bin/boxlever; install -m 755 $$program $(to)/bin/boxlever-program; done
-	@for program in $(wildcard target/bin/bench); do install -m 755 $$program $(to)/bin/boxlever-bench; done
+	install -m 755 tools/boxlever $(to)/bin/boxlever
+	install -m 755 target/bin/boxlever $(to)/bin/boxlever-program
+	install -m 755 target/bin/bench $(to)/bin/boxlever-bench
 
 uninstall:
 	rm -f $(to)/lib/libdibol.a $(to)/include/dibol.h $(to)/lib/pkgconfig/dibol.pc

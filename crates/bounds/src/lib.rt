@@ -115,7 +115,7 @@ pub fn seen_after(unit: &[u8], parts: Parts, s: Seen, item: Item) -> Seen
 {
     match item {
         Item::Number { place, len } => {
-            seen_number(evaluate::literal_number(unit, parts, place, len), s)
+            seen_number(items::literal_number(unit, parts, place, len), s)
         }
         Item::Reference { how: _, field: _ } => Seen::Nothing,
         Item::Text { place: _, len: _ } => Seen::Nothing,

@@ -1,6 +1,8 @@
 // `boxlever check FILES..`: a row for each unit with the answer of the fence check, and a line of totals.
+use crate::say::fill_to;
 use crate::say::open;
-use crate::say::put_number;
+use crate::say::put;
+use crate::say::put_form;
 use crate::say::put_right;
 use crate::say::put_text;
 use crate::say::say_line;
@@ -44,9 +46,7 @@ fn put_name(t: &mut [u8], at: usize, path: &[u8]) -> usize {
 }
 
 fn put_no(t: &mut [u8], at: usize, unit: &[u8], i: u16) -> usize {
-    let mut next = put_text(t, at, b"no at ");
-    next = put_number(t, next, i as u64);
-    next = put_text(t, next, b": ");
+    let next = put_form(t, at, b"no at #: ", i as u64, 0);
     put_breach(t, next, dibol::breach(unit, i as usize))
 }
 
@@ -74,9 +74,9 @@ fn say_unit(path: &[u8], unit: &[u8], v: Verdict) {
     let mut space = [0u8; 4400];
     let t: &mut [u8] = &mut space;
     let mut at = put_right(t, 0, unit.len() as u64, 6);
-    at = put_text(t, at, b"  ");
+    at = fill_to(t, at, 8);
     at = put_name(t, at, path);
-    at = put_text(t, at, b" ");
+    at = put(t, at, b' ');
     at = put_answer(t, at, unit, v);
     say_line(t, at);
 }
@@ -108,29 +108,21 @@ fn say_file(path: &[u8], tally: Tally) -> Tally {
     counted(tally, verdict)
 }
 
-// Puts a number of units and what they are.
-fn put_sum(t: &mut [u8], at: usize, n: u32, what: &[u8]) -> usize {
-    let next = put_number(t, at, n as u64);
-    put_text(t, next, what)
-}
-
 fn put_unread(t: &mut [u8], at: usize, n: u32) -> usize {
     if n == 0 {
         return at;
     }
-    let next = put_text(t, at, b", ");
-    put_sum(t, next, n, b" not read")
+    put_form(t, at, b", # not read", n as u64, 0)
 }
 
 fn say_totals(tally: Tally) {
     let mut space = [0u8; 200];
     let t: &mut [u8] = &mut space;
-    let units = tally.yes as u64 + tally.no as u64 + tally.refused as u64;
-    let mut at = put_number(t, 0, units);
-    at = put_text(t, at, b" units: ");
-    at = put_sum(t, at, tally.yes, b" yes, ");
-    at = put_sum(t, at, tally.no, b" no, ");
-    at = put_sum(t, at, tally.refused, b" refused");
+    let yes = tally.yes as u64;
+    let no = tally.no as u64;
+    let refused = tally.refused as u64;
+    let mut at = put_form(t, 0, b"# units: # yes, ", yes + no + refused, yes);
+    at = put_form(t, at, b"# no, # refused", no, refused);
     at = put_unread(t, at, tally.unread);
     say_line(t, at);
 }

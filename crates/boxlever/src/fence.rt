@@ -3,7 +3,6 @@ use crate::parts::Figures;
 use crate::parts::expressions_of;
 use crate::parts::field_of;
 use crate::parts::figures_of;
-use crate::parts::is_decimal;
 use crate::parts::literal_of;
 use crate::parts::statement_of;
 use crate::phrase::Held;
@@ -11,11 +10,11 @@ use crate::phrase::hold_item;
 use crate::phrase::is_end;
 use crate::phrase::none_held;
 use crate::phrase::put_name;
-use crate::phrase::put_statement;
+use crate::phrase::say_statement;
 use crate::phrase::start_of;
 use crate::say::less;
 use crate::say::part;
-use crate::say::put_number;
+use crate::say::put_form;
 use crate::say::put_text;
 use crate::say::say;
 use crate::say::say_line;
@@ -32,7 +31,7 @@ use rules_unit::Item;
 use rules_unit::Op;
 use rules_unit::Parts;
 use rules_unit::Refusal;
-use rules_unit::Statement;
+use rules_unit::Use;
 ghost use Prim.Native.Nat.{_^_};
 ghost use Rattle.rules.specs.Values.{Val};
 
@@ -108,16 +107,6 @@ fn known_after(unit: &[u8], parts: Parts, k: Known, item: Item) -> Known {
     }
 }
 
-// Whether all bounds of a reference are known.
-fn is_known(how: How, k: Known) -> bool {
-    match how {
-        How::Whole => true,
-        How::Element => 0 < k.count,
-        How::Range => 1 < k.count,
-        How::Length => 1 < k.count,
-    }
-}
-
 // ---- the bytes of a reference
 
 // A bound as a value. None has more digits than a value.
@@ -140,24 +129,19 @@ fn span_by(parts: Parts, field: Field, how: How, x: Figures, y: Figures) -> Span
 fn span_of(parts: Parts, field: Field, how: How, k: Known) -> Span {
     let first = k.first;
     let last = k.last;
-    match how {
-        How::Whole => span_by(parts, field, how, last, last),
-        How::Element => span_by(parts, field, how, last, last),
-        How::Range => span_by(parts, field, how, first, last),
-        How::Length => span_by(parts, field, how, first, last),
+    if sorts::how_takes(how) == 2 {
+        return span_by(parts, field, how, first, last);
     }
+    span_by(parts, field, how, last, last)
 }
 
 // Puts ` bytes 3 to 7`, or ` byte 3`.
 fn put_bytes(t: &mut [u8], at: usize, from: usize, len: usize) -> usize {
     if len < 2 {
-        let next = put_text(t, at, b" byte ");
-        return put_number(t, next, from as u64);
+        return put_form(t, at, b" byte #", from as u64, 0);
     }
-    let mut next = put_text(t, at, b" bytes ");
-    next = put_number(t, next, from as u64);
-    next = put_text(t, next, b" to ");
-    put_number(t, next, less(sum(from, len), 1) as u64)
+    let last = less(sum(from, len), 1);
+    put_form(t, at, b" bytes # to #", from as u64, last as u64)
 }
 
 // Puts how long the elements of a field are, if it has several.
@@ -165,9 +149,7 @@ fn put_elements(t: &mut [u8], at: usize, field: Field) -> usize {
     if field.count < 2 {
         return at;
     }
-    let mut next = put_text(t, at, b", ");
-    next = put_number(t, next, field.size as u64);
-    put_text(t, next, b" in each element")
+    put_form(t, at, b", # in each element", field.size as u64, 0)
 }
 
 // Puts the bytes of the field i.
@@ -194,7 +176,7 @@ fn put_span(t: &mut [u8], at: usize, span: Span) -> usize {
 // Whether a field is decimal and shares a byte with a span.
 fn is_shared(field: Field, span: Span) -> bool {
     let kind = field.kind;
-    if !is_decimal(kind) {
+    if !sorts::is_decimal(kind) {
         return false;
     }
     match span {
@@ -229,14 +211,12 @@ fn put_shared(t: &mut [u8], at: usize, unit: &[u8], parts: Parts, span: Span) ->
     at
 }
 
-// Puts the bytes of the field of a reference, unless it is named whole and has one element.
+// Puts the bytes of the field of a reference, unless it is named whole.
 fn put_own(t: &mut [u8], at: usize, unit: &[u8], parts: Parts, how: How, i: u16) -> usize {
-    match how {
-        How::Whole => at,
-        How::Element => put_field(t, at, unit, parts, i),
-        How::Range => put_field(t, at, unit, parts, i),
-        How::Length => put_field(t, at, unit, parts, i),
+    if sorts::how_takes(how) == 0 {
+        return at;
     }
+    put_field(t, at, unit, parts, i)
 }
 
 // The line of a reference whose bounds are known. An alpha destination names the decimal field that it is on.
@@ -264,18 +244,9 @@ fn say_unknown(text: &[u8], unit: &[u8], parts: Parts, i: u16) {
     say_line(t, at);
 }
 
-fn is_whole(how: How) -> bool {
-    match how {
-        How::Whole => true,
-        How::Element => false,
-        How::Range => false,
-        How::Length => false,
-    }
-}
-
 // Whether nothing is to be told of a reference: it has no bounds and is on no decimal field.
 fn is_plain(unit: &[u8], parts: Parts, how: How, span: Span, aimed: bool) -> bool {
-    if !is_whole(how) {
+    if 0 < sorts::how_takes(how) {
         return false;
     }
     if !aimed {
@@ -294,13 +265,17 @@ fn say_reference(
     k: Known,
     written: bool,
 ) {
-    if !is_known(how, k) {
+    if (k.count as u16) < sorts::how_takes(how) {
         say_unknown(text, unit, parts, i);
         return;
     }
     let field = field_of(unit, parts, i);
     let kind = field.kind;
-    let aimed = if is_decimal(kind) { false } else { written };
+    let aimed = if sorts::is_decimal(kind) {
+        false
+    } else {
+        written
+    };
     let span = span_of(parts, field, how, k);
     if is_plain(unit, parts, how, span, aimed) {
         return;
@@ -351,37 +326,16 @@ fn say_references(unit: &[u8], parts: Parts, e: u16, written: bool) {
     }
 }
 
-// The lines of the references of a statement, in the order in which they are worked out.
-fn say_bytes(unit: &[u8], parts: Parts, s: Statement) {
-    match s {
-        Statement::Set { place, source } => {
-            say_references(unit, parts, place, true);
-            say_references(unit, parts, source, false);
-        }
-        Statement::Clear { place } => say_references(unit, parts, place, true),
-        Statement::Incr { place } => say_references(unit, parts, place, true),
-        Statement::Decr { place } => say_references(unit, parts, place, true),
-        Statement::Upcase { place } => say_references(unit, parts, place, true),
-        Statement::Locase { place } => say_references(unit, parts, place, true),
-        Statement::Goto { target: _ } => (),
-        Statement::IfZero { number, target: _ } => say_references(unit, parts, number, false),
-        Statement::Call { target: _ } => (),
-        Statement::Return => (),
-        Statement::Stop => (),
-        Statement::Computed { count: _, number } => say_references(unit, parts, number, false),
-        Statement::Bad => (),
+// The lines of the references of a use.
+fn say_use(unit: &[u8], parts: Parts, u: Use) {
+    match u {
+        Use::Nothing => (),
+        Use::Of {
+            want: _,
+            at,
+            written,
+        } => say_references(unit, parts, at, written),
     }
-}
-
-// The statement i as text.
-fn say_statement(unit: &[u8], parts: Parts, i: u16) {
-    let mut space = [0u8; 500];
-    let t: &mut [u8] = &mut space;
-    let mut at = put_text(t, 0, b"statement ");
-    at = put_number(t, at, i as u64);
-    at = put_text(t, at, b": ");
-    at = put_statement(t, at, unit, parts, i);
-    say_line(t, at);
 }
 
 // The rule that a statement breaks.
@@ -393,27 +347,17 @@ fn say_breach(b: Breach) {
     say_line(t, at);
 }
 
-pub fn keeps(b: Breach) -> bool {
-    match b {
-        Breach::None => true,
-        Breach::BoundNotLiteral => false,
-        Breach::BoundsWrong => false,
-        Breach::LeavesField => false,
-        Breach::OverElements => false,
-        Breach::StopsMidElement => false,
-        Breach::OnDecimal => false,
-    }
-}
-
-// The lines of the statement i, if it breaks a rule.
+// The lines of the statement i, if it breaks a rule: its references in the order in which they are worked out.
 fn say_breaking(unit: &[u8], parts: Parts, i: u16) {
     let b = dibol::breach(unit, i as usize);
-    if keeps(b) {
+    if dibol::breach_number(b) == 0 {
         return;
     }
+    let s = statement_of(unit, parts, i);
     say_statement(unit, parts, i);
     say_breach(b);
-    say_bytes(unit, parts, statement_of(unit, parts, i));
+    say_use(unit, parts, uses::use_at(s, 0));
+    say_use(unit, parts, uses::use_at(s, 1));
 }
 
 // The lines of all breaking statements, the first of which is given.
@@ -428,8 +372,7 @@ fn say_all(unit: &[u8], parts: Parts, first: u16) {
 fn say_no(unit: &[u8], i: u16) {
     let mut space = [0u8; 20];
     let t: &mut [u8] = &mut space;
-    let mut at = put_text(t, 0, b"no ");
-    at = put_number(t, at, i as u64);
+    let at = put_form(t, 0, b"no #", i as u64, 0);
     say_line(t, at);
     match dibol::check(unit) {
         Checked::Passed(parts) => say_all(unit, parts, i),
@@ -440,10 +383,9 @@ fn say_no(unit: &[u8], i: u16) {
 fn say_refused(r: Refusal) {
     let mut space = [0u8; 100];
     let t: &mut [u8] = &mut space;
-    let mut at = put_text(t, 0, b"refused ");
-    at = put_number(t, at, rules_unit::refusal_number(r) as u64);
-    at = put_text(t, at, b" ");
-    at = put_number(t, at, rules_unit::refusal_place(r) as u64);
+    let number = rules_unit::refusal_number(r) as u64;
+    let place = rules_unit::refusal_place(r) as u64;
+    let at = put_form(t, 0, b"refused # #", number, place);
     say_line(t, at);
 }
 

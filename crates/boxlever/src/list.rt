@@ -1,9 +1,8 @@
 // `boxlever list FILE`: the parts of a unit, its fields with what they hold, and its statements as text.
-use crate::fence::keeps;
 use crate::parts::field_of;
 use crate::parts::figures_of;
-use crate::parts::is_decimal;
 use crate::parts::statement_of;
+use crate::phrase::kind_number;
 use crate::phrase::put_hex;
 use crate::phrase::put_name;
 use crate::phrase::put_statement;
@@ -14,7 +13,9 @@ use crate::say::less;
 use crate::say::most;
 use crate::say::part;
 use crate::say::put;
+use crate::say::put_form;
 use crate::say::put_number;
+use crate::say::put_piece;
 use crate::say::put_right;
 use crate::say::put_shown;
 use crate::say::put_text;
@@ -64,12 +65,11 @@ const ALPHA_ROOM: usize = 60;
 
 // Puts `3-7`, or `3` for one byte.
 fn put_span(t: &mut [u8], at: usize, from: usize, len: usize) -> usize {
-    let next = put_number(t, at, from as u64);
     if len < 2 {
-        return next;
+        return put_number(t, at, from as u64);
     }
-    let more = put(t, next, b'-');
-    put_number(t, more, less(sum(from, len), 1) as u64)
+    let last = less(sum(from, len), 1);
+    put_form(t, at, b"#-#", from as u64, last as u64)
 }
 
 // The row of a part, and where the next one starts. A part of entries has a row with their number.
@@ -102,15 +102,6 @@ fn say_parts(parts: Parts) -> usize {
 }
 
 // ---- the fields
-
-fn put_kind(t: &mut [u8], at: usize, kind: Kind) -> usize {
-    match kind {
-        Kind::Alpha => put_text(t, at, b"alpha"),
-        Kind::Decimal => put_text(t, at, b"decimal"),
-        Kind::Record => put_text(t, at, b"record"),
-        Kind::Bad => put_text(t, at, b"none"),
-    }
-}
 
 // How many of a field's elements fit a room, in quotes and with a space between two; one at the least.
 fn fitting(field: Field, room: usize) -> usize {
@@ -149,7 +140,7 @@ fn stored_width(field: Field, data: &[u8]) -> usize {
     let mut space = [0u8; 100];
     let t: &mut [u8] = &mut space;
     let kind = field.kind;
-    if !is_decimal(kind) {
+    if !sorts::is_decimal(kind) {
         return 0;
     }
     put_stored(
@@ -205,9 +196,7 @@ fn put_more(t: &mut [u8], at: usize, count: usize, k: usize) -> usize {
     if count <= k {
         return at;
     }
-    let mut next = put_text(t, at, b" and ");
-    next = put_number(t, next, (count - k) as u64);
-    put_text(t, next, b" more")
+    put_form(t, at, b" and # more", (count - k) as u64, 0)
 }
 
 // Puts what a decimal field holds: the characters, and in the column given the values.
@@ -235,7 +224,7 @@ fn put_entry(t: &mut [u8], unit: &[u8], parts: Parts, i: u16, field: Field) -> u
     let kind = field.kind;
     let mut at = put_name(t, 0, unit, parts, i);
     at = fill_to(t, at, KIND);
-    at = put_kind(t, at, kind);
+    at = put_piece(t, at, b"alpha|decimal|record|none|", kind_number(kind));
     fill_to(t, at, SPAN)
 }
 
@@ -256,7 +245,7 @@ fn say_field(unit: &[u8], parts: Parts, data: &[u8], i: u16, column: usize) {
     let kind = field.kind;
     let mut at = put_entry(t, unit, parts, i, field);
     at = put_sizes(t, at, field);
-    if is_decimal(kind) {
+    if sorts::is_decimal(kind) {
         at = put_decimal(t, at, data, field, column);
     } else {
         at = put_alpha(t, at, data, field);
@@ -343,15 +332,13 @@ fn put_label(t: &mut [u8], at: usize, i: u16, mark: u8) -> usize {
     if mark == 0 {
         return at;
     }
-    let mut next = put(t, at, b'L');
-    next = put_number(t, next, i as u64);
-    put(t, next, b':')
+    put_form(t, at, b"L#:", i as u64, 0)
 }
 
 // Puts the rule that the statement i breaks, if it breaks one.
 fn put_broken(t: &mut [u8], at: usize, unit: &[u8], i: u16) -> usize {
     let b = dibol::breach(unit, i as usize);
-    if keeps(b) {
+    if dibol::breach_number(b) == 0 {
         return at;
     }
     let next = put_text(t, at, b"  ! ");
@@ -407,20 +394,21 @@ fn say_statements(unit: &[u8], parts: Parts, first: u16) {
 
 // ---- the whole
 
+// Puts what the fence says.
+fn put_verdict(t: &mut [u8], at: usize, v: Verdict) -> usize {
+    match v {
+        Verdict::Yes => put_text(t, at, b"; the fence says yes"),
+        Verdict::No(i) => put_form(t, at, b"; the fence says no at #", i as u64, 0),
+        Verdict::Refused(_) => at,
+    }
+}
+
 // The first line of a unit that passes its check.
 fn say_head(unit: &[u8], v: Verdict) {
     let mut space = [0u8; 200];
     let t: &mut [u8] = &mut space;
-    let mut at = put_text(t, 0, b"unit of ");
-    at = put_number(t, at, unit.len() as u64);
-    match v {
-        Verdict::Yes => at = put_text(t, at, b" bytes; the fence says yes"),
-        Verdict::No(i) => {
-            at = put_text(t, at, b" bytes; the fence says no at ");
-            at = put_number(t, at, i as u64);
-        }
-        Verdict::Refused(_) => at = put_text(t, at, b" bytes"),
-    }
+    let mut at = put_form(t, 0, b"unit of # bytes", unit.len() as u64, 0);
+    at = put_verdict(t, at, v);
     say_line(t, at);
     say(b"\n");
 }
@@ -449,10 +437,13 @@ fn say_unfilled(end: usize, len: usize) {
     if end == len {
         return;
     }
-    let mut at = put_text(t, 0, b"the parts take ");
-    at = put_number(t, at, end as u64);
-    at = put_text(t, at, b" bytes, the unit has ");
-    at = put_number(t, at, len as u64);
+    let at = put_form(
+        t,
+        0,
+        b"the parts take # bytes, the unit has #",
+        end as u64,
+        len as u64,
+    );
     say_line(t, at);
 }
 

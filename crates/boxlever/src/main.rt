@@ -9,8 +9,23 @@ mod say;
 mod words;
 
 use say::open;
+use say::part;
+use say::put_piece;
 use say::same;
 use say::tell;
+
+// The words by their numbers. The first three take one file.
+const RUN: u8 = 0;
+
+const FENCE: u8 = 1;
+
+const CHECK: u8 = 3;
+
+const HELP: u8 = 4;
+
+const VERSION: u8 = 5;
+
+const NONE: u8 = 6;
 
 // A call that cannot be answered: the first word on standard output says so, the line on standard error why.
 fn usage(what: &[u8], why: &[u8]) {
@@ -29,30 +44,30 @@ fn unreadable(path: &[u8]) {
     tell(b": cannot be read\n");
 }
 
-// What a word says of a unit.
-fn answer_unit(word: &[u8], unit: &[u8]) {
-    if same(word, b"run") {
+// What the word k says of a unit.
+fn answer_unit(k: u8, unit: &[u8]) {
+    if k == RUN {
         run::answer(unit);
         return;
     }
-    if same(word, b"fence") {
+    if k == FENCE {
         fence::answer(unit);
         return;
     }
     list::answer(unit);
 }
 
-// What a word says of the unit in a file that is open. More bytes than the longest unit has are read, so that a longer file is refused.
-fn answer_open(word: &[u8], fd: i32) {
+// What the word k says of the unit in a file that is open. More bytes than the longest unit has are read, so that a longer file is refused.
+fn answer_open(k: u8, fd: i32) {
     let mut buf = io::large_buffer();
     let n = io::read_full(fd, &mut buf);
-    answer_unit(word, &buf[..n]);
+    answer_unit(k, &buf[..n]);
 }
 
-// What a word says of the unit in a file; `-` is standard input.
-fn answer_file(word: &[u8], path: &[u8]) {
+// What the word k says of the unit in a file; `-` is standard input.
+fn answer_file(k: u8, path: &[u8]) {
     if same(path, b"-") {
-        answer_open(word, libc::STDIN_FILENO);
+        answer_open(k, libc::STDIN_FILENO);
         return;
     }
     let fd = open(path);
@@ -60,19 +75,19 @@ fn answer_file(word: &[u8], path: &[u8]) {
         unreadable(path);
         return;
     }
-    answer_open(word, fd);
+    answer_open(k, fd);
     let closed = libc::close(fd);
 }
 
-// What a word says of the one file that is named.
-fn answer_one(word: &[u8]) {
+// What a word, the word k, says of the one file that is named.
+fn answer_one(word: &[u8], k: u8) {
     if os::arg_count() != 3 {
         usage(word, b": one FILE is wanted");
         return;
     }
     let mut path = io::buffer();
     let n = os::arg(2, &mut path);
-    answer_file(word, &path[..n]);
+    answer_file(k, &path[..n]);
 }
 
 // The table of the files that are named.
@@ -83,17 +98,6 @@ fn answer_check() {
         return;
     }
     check::check_files(count);
-}
-
-// Whether a word is one that takes one file.
-fn takes_one(word: &[u8]) -> bool {
-    if same(word, b"run") {
-        return true;
-    }
-    if same(word, b"fence") {
-        return true;
-    }
-    same(word, b"list")
 }
 
 fn help() {
@@ -108,24 +112,38 @@ fn help() {
     say::say(b"example: boxlever fence fares.unit\n");
 }
 
+// Whether a word is the word k.
+fn is_word(word: &[u8], k: u8) -> bool {
+    let mut space = [0u8; 20];
+    let t: &mut [u8] = &mut space;
+    let n = put_piece(t, 0, b"run|fence|list|check|--help|--version|", k);
+    same(word, part(t, 0, n))
+}
+
+// The number of a word; NONE where there is no such word.
+fn number_of(word: &[u8]) -> u8 {
+    let mut k = 0;
+    while k < NONE {
+        if is_word(word, k) {
+            return k;
+        }
+        k += 1;
+    }
+    NONE
+}
+
 fn answer(word: &[u8]) {
-    if takes_one(word) {
-        answer_one(word);
+    let k = number_of(word);
+    if k < CHECK {
+        answer_one(word, k);
         return;
     }
-    if same(word, b"check") {
-        answer_check();
-        return;
+    match k {
+        CHECK => answer_check(),
+        HELP => help(),
+        VERSION => say::say(b"boxlever 0.1.0\n"),
+        _ => usage(word, b": there is no such word"),
     }
-    if same(word, b"--help") {
-        help();
-        return;
-    }
-    if same(word, b"--version") {
-        say::say(b"boxlever 0.1.0\n");
-        return;
-    }
-    usage(word, b": there is no such word");
 }
 
 fn main() {

@@ -63,15 +63,6 @@ pub fn literal_of(unit: &[u8], parts: Parts, place: u16, len: u16) -> &[u8] {
     part(literals, decode::long(place), decode::long(len))
 }
 
-pub fn is_decimal(kind: Kind) -> bool {
-    match kind {
-        Kind::Alpha => false,
-        Kind::Decimal => true,
-        Kind::Record => false,
-        Kind::Bad => false,
-    }
-}
-
 fn no_figures() -> Figures
     ensures { λ r. ⌜ r .size < 10 ^ 18 ⌝ }
 {

@@ -3,12 +3,16 @@
 use crate::parts::field_of;
 use crate::parts::literal_of;
 use crate::parts::statement_of;
+use crate::say::byte_at;
 use crate::say::insert;
 use crate::say::insert_text;
 use crate::say::part;
 use crate::say::put;
-use crate::say::put_number;
+use crate::say::put_form;
+use crate::say::put_piece;
 use crate::say::put_text;
+use crate::say::say_line;
+use crate::say::shown;
 use crate::say::sum;
 use rules_unit::How;
 use rules_unit::Item;
@@ -16,6 +20,7 @@ use rules_unit::Kind;
 use rules_unit::Op;
 use rules_unit::Parts;
 use rules_unit::Statement;
+use rules_unit::Use;
 
 // How tightly a text binds that is no operation of two values.
 const TIGHTEST: u8 = 7;
@@ -116,21 +121,23 @@ pub fn put_hex(t: &mut [u8], at: usize, b: u8) -> usize {
     put(t, next, digit_of(b % 16))
 }
 
+// Whether a byte of a quoted text has a backslash before it.
+fn is_marked(b: u8) -> bool {
+    if b == b'"' {
+        return true;
+    }
+    b == b'\\'
+}
+
 // Puts a byte as it stands in a quoted text.
 fn put_quoted_byte(t: &mut [u8], at: usize, b: u8) -> usize {
-    if b < 32 {
+    if shown(b) != b {
         let next = put_text(t, at, b"\\x");
         return put_hex(t, next, b);
     }
-    if 126 < b {
-        let next = put_text(t, at, b"\\x");
-        return put_hex(t, next, b);
-    }
-    if b == b'"' {
-        return put_text(t, at, b"\\\"");
-    }
-    if b == b'\\' {
-        return put_text(t, at, b"\\\\");
+    if is_marked(b) {
+        let next = put(t, at, b'\\');
+        return put(t, next, b);
     }
     put(t, at, b)
 }
@@ -151,13 +158,13 @@ fn put_literal(t: &mut [u8], at: usize, s: &[u8]) -> usize {
     put(t, next, b'"')
 }
 
-// The letter of a field's kind.
-fn letter_of(kind: Kind) -> u8 {
+// The number of a field's kind.
+pub fn kind_number(kind: Kind) -> u8 {
     match kind {
-        Kind::Alpha => b'A',
-        Kind::Decimal => b'D',
-        Kind::Record => b'R',
-        Kind::Bad => b'F',
+        Kind::Alpha => 0,
+        Kind::Decimal => 1,
+        Kind::Record => 2,
+        Kind::Bad => 3,
     }
 }
 
@@ -175,7 +182,8 @@ pub fn insert_name(
     let next = insert_text(t, from, at, &digits[..k]);
     let field = field_of(unit, parts, i);
     let kind = field.kind;
-    insert(t, from, next, letter_of(kind))
+    let letter = byte_at(b"ADRF", kind_number(kind) as usize);
+    insert(t, from, next, letter)
 }
 
 pub fn put_name(t: &mut [u8], at: usize, unit: &[u8], parts: Parts, i: u16) -> usize {
@@ -192,104 +200,76 @@ fn hold_element(t: &mut [u8], h: Held, unit: &[u8], parts: Parts, i: u16) -> Hel
     held_joined(h, 0, at, TIGHTEST)
 }
 
-// A reference with two bounds, which a byte stands between.
-fn hold_bounds(t: &mut [u8], h: Held, unit: &[u8], parts: Parts, i: u16, between: u8) -> Held {
+// What stands between the two bounds of a reference.
+fn between(how: How) -> u8 {
+    match how {
+        How::Whole => b'(',
+        How::Element => b'(',
+        How::Range => b',',
+        How::Length => b':',
+    }
+}
+
+fn hold_bounds(t: &mut [u8], h: Held, unit: &[u8], parts: Parts, how: How, i: u16) -> Held {
     let from = start_of(h, 1);
     let mut at = put(t, h.at, b')');
-    at = insert(t, start_of(h, 0), at, between);
+    at = insert(t, start_of(h, 0), at, between(how));
     at = insert(t, from, at, b'(');
     at = insert_name(t, from, at, unit, parts, i);
     held_joined(h, 1, at, TIGHTEST)
 }
 
 fn hold_reference(t: &mut [u8], h: Held, unit: &[u8], parts: Parts, how: How, i: u16) -> Held {
-    match how {
-        How::Whole => {
-            let at = put_name(t, h.at, unit, parts, i);
-            held_more(h, at)
-        }
-        How::Element => hold_element(t, h, unit, parts, i),
-        How::Range => hold_bounds(t, h, unit, parts, i, b','),
-        How::Length => hold_bounds(t, h, unit, parts, i, b':'),
+    let taken = sorts::how_takes(how);
+    if taken == 0 {
+        let at = put_name(t, h.at, unit, parts, i);
+        return held_more(h, at);
     }
+    if taken == 1 {
+        return hold_element(t, h, unit, parts, i);
+    }
+    hold_bounds(t, h, unit, parts, how, i)
 }
 
 // ---- operators
 
-// How tightly an operator binds, as tools/dibasm has it.
-fn level_by(op: Op) -> u8 {
-    match op {
-        Op::Add => 4,
-        Op::Subtract => 4,
-        Op::Multiply => 5,
-        Op::Divide => 5,
-        Op::Round => 6,
-        Op::Negate => TIGHTEST,
-        Op::Eq => 3,
-        Op::Ne => 3,
-        Op::Gt => 3,
-        Op::Lt => 3,
-        Op::Ge => 3,
-        Op::Le => 3,
-        Op::Not => 2,
-        Op::And => 1,
-        Op::Or => 0,
-        Op::Xor => 0,
-    }
-}
-
-// Whether an operator takes one value.
-fn is_alone(op: Op) -> bool {
-    match op {
-        Op::Negate => true,
-        Op::Not => true,
-        Op::Add | Op::Subtract | Op::Multiply | Op::Divide | Op::Round => false,
-        Op::Eq | Op::Ne | Op::Gt | Op::Lt | Op::Ge | Op::Le => false,
-        Op::And | Op::Or | Op::Xor => false,
-    }
-}
-
-// The place of an operator's sign among the signs, each of which takes seven characters.
-fn sign_at(op: Op) -> usize {
+// The place of an operator among the signs and the levels.
+fn operator_number(op: Op) -> u8 {
     match op {
         Op::Add => 0,
-        Op::Subtract => 7,
-        Op::Multiply => 14,
-        Op::Divide => 21,
-        Op::Round => 28,
-        Op::Negate => 35,
-        Op::Eq => 42,
-        Op::Ne => 49,
-        Op::Gt => 56,
-        Op::Lt => 63,
-        Op::Ge => 70,
-        Op::Le => 77,
-        Op::Not => 84,
-        Op::And => 91,
-        Op::Or => 98,
-        Op::Xor => 105,
+        Op::Subtract => 1,
+        Op::Multiply => 2,
+        Op::Divide => 3,
+        Op::Round => 4,
+        Op::Negate => 5,
+        Op::Eq => 6,
+        Op::Ne => 7,
+        Op::Gt => 8,
+        Op::Lt => 9,
+        Op::Ge => 10,
+        Op::Le => 11,
+        Op::Not => 12,
+        Op::And => 13,
+        Op::Or => 14,
+        Op::Xor => 15,
     }
 }
 
-// How many of the seven characters an operator's sign has.
-fn sign_width(op: Op) -> usize {
-    match op {
-        Op::Add | Op::Subtract | Op::Multiply | Op::Divide | Op::Round => 3,
-        Op::Negate => 1,
-        Op::Eq | Op::Ne | Op::Gt | Op::Lt | Op::Ge | Op::Le => 6,
-        Op::Not => 6,
-        Op::And => 7,
-        Op::Or => 6,
-        Op::Xor => 7,
-    }
+// How tightly an operator binds, as tools/dibasm has it.
+fn level_by(op: Op) -> u8 {
+    let levels = b"4455673333332100";
+    let level = byte_at(levels, operator_number(op) as usize);
+    level % 16
 }
 
 // Inserts an operator's sign.
 fn insert_sign(t: &mut [u8], from: usize, at: usize, op: Op) -> usize {
+    let mut space = [0u8; 8];
+    let sign: &mut [u8] = &mut space;
     let signs =
-        b" +      -      *      /      #     -       .EQ.   .NE.   .GT.   .LT.   .GE.   .LE.  .NOT.   .AND.  .OR.   .XOR. ";
-    let sign: &[u8] = signs;
-    insert_text(t, from, at, part(sign, sign_at(op), sign_width(op)))
+        b" + | - | * | / | # |-| .EQ. | .NE. | .GT. | .LT. | .GE. | .LE. |.NOT. | .AND. | .OR. | .XOR. |";
+    let n = put_piece(sign, 0, signs, operator_number(op));
+    insert_text(t, from, at, part(sign, 0, n))
 }
 
 // An operator of one value: its sign stands before.
@@ -313,7 +293,7 @@ fn hold_joined(t: &mut [u8], h: Held, op: Op) -> Held {
 }
 
 fn hold_operator(t: &mut [u8], h: Held, op: Op) -> Held {
-    if is_alone(op) {
+    if sorts::op_takes(op) == 1 {
         return hold_alone(t, h, op);
     }
     hold_joined(t, h, op)
@@ -386,108 +366,94 @@ pub fn put_expression(t: &mut [u8], at: usize, unit: &[u8], parts: Parts, e: u16
 
 // ---- statements
 
-// Puts the parts of a SET.
-fn put_set(t: &mut [u8], at: usize, unit: &[u8], parts: Parts, place: u16, source: u16) -> usize {
-    let mut next = put_expression(t, at, unit, parts, place);
-    next = put_text(t, next, b" = ");
-    put_expression(t, next, unit, parts, source)
-}
-
-// Puts the parts of a statement that goes on at a target if a number is zero.
-fn put_if_zero(t: &mut [u8], at: usize, unit: &[u8], parts: Parts, e: u16, target: u16) -> usize {
-    let mut next = put_expression(t, at, unit, parts, e);
-    next = put_text(t, next, b" goto L");
-    put_number(t, next, target as u64)
-}
-
-// Puts the parts of a computed GOTO.
-fn put_computed(t: &mut [u8], at: usize, unit: &[u8], parts: Parts, e: u16, count: u16) -> usize {
-    let mut next = put_expression(t, at, unit, parts, e);
-    next = put_text(t, next, b" of ");
-    put_number(t, next, count as u64)
-}
-
-// The place of a statement's word among the words, each of which takes nine characters.
-fn word_at(s: Statement) -> usize {
+// The place of a statement among the words.
+fn statement_number(s: Statement) -> u8 {
     match s {
         Statement::Set {
             place: _,
             source: _,
         } => 0,
-        Statement::Clear { place: _ } => 9,
-        Statement::Incr { place: _ } => 18,
-        Statement::Decr { place: _ } => 27,
-        Statement::Upcase { place: _ } => 36,
-        Statement::Locase { place: _ } => 45,
-        Statement::Goto { target: _ } => 54,
-        Statement::IfZero {
-            number: _,
-            target: _,
-        } => 63,
-        Statement::Call { target: _ } => 72,
-        Statement::Return => 81,
-        Statement::Stop => 90,
-        Statement::Computed {
-            count: _,
-            number: _,
-        } => 99,
-        Statement::Bad => 108,
-    }
-}
-
-// How many of the nine characters a statement's word has.
-fn word_width(s: Statement) -> usize {
-    match s {
-        Statement::Set {
-            place: _,
-            source: _,
-        } => 4,
-        Statement::Clear { place: _ } => 6,
-        Statement::Incr { place: _ } => 5,
-        Statement::Decr { place: _ } => 5,
-        Statement::Upcase { place: _ } => 7,
-        Statement::Locase { place: _ } => 7,
+        Statement::Clear { place: _ } => 1,
+        Statement::Incr { place: _ } => 2,
+        Statement::Decr { place: _ } => 3,
+        Statement::Upcase { place: _ } => 4,
+        Statement::Locase { place: _ } => 5,
         Statement::Goto { target: _ } => 6,
         Statement::IfZero {
             number: _,
             target: _,
         } => 7,
-        Statement::Call { target: _ } => 6,
-        Statement::Return => 6,
-        Statement::Stop => 4,
+        Statement::Call { target: _ } => 8,
+        Statement::Return => 9,
+        Statement::Stop => 10,
         Statement::Computed {
             count: _,
             number: _,
-        } => 9,
-        Statement::Bad => 4,
+        } => 11,
+        Statement::Bad => 12,
     }
 }
 
-// Puts a statement's word, with what stands before its first part.
-fn put_word(t: &mut [u8], at: usize, s: Statement) -> usize {
-    let words =
-        b"set      clear    incr     decr     upcase   locase   goto L   ifzero   call L   return   stop     computed none";
-    let word: &[u8] = words;
-    put_text(t, at, part(word, word_at(s), word_width(s)))
+// The target of a statement, or how many targets it has; 0 where it has none.
+fn last_number(s: Statement) -> u64 {
+    match s {
+        Statement::Set {
+            place: _,
+            source: _,
+        } => 0,
+        Statement::Clear { place: _ } => 0,
+        Statement::Incr { place: _ } => 0,
+        Statement::Decr { place: _ } => 0,
+        Statement::Upcase { place: _ } => 0,
+        Statement::Locase { place: _ } => 0,
+        Statement::Goto { target } => target as u64,
+        Statement::IfZero { number: _, target } => target as u64,
+        Statement::Call { target } => target as u64,
+        Statement::Return => 0,
+        Statement::Stop => 0,
+        Statement::Computed { count, number: _ } => count as u64,
+        Statement::Bad => 0,
+    }
 }
 
-// Puts the statement i.
+// Puts a form that belongs to a statement's number k.
+fn put_piece_of(t: &mut [u8], at: usize, pieces: &[u8], k: u8, n: u64) -> usize {
+    let mut space = [0u8; 10];
+    let form: &mut [u8] = &mut space;
+    let len = put_piece(form, 0, pieces, k);
+    put_form(t, at, part(form, 0, len), n, 0)
+}
+
+// Puts the expression of a use, if there is one.
+fn put_use(t: &mut [u8], at: usize, unit: &[u8], parts: Parts, u: Use) -> usize {
+    match u {
+        Use::Nothing => at,
+        Use::Of {
+            want: _,
+            at: e,
+            written: _,
+        } => put_expression(t, at, unit, parts, e),
+    }
+}
+
+// Puts the statement i: its word, its first expression, what follows that, and its second expression.
 pub fn put_statement(t: &mut [u8], at: usize, unit: &[u8], parts: Parts, i: u16) -> usize {
     let s = statement_of(unit, parts, i);
-    let next = put_word(t, at, s);
-    match s {
-        Statement::Set { place, source } => put_set(t, next, unit, parts, place, source),
-        Statement::Clear { place } => put_expression(t, next, unit, parts, place),
-        Statement::Incr { place } => put_expression(t, next, unit, parts, place),
-        Statement::Decr { place } => put_expression(t, next, unit, parts, place),
-        Statement::Upcase { place } => put_expression(t, next, unit, parts, place),
-        Statement::Locase { place } => put_expression(t, next, unit, parts, place),
-        Statement::Goto { target } => put_number(t, next, target as u64),
-        Statement::IfZero { number, target } => put_if_zero(t, next, unit, parts, number, target),
-        Statement::Call { target } => put_number(t, next, target as u64),
-        Statement::Return => next,
-        Statement::Stop => next,
-        Statement::Computed { count, number } => put_computed(t, next, unit, parts, number, count),
-        Statement::Bad => next,
-    }
+    let k = statement_number(s);
+    let n = last_number(s);
+    let words =
+        b"set |clear |incr |decr |upcase |locase |goto L#|ifzero |call L#|return|stop|computed |none|";
+    let mut next = put_piece_of(t, at, words, k, n);
+    next = put_use(t, next, unit, parts, uses::use_at(s, 0));
+    next = put_piece_of(t, next, b" = ||||||| goto L#|||| of #||", k, n);
+    put_use(t, next, unit, parts, uses::use_at(s, 1))
+}
+
+// The statement i as text, with its number.
+pub fn say_statement(unit: &[u8], parts: Parts, i: u16) {
+    let mut space = [0u8; 500];
+    let t: &mut [u8] = &mut space;
+    let mut at = put_form(t, 0, b"statement #: ", i as u64, 0);
+    at = put_statement(t, at, unit, parts, i);
+    say_line(t, at);
 }

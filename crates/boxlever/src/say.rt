@@ -111,6 +111,68 @@ pub fn put_number(t: &mut [u8], at: usize, n: u64) -> usize {
     put_text(t, at, &digits[..k])
 }
 
+// Puts a byte of a form: a # stands for a number.
+fn put_formed(t: &mut [u8], at: usize, b: u8, n: u64) -> usize {
+    if b == b'#' {
+        return put_number(t, at, n);
+    }
+    put(t, at, b)
+}
+
+// The number that the next # stands for, after a byte.
+fn number_after(b: u8, n: u64, y: u64) -> u64 {
+    if b == b'#' { y } else { n }
+}
+
+// Puts a form, in which the first # stands for x and any later one for y.
+pub fn put_form(t: &mut [u8], at: usize, form: &[u8], x: u64, y: u64) -> usize {
+    let mut next = at;
+    let mut n = x;
+    let mut i = 0;
+    while i < form.len() {
+        next = put_formed(t, next, form[i], n);
+        n = number_after(form[i], n, y);
+        i += 1;
+    }
+    next
+}
+
+// How many pieces are left to pass after a byte.
+fn left_after(left: u8, b: u8) -> u8 {
+    if b != b'|' {
+        return left;
+    }
+    if left == 0 { 0 } else { left - 1 }
+}
+
+// Where the piece k of a text starts in which a bar ends each piece.
+fn piece_at(pieces: &[u8], k: u8) -> usize {
+    let mut left = k;
+    let mut i = 0;
+    while i < pieces.len() {
+        if left == 0 {
+            return i;
+        }
+        left = left_after(left, pieces[i]);
+        i += 1;
+    }
+    i
+}
+
+// Puts the piece k.
+pub fn put_piece(t: &mut [u8], at: usize, pieces: &[u8], k: u8) -> usize {
+    let mut next = at;
+    let mut i = piece_at(pieces, k);
+    while i < pieces.len() {
+        if pieces[i] == b'|' {
+            return next;
+        }
+        next = put(t, next, pieces[i]);
+        i += 1;
+    }
+    next
+}
+
 // Puts spaces up to a column.
 pub fn fill_to(t: &mut [u8], at: usize, column: usize) -> usize {
     let mut next = at;
@@ -131,7 +193,7 @@ pub fn put_right(t: &mut [u8], at: usize, n: u64, column: usize) -> usize {
 }
 
 // A byte as it is shown: a dot for what cannot be printed.
-fn shown(b: u8) -> u8 {
+pub fn shown(b: u8) -> u8 {
     if b < 32 {
         return b'.';
     }
@@ -147,25 +209,6 @@ pub fn put_shown(t: &mut [u8], at: usize, s: &[u8]) -> usize {
     let mut i = 0;
     while i < s.len() {
         next = put(t, next, shown(s[i]));
-        i += 1;
-    }
-    next
-}
-
-// Puts a byte that is no space.
-fn put_mark(t: &mut [u8], at: usize, b: u8) -> usize {
-    if b == b' ' {
-        return at;
-    }
-    put(t, at, b)
-}
-
-// Puts a text without its spaces.
-pub fn put_solid(t: &mut [u8], at: usize, s: &[u8]) -> usize {
-    let mut next = at;
-    let mut i = 0;
-    while i < s.len() {
-        next = put_mark(t, next, s[i]);
         i += 1;
     }
     next

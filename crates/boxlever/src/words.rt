@@ -1,7 +1,8 @@
 // Stops and breaches in words, each one sentence without its full stop.
 use crate::say::byte_at;
 use crate::say::part;
-use crate::say::put_number;
+use crate::say::put_form;
+use crate::say::put_piece;
 use crate::say::put_text;
 use crate::say::set;
 use rules_fence::Breach;
@@ -39,44 +40,24 @@ pub fn put_place(t: &mut [u8], at: usize, r: Refusal) -> usize {
     match r {
         Refusal::NotFilled => at,
         Refusal::BadRange => at,
-        Refusal::BadField(i) => put_counted(t, at, b" at field ", i),
-        Refusal::BadExpression(i) => put_counted(t, at, b" at statement ", i),
-        Refusal::BadStatement(i) => put_counted(t, at, b" at statement ", i),
+        Refusal::BadField(i) => put_form(t, at, b" at field #", i as u64, 0),
+        Refusal::BadExpression(i) | Refusal::BadStatement(i) => {
+            put_form(t, at, b" at statement #", i as u64, 0)
+        }
     }
-}
-
-fn put_counted(t: &mut [u8], at: usize, what: &[u8], i: u16) -> usize {
-    let next = put_text(t, at, what);
-    put_number(t, next, i as u64)
 }
 
 // A refusal with its number and place.
 pub fn put_refused(t: &mut [u8], at: usize, r: Refusal) -> usize {
-    let mut next = put_text(t, at, b"refused ");
-    next = put_number(t, next, rules_unit::refusal_number(r) as u64);
-    next = put_text(t, next, b" at ");
-    next = put_number(t, next, rules_unit::refusal_place(r) as u64);
-    next = put_text(t, next, b": ");
+    let number = rules_unit::refusal_number(r) as u64;
+    let place = rules_unit::refusal_place(r) as u64;
+    let next = put_form(t, at, b"refused # at #: ", number, place);
     put_refusal(t, next, r)
 }
 
-// The fence rule that a statement breaks.
+// The fence rule that a statement breaks, in the order of the breaches' numbers.
 pub fn put_breach(t: &mut [u8], at: usize, b: Breach) -> usize {
-    match b {
-        Breach::None => put_text(t, at, b"no rule is broken"),
-        Breach::BoundNotLiteral => put_text(t, at, b"a bound is not a literal"),
-        Breach::BoundsWrong => put_text(t, at, b"the bounds give 21"),
-        Breach::LeavesField => put_text(t, at, b"a span leaves its field"),
-        Breach::OverElements => put_text(t, at, b"a decimal span is not in one element"),
-        Breach::StopsMidElement => {
-            put_text(t, at, b"a decimal destination ends inside its element")
-        }
-        Breach::OnDecimal => {
-            put_text(
-                t,
-                at,
-                b"an alpha destination shares a byte with a decimal field",
-            )
-        }
-    }
+    let rules =
+        b"no rule is broken|a bound is not a literal|the bounds give 21|a span leaves its field|a decimal span is not in one element|a decimal destination ends inside its element|an alpha destination shares a byte with a decimal field|";
+    put_piece(t, at, rules, dibol::breach_number(b))
 }

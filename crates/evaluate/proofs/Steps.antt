@@ -35,11 +35,11 @@ use Rattle.rules_run.specs.declared.Worked.the-variants as worked
 use Rattle.rules_run.specs.Spans.{spanIn}
 use Rattle.rules_run.specs.Evaluation.{calc, literalNumber, reference, apply, Held, halt, push, room, stepBy, left, onHeld, placeBy, lastOf, workedFrom, workedOf}
 use Rattle.rules_run.proofs.Ranges.{apply-range}
+use Rattle.items.proofs.Closing.{closed, unclosed}
 use Rattle.evaluate.specs.declared.Step.{Step}
 use Rattle.evaluate.specs.declared.Step.the-variants.{Hold, Done}
 use Rattle.evaluate.specs.Steps.{topDown, restOf, heldOn, Vals, Ready, Leads}
 use Rattle.evaluate.proofs.Held.{top-push, left-one, left-other, too-few, step-at, full, room-for, place-held, text-held, vals-set}
-use Rattle.evaluate.proofs.Closing.{closed, unclosed}
 use Rattle.evaluate.proofs.Coded.{number-cut, number-whole, reference-cut, reference-whole, text-cut, text-whole}
 
 pub rest-start : (c : Code) (d : List ℕ) (is : List Item) (held : List ℤ) → restOf c d is (topDown held 0) ≡ workedOf c d is

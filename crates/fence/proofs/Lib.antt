@@ -1,4 +1,2 @@
-pub mod Spans
-pub mod References
-pub mod Turns
-pub mod Statements
+pub mod Notes
+pub mod Answers

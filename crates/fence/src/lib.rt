@@ -1,306 +1,156 @@
-// The fence check: whether every statement of a unit keeps the fence rules, and which rule a statement breaks first.
+// The fence check: whether every statement of a unit keeps the fence rules, and which rule a statement breaks first. An expression that keeps the
+// rules is noted, once as one that is read and once as a place that is written, so that statements which share it do not walk it again.
 use rules_fence::Breach;
-use rules_fence::Seen;
 use rules_fence::Verdict;
-use rules_run::Span;
 use rules_unit::Checked;
-use rules_unit::Field;
-use rules_unit::How;
-use rules_unit::Item;
 use rules_unit::Parts;
 use rules_unit::Use;
 ghost use mathlib.Core.Path.{_≡_};
-ghost use mathlib.Core.Bool.{true};
-ghost use mathlib.Core.List.{[]};
-ghost use Prim.Native.Nat.{_+_, _<_, _≤_};
+ghost use mathlib.Core.Bool.{true, false};
+ghost use Prim.Native.Nat.{_<_};
+ghost use lib.ListN.{set};
 ghost use Rattle.rules_unit.specs.declared.Checked.the-variants as checked;
-ghost use Rattle.rules_unit.specs.Codes.{offsetOf};
-ghost use Rattle.rules_unit.specs.Decode.{Fills, Dialect, itemsAt, codeOf};
-ghost use Rattle.rules_unit.specs.Expressions.{itemb, useb};
+ghost use Rattle.rules_unit.specs.Decode.{Fills, Dialect, codeOf};
+ghost use Rattle.rules_unit.specs.Expressions.{useb};
 ghost use Rattle.rules_unit.specs.Checks.{checkOf};
-ghost use Rattle.rules_run.specs.declared.Span.the-variants as span;
 ghost use Rattle.rules_fence.specs.declared.Seen.the-variants as seen;
-ghost use Rattle.rules_fence.specs.Fence.{destb};
-ghost use Rattle.rules_fence.specs.Breaches.{breachNumber, keepsb, endBreach, elementBreach, apartOf, apartFrom, alphaBreach, spanBreach, referenceBreach, itemBreach, breachFrom, useBreach, breachOf, verdictFrom, fenceOf, breachBy, breachIn};
-ghost use Rattle.bounds.specs.Asked.{Small};
-ghost use Rattle.fence.specs.Asked.{AllKnown, closesb};
+ghost use Rattle.rules_fence.specs.Breaches.{keepsb, breachFrom, useBreach, breachOf, verdictFrom, fenceOf, breachBy, breachIn};
+ghost use Rattle.breaches.specs.Asked.{AllKnown};
+ghost use Rattle.fence.specs.Notes.{notedb, Kept};
 
-// Whether no rule is broken.
-fn keeps(b: Breach) -> bool
-    ensures { λ r. ⌜ r ≡ keepsb b ⌝ }
+// ---- notes
+
+// Whether the expression at an offset is noted; past the end of the list none is.
+fn noted(notes: &[u8], e: usize) -> bool
+    ensures { λ r. ⌜ r ≡ notedb (now (notes .entry)) e ⌝ }
 {
-    match b {
-        Breach::None => true,
-        Breach::BoundNotLiteral => false,
-        Breach::BoundsWrong => false,
-        Breach::LeavesField => false,
-        Breach::OverElements => false,
-        Breach::StopsMidElement => false,
-        Breach::OnDecimal => false,
+    if notes.len() <= e {
+        return false;
+    }
+    0 < notes[e]
+}
+
+// Notes the expression at an offset; past the end of the list nothing is noted.
+fn note(notes: &mut [u8], e: usize)
+    ensures { λ _. ⌜ now (notes .exit) ≡ set (now (notes .entry)) e 1 ⌝ }
+{
+    if e < notes.len() {
+        notes[e] = 1;
     }
 }
 
-// The number of a breach, in the order of the rules; 0 where none is broken.
-pub fn breach_number(b: Breach) -> u8
-    ensures { λ r. ⌜ r ≡ breachNumber b ⌝ }
-{
-    match b {
-        Breach::None => 0,
-        Breach::BoundNotLiteral => 1,
-        Breach::BoundsWrong => 2,
-        Breach::LeavesField => 3,
-        Breach::OverElements => 4,
-        Breach::StopsMidElement => 5,
-        Breach::OnDecimal => 6,
-    }
-}
-
-// ---- one span
-
-// What a decimal span breaks that ends at `last`, where the element that it starts in ends at e.
-fn end_breach(dest: bool, e: usize, last: usize) -> Breach
-    ensures { λ r. ⌜ r ≡ endBreach dest e last ⌝ }
-{
-    if e < last {
-        return Breach::OverElements;
-    }
-    if dest {} else {
-        return Breach::None;
-    }
-    if last == e {
-        return Breach::None;
-    }
-    Breach::StopsMidElement
-}
-
-// What the n bytes from a on of a decimal field break, which start inside the field.
-fn element_breach(unit: &[u8], parts: Parts, dest: bool, field: u16, a: usize, n: usize) -> Breach
+// Whether the expression at an offset keeps the rules, where `dest` says whether it is a place that is written. It is walked only if it is not
+// noted, and noted if it keeps them.
+fn keeps_at(unit: &[u8], parts: Parts, notes: &mut [u8], dest: bool, e: u16) -> bool
     requires { ⌜ Fills (now unit) parts ⌝ }
-    requires { ⌜ field < parts .f ⌝ }
-    requires { ⌜ a + n ≤ parts .d ⌝ }
-    requires { ⌜ offsetOf (codeOf (now unit) parts) field ≤ a ⌝ }
-    ensures { λ r. ⌜ r ≡ elementBreach (codeOf (now (unit .entry)) parts) dest field a n ⌝ }
+    requires { ⌜ Dialect parts ⌝ }
+    requires { ⌜ AllKnown (codeOf (now unit) parts) (codeOf (now unit) parts .items e) ⌝ }
+    requires { ⌜ Kept (codeOf (now unit) parts) dest (now notes) ⌝ }
+    ensures { λ r. ⌜ r ≡ keepsb (breachFrom (codeOf (now (unit .entry)) parts) dest seen.Nothing (codeOf (now (unit .entry)) parts .items e)) ⌝ }
+    ensures { λ _. ⌜ Kept (codeOf (now (unit .entry)) parts) dest (now (notes .exit)) ⌝ }
 {
-    let entry = decode::field(unit, parts, field);
-    let offset = decode::long(entry.offset);
-    let size = decode::long(entry.size);
-    // Never true of a unit that passed its check: an element has at least one byte.
-    if size == 0 {
-        return end_breach(dest, offset, a + n);
-    }
-    let k = (a - offset) / size;
-    end_breach(dest, offset + k * size + size, a + n)
-}
-
-// Whether a field is no decimal one, or shares no byte with the n bytes from a on.
-fn apart_of(field: Field, a: usize, n: usize) -> bool
-    requires { ⌜ a + n < 65536 ⌝ }
-    ensures { λ r. ⌜ r ≡ apartOf field a n ⌝ }
-{
-    let kind = field.kind;
-    if sorts::is_decimal(kind) {} else {
+    let at = decode::long(e);
+    if noted(notes, at) {
         return true;
     }
-    if a + n <= decode::long(field.offset) {
+    if breaches::keeps(breaches::breach_at(unit, parts, dest, e)) {
+        note(notes, at);
         return true;
-    }
-    entries::end_of(field) <= a
-}
-
-// Whether no decimal field shares a byte with the n bytes from a on.
-fn apart_all(unit: &[u8], parts: Parts, a: usize, n: usize) -> bool
-    requires { ⌜ Fills (now unit) parts ⌝ }
-    requires { ⌜ a + n ≤ parts .d ⌝ }
-    ensures { λ r. ⌜ r ≡ apartFrom (codeOf (now (unit .entry)) parts) a n (parts .f) 0 ⌝ }
-{
-    let mut g: u16 = 0;
-    while g < parts.f {
-        if !apart_of(decode::field(unit, parts, g), a, n) {
-            return false;
-        }
-        g += 1;
-    }
-    true
-}
-
-// What the n bytes from a on of an alpha or record field break.
-fn alpha_breach(unit: &[u8], parts: Parts, dest: bool, a: usize, n: usize) -> Breach
-    requires { ⌜ Fills (now unit) parts ⌝ }
-    requires { ⌜ a + n ≤ parts .d ⌝ }
-    ensures { λ r. ⌜ r ≡ alphaBreach (codeOf (now (unit .entry)) parts) dest a n ⌝ }
-{
-    if dest {} else {
-        return Breach::None;
-    }
-    if apart_all(unit, parts, a, n) {
-        return Breach::None;
-    }
-    Breach::OnDecimal
-}
-
-// What the n bytes from a on break, which a reference to the field names.
-fn span_breach(unit: &[u8], parts: Parts, dest: bool, field: u16, a: usize, n: usize) -> Breach
-    requires { ⌜ Fills (now unit) parts ⌝ }
-    requires { ⌜ field < parts .f ⌝ }
-    requires { ⌜ a + n ≤ parts .d ⌝ }
-    ensures { λ r. ⌜ r ≡ spanBreach (codeOf (now (unit .entry)) parts) dest field (span.At a n) ⌝ }
-{
-    let entry = decode::field(unit, parts, field);
-    let kind = entry.kind;
-    if a < decode::long(entry.offset) {
-        return Breach::LeavesField;
-    }
-    if entries::end_of(entry) < a + n {
-        return Breach::LeavesField;
-    }
-    if sorts::is_decimal(kind) {
-        return element_breach(unit, parts, dest, field, a, n);
-    }
-    alpha_breach(unit, parts, dest, a, n)
-}
-
-// ---- references, expressions, statements
-
-// What a reference breaks, before which the bounds s stand.
-fn reference_breach(unit: &[u8], parts: Parts, dest: bool, how: How, field: u16, s: Seen) -> Breach
-    requires { ⌜ Fills (now unit) parts ⌝ }
-    requires { ⌜ field < parts .f ⌝ }
-    requires { ⌜ Small s ⌝ }
-    ensures { λ r. ⌜ r ≡ referenceBreach (codeOf (now (unit .entry)) parts) dest how field s ⌝ }
-{
-    if bounds::bounded(how, s) {} else {
-        return Breach::BoundNotLiteral;
-    }
-    match bounds::fixed_span(unit, parts, how, field, s) {
-        Span::At { start, len } => span_breach(unit, parts, dest, field, start, len),
-        Span::Outside => Breach::BoundsWrong,
-    }
-}
-
-// What an item breaks, where `dest` says whether it is the last one of a place that is written.
-fn item_breach(unit: &[u8], parts: Parts, dest: bool, s: Seen, item: Item) -> Breach
-    requires { ⌜ Fills (now unit) parts ⌝ }
-    requires { ⌜ Small s ⌝ }
-    requires { ⌜ itemb (codeOf (now unit) parts) item ≡ true ⌝ }
-    ensures { λ r. ⌜ r ≡ itemBreach (codeOf (now (unit .entry)) parts) dest s item [] ⌝ }
-{
-    match item {
-        Item::Number { place: _, len: _ } => Breach::None,
-        Item::Reference { how, field } => reference_breach(unit, parts, dest, how, field, s),
-        Item::Text { place: _, len: _ } => Breach::None,
-        Item::Operator(_) => Breach::None,
-        Item::End => Breach::None,
-        Item::Bad => Breach::None,
-    }
-}
-
-// Whether a reference that ends before the offset `next` is a destination: the last item of a place that is written.
-fn aimed(dest: bool, es: &[u8], next: usize) -> bool
-    ensures { λ r. ⌜ r ≡ destb dest (itemsAt (now (es .entry)) next) ⌝ }
-{
-    if dest {
-        return evaluate::ends(es, next);
     }
     false
 }
 
-// Whether no item follows that belongs to the expression.
-fn closes(item: Item) -> bool
-    ensures { λ r. ⌜ r ≡ closesb item ⌝ }
-{
-    match item {
-        Item::Number { place: _, len: _ } => false,
-        Item::Reference { how: _, field: _ } => false,
-        Item::Text { place: _, len: _ } => false,
-        Item::Operator(_) => false,
-        Item::End => true,
-        Item::Bad => true,
-    }
-}
+// ---- statements
 
-// What the expression at an offset of the expressions es breaks first.
-fn breach_in(unit: &[u8], parts: Parts, dest: bool, es: &[u8], at: usize) -> Breach
-    requires { ⌜ Fills (now unit) parts ⌝ }
-    requires { ⌜ Dialect parts ⌝ }
-    requires { ⌜ AllKnown (codeOf (now unit) parts) (itemsAt (now es) at) ⌝ }
-    ensures { λ r. ⌜ r ≡ breachFrom (codeOf (now (unit .entry)) parts) dest seen.Nothing (itemsAt (now (es .entry)) at) ⌝ }
-{
-    let mut s = Seen::Nothing;
-    let mut i = at;
-    while i < es.len() {
-        let item = decode::item_at(es, i);
-        if closes(item) {
-            return Breach::None;
-        }
-        let next = i + decode::width_of(item);
-        let b = item_breach(unit, parts, aimed(dest, es, next), s, item);
-        if !keeps(b) {
-            return b;
-        }
-        s = bounds::seen_after(unit, parts, s, item);
-        i = next;
-    }
-    Breach::None
-}
-
-// What the expression at an offset breaks first.
-fn breach_at(unit: &[u8], parts: Parts, dest: bool, e: u16) -> Breach
+// Whether the expression at an offset keeps the rules as a place that is written, or as one that is read.
+fn keeps_as(
+    unit: &[u8],
+    parts: Parts,
+    reads: &mut [u8],
+    writes: &mut [u8],
+    written: bool,
+    e: u16,
+) -> bool
     requires { ⌜ Fills (now unit) parts ⌝ }
     requires { ⌜ Dialect parts ⌝ }
     requires { ⌜ AllKnown (codeOf (now unit) parts) (codeOf (now unit) parts .items e) ⌝ }
-    ensures { λ r. ⌜ r ≡ breachFrom (codeOf (now (unit .entry)) parts) dest seen.Nothing (codeOf (now (unit .entry)) parts .items e) ⌝ }
+    requires { ⌜ Kept (codeOf (now unit) parts) false (now reads) ⌝ }
+    requires { ⌜ Kept (codeOf (now unit) parts) true (now writes) ⌝ }
+    ensures { λ r. ⌜ r ≡ keepsb (breachFrom (codeOf (now (unit .entry)) parts) written seen.Nothing (codeOf (now (unit .entry)) parts .items e)) ⌝ }
+    ensures { λ _. ⌜ Kept (codeOf (now (unit .entry)) parts) false (now (reads .exit)) ⌝ }
+    ensures { λ _. ⌜ Kept (codeOf (now (unit .entry)) parts) true (now (writes .exit)) ⌝ }
 {
-    let start = decode::expressions_offset(parts);
-    let end = decode::literals_offset(parts);
-    breach_in(unit, parts, dest, &unit[start..end], decode::long(e))
+    if written {
+        return keeps_at(unit, parts, writes, true, e);
+    }
+    keeps_at(unit, parts, reads, false, e)
 }
 
-// What a use of an expression breaks first.
-fn use_breach(unit: &[u8], parts: Parts, u: Use) -> Breach
+// Whether a use of an expression keeps the rules.
+fn use_keeps(unit: &[u8], parts: Parts, reads: &mut [u8], writes: &mut [u8], u: Use) -> bool
     requires { ⌜ Fills (now unit) parts ⌝ }
     requires { ⌜ Dialect parts ⌝ }
     requires { ⌜ useb (codeOf (now unit) parts) u ≡ true ⌝ }
-    ensures { λ r. ⌜ r ≡ useBreach (codeOf (now (unit .entry)) parts) u ⌝ }
+    requires { ⌜ Kept (codeOf (now unit) parts) false (now reads) ⌝ }
+    requires { ⌜ Kept (codeOf (now unit) parts) true (now writes) ⌝ }
+    ensures { λ r. ⌜ r ≡ keepsb (useBreach (codeOf (now (unit .entry)) parts) u) ⌝ }
+    ensures { λ _. ⌜ Kept (codeOf (now (unit .entry)) parts) false (now (reads .exit)) ⌝ }
+    ensures { λ _. ⌜ Kept (codeOf (now (unit .entry)) parts) true (now (writes .exit)) ⌝ }
 {
     match u {
-        Use::Nothing => Breach::None,
+        Use::Nothing => true,
         Use::Of {
             want: _,
             at,
             written,
-        } => breach_at(unit, parts, written, at),
+        } => keeps_as(unit, parts, reads, writes, written, at),
     }
 }
 
-// What the statement i of a unit that passed its check breaks first: its uses in order, their references left to right.
-fn breach_of(unit: &[u8], parts: Parts, i: u16) -> Breach
+// Whether the statement i of a unit that passed its check keeps the rules.
+fn statement_keeps(unit: &[u8], parts: Parts, reads: &mut [u8], writes: &mut [u8], i: u16) -> bool
     requires { ⌜ checkOf (now unit) ≡ checked.Passed parts ⌝ }
     requires { ⌜ i < parts .n ⌝ }
-    ensures { λ r. ⌜ r ≡ breachOf (codeOf (now (unit .entry)) parts) i ⌝ }
+    requires { ⌜ Kept (codeOf (now unit) parts) false (now reads) ⌝ }
+    requires { ⌜ Kept (codeOf (now unit) parts) true (now writes) ⌝ }
+    ensures { λ r. ⌜ r ≡ keepsb (breachOf (codeOf (now (unit .entry)) parts) i) ⌝ }
+    ensures { λ _. ⌜ Kept (codeOf (now (unit .entry)) parts) false (now (reads .exit)) ⌝ }
+    ensures { λ _. ⌜ Kept (codeOf (now (unit .entry)) parts) true (now (writes .exit)) ⌝ }
 {
     let s = decode::statement(unit, parts, i);
-    let first = use_breach(unit, parts, sorts::use_at(s, 0));
-    if !keeps(first) {
-        return first;
+    if !use_keeps(unit, parts, reads, writes, uses::use_at(s, 0)) {
+        return false;
     }
-    use_breach(unit, parts, sorts::use_at(s, 1))
+    use_keeps(unit, parts, reads, writes, uses::use_at(s, 1))
 }
 
 // ---- the check
 
 // Yes, or no with the first statement that breaks a rule, of a unit that passed its check.
-fn verdict_of(unit: &[u8], parts: Parts) -> Verdict
+fn verdict_by(unit: &[u8], parts: Parts, reads: &mut [u8], writes: &mut [u8]) -> Verdict
     requires { ⌜ checkOf (now unit) ≡ checked.Passed parts ⌝ }
+    requires { ⌜ Kept (codeOf (now unit) parts) false (now reads) ⌝ }
+    requires { ⌜ Kept (codeOf (now unit) parts) true (now writes) ⌝ }
     ensures { λ r. ⌜ r ≡ verdictFrom (codeOf (now (unit .entry)) parts) (parts .n) 0 ⌝ }
 {
     let mut i: u16 = 0;
     while i < parts.n {
-        if !keeps(breach_of(unit, parts, i)) {
+        if !statement_keeps(unit, parts, reads, writes, i) {
             return Verdict::No(i);
         }
         i += 1;
     }
     Verdict::Yes
+}
+
+// The same, where nothing is noted yet. The expressions of a unit have at most 16,383 bytes.
+fn verdict_of(unit: &[u8], parts: Parts) -> Verdict
+    requires { ⌜ checkOf (now unit) ≡ checked.Passed parts ⌝ }
+    ensures { λ r. ⌜ r ≡ verdictFrom (codeOf (now (unit .entry)) parts) (parts .n) 0 ⌝ }
+{
+    let mut reads = [0u8; 16384];
+    let mut writes = [0u8; 16384];
+    verdict_by(unit, parts, &mut reads, &mut writes)
 }
 
 // The fence check of a unit: a refusal of its check, yes, or no with the first statement that breaks a rule.
@@ -322,7 +172,7 @@ fn breach_by(unit: &[u8], parts: Parts, i: usize) -> Breach
     if decode::long(parts.n) <= i {
         return Breach::None;
     }
-    breach_of(unit, parts, i as u16)
+    breaches::breach_of(unit, parts, i as u16)
 }
 
 // The rule that the statement i breaks first; none where the unit is refused or has no such statement.

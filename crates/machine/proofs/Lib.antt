@@ -1,5 +1,3 @@
-pub mod Storing
-pub mod Writes
 pub mod Moves
 pub mod Places
 pub mod Jumps

@@ -2,8 +2,8 @@
 -- Assumes nothing.
 use Prim.Native.Nat.{ℕ, _+_, _<_}
 use native.Mathlib.Omega.{arith}
-use mathlib.Core.Path.{_≡_, sym, _∙_, subst}
-use mathlib.Core.Bool.{true, false}
+use mathlib.Core.Path.{_≡_, sym, ap, _∙_, subst}
+use mathlib.Core.Bool.{Bool}
 use mathlib.Core.List.{List}
 use Rattle.rules.specs.declared.Fault.the-variants as fault
 use Rattle.rules_unit.specs.declared.Statement.{Statement}
@@ -14,6 +14,7 @@ use Rattle.rules_run.specs.declared.Flow.the-variants as flow
 use Rattle.rules_run.specs.declared.Turn.{Turn}
 use Rattle.rules_run.specs.Evaluation.{workedOf}
 use Rattle.rules_run.specs.Turns.{failed, goes, onPlace, countAt, caseAt, turnBy, turnOf}
+use Rattle.machine.specs.Upward.{upwardb}
 
 -- s is the statement as the code decodes it, and t what its arm answers
 module _ (c : Code) (i : ℕ) (d : List ℕ) (s : Statement) (t : Turn) (e : s ≡ c .statement i) where
@@ -25,21 +26,21 @@ module _ (c : Code) (i : ℕ) (d : List ℕ) (s : Statement) (t : Turn) (e : s �
   unfolding turnOf turnBy
   turn-clear a h q = rw (sym e ∙ h) q
 
-  pub turn-incr : (a : ℕ) → s ≡ statement.Incr a → t ≡ onPlace (workedOf c d (c .items a)) (countAt c d true) → t ≡ turnOf c i d
+  pub turn-incr : (a place : ℕ) (up : Bool) → s ≡ statement.Incr a → place ≡ a → up ≡ upwardb s → t ≡ onPlace (workedOf c d (c .items place)) (countAt c d up) → t ≡ turnOf c i d
   unfolding turnOf turnBy
-  turn-incr a h q = rw (sym e ∙ h) q
+  turn-incr a place up h k u q = rw (sym e ∙ h) (rw (k, u ∙ ap upwardb h) at q)
 
-  pub turn-decr : (a : ℕ) → s ≡ statement.Decr a → t ≡ onPlace (workedOf c d (c .items a)) (countAt c d false) → t ≡ turnOf c i d
+  pub turn-decr : (a place : ℕ) (up : Bool) → s ≡ statement.Decr a → place ≡ a → up ≡ upwardb s → t ≡ onPlace (workedOf c d (c .items place)) (countAt c d up) → t ≡ turnOf c i d
   unfolding turnOf turnBy
-  turn-decr a h q = rw (sym e ∙ h) q
+  turn-decr a place up h k u q = rw (sym e ∙ h) (rw (k, u ∙ ap upwardb h) at q)
 
-  pub turn-upcase : (a : ℕ) → s ≡ statement.Upcase a → t ≡ onPlace (workedOf c d (c .items a)) (caseAt true) → t ≡ turnOf c i d
+  pub turn-upcase : (a place : ℕ) (up : Bool) → s ≡ statement.Upcase a → place ≡ a → up ≡ upwardb s → t ≡ onPlace (workedOf c d (c .items place)) (caseAt up) → t ≡ turnOf c i d
   unfolding turnOf turnBy
-  turn-upcase a h q = rw (sym e ∙ h) q
+  turn-upcase a place up h k u q = rw (sym e ∙ h) (rw (k, u ∙ ap upwardb h) at q)
 
-  pub turn-locase : (a : ℕ) → s ≡ statement.Locase a → t ≡ onPlace (workedOf c d (c .items a)) (caseAt false) → t ≡ turnOf c i d
+  pub turn-locase : (a place : ℕ) (up : Bool) → s ≡ statement.Locase a → place ≡ a → up ≡ upwardb s → t ≡ onPlace (workedOf c d (c .items place)) (caseAt up) → t ≡ turnOf c i d
   unfolding turnOf turnBy
-  turn-locase a h q = rw (sym e ∙ h) q
+  turn-locase a place up h k u q = rw (sym e ∙ h) (rw (k, u ∙ ap upwardb h) at q)
 
   pub turn-goto : (target : ℕ) → s ≡ statement.Goto target → t ≡ goes (flow.Goto target) → t ≡ turnOf c i d
   unfolding turnOf turnBy

@@ -1,4 +1,4 @@
-// One statement: what it stores and where the run goes on (work), and the one place where data changes (store).
+// One statement: what it stores and where the run goes on. Data is only read here.
 use rules::Fault;
 use rules::Num;
 use rules_run::Flow;
@@ -8,18 +8,17 @@ use rules_run::Write;
 use rules_unit::Parts;
 use rules_unit::Statement;
 ghost use mathlib.Core.Path.{_≡_};
-ghost use mathlib.Core.Bool.{cond};
 ghost use Prim.Native.Nat.{_+_, _^_, _<_, _≤_};
-ghost use lib.ListN.{length, take, drop};
+ghost use lib.ListN.{length};
 ghost use Rattle.rules.specs.declared.Num.the-variants.{Value};
 ghost use Rattle.rules.specs.Values.{Val};
-ghost use Rattle.rules.specs.Moves.{written, shown, fitted};
 ghost use Rattle.rules_unit.specs.declared.Statement.the-variants as statement;
 ghost use Rattle.rules_unit.specs.Decode.{Fills, Dialect, codeOf};
 ghost use Rattle.rules_unit.specs.Sound.{ShapeSound};
 ghost use Rattle.rules_run.specs.declared.Worked.the-variants as worked;
 ghost use Rattle.rules_run.specs.Evaluation.{workedOf, Within};
-ghost use Rattle.rules_run.specs.Turns.{stored, cased, cleared, applied, Room, failed, stores, goes, moveNumber, moveNum, moveWorked, onPlace, counted, countAt, caseAt, ifZero, choose, turnBy, turnOf};
+ghost use Rattle.rules_run.specs.Turns.{failed, stores, goes, moveNumber, moveNum, moveWorked, onPlace, counted, countAt, caseAt, ifZero, choose, turnBy, turnOf};
+ghost use Rattle.machine.specs.Upward.{upwardb};
 
 // ---- turns
 
@@ -105,7 +104,7 @@ fn move_place(
             decimal,
             start,
             len,
-            evaluate::read_at(parts, bytes, from, count),
+            items::read_at(parts, bytes, from, count),
         );
     }
     if decimal {
@@ -270,7 +269,7 @@ fn count_at(
     if decimal {} else {
         return fails(Fault::Malformed);
     }
-    match evaluate::read_at(parts, bytes, start, len) {
+    match items::read_at(parts, bytes, start, len) {
         Num::Value(v) => move_num(true, start, len, count_value(parts.top, up, v)),
         Num::Failed(e) => fails(e),
     }
@@ -391,6 +390,37 @@ fn computed(unit: &[u8], parts: Parts, bytes: &[u8], at: u16, n: u16, number: u1
 
 // ---- a statement
 
+// Which of its two ways a statement goes: INCR and UPCASE up, DECR and LOCASE down. So the two of a pair have one call between them, and the compiler
+// puts what is called at one place only right there.
+fn upward(s: Statement) -> bool
+    ensures { λ r. ⌜ r ≡ upwardb s ⌝ }
+{
+    match s {
+        Statement::Set {
+            place: _,
+            source: _,
+        } => false,
+        Statement::Clear { place: _ } => false,
+        Statement::Incr { place: _ } => true,
+        Statement::Decr { place: _ } => false,
+        Statement::Upcase { place: _ } => true,
+        Statement::Locase { place: _ } => false,
+        Statement::Goto { target: _ } => false,
+        Statement::IfZero {
+            number: _,
+            target: _,
+        } => false,
+        Statement::Call { target: _ } => false,
+        Statement::Return => false,
+        Statement::Stop => false,
+        Statement::Computed {
+            count: _,
+            number: _,
+        } => false,
+        Statement::Bad => false,
+    }
+}
+
 // What a statement answers over the data: what it stores, and where the run goes on. Nothing is changed here. Of the check it needs what 5 is about: the
 // statements behind a computed GOTO lie inside the unit, so their numbers are words.
 pub fn work(unit: &[u8], parts: Parts, bytes: &[u8], at: u16) -> Turn
@@ -401,13 +431,25 @@ pub fn work(unit: &[u8], parts: Parts, bytes: &[u8], at: u16) -> Turn
     requires { ⌜ ShapeSound (codeOf (now unit) parts) at ⌝ }
     ensures { λ r. ⌜ r ≡ turnOf (codeOf (now (unit .entry)) parts) at (now (bytes .entry)) ⌝ }
 {
-    match decode::statement(unit, parts, at) {
+    let s = decode::statement(unit, parts, at);
+    let up = upward(s);
+    match s {
         Statement::Set { place, source } => set_place(unit, parts, bytes, place, source),
         Statement::Clear { place } => clear_place(unit, parts, bytes, place),
-        Statement::Incr { place } => count_place(unit, parts, bytes, true, place),
-        Statement::Decr { place } => count_place(unit, parts, bytes, false, place),
-        Statement::Upcase { place } => case_place(unit, parts, bytes, true, place),
-        Statement::Locase { place } => case_place(unit, parts, bytes, false, place),
+        Statement::Incr { place } | Statement::Decr { place } => count_place(
+            unit,
+            parts,
+            bytes,
+            up,
+            place,
+        ),
+        Statement::Upcase { place } | Statement::Locase { place } => case_place(
+            unit,
+            parts,
+            bytes,
+            up,
+            place,
+        ),
         Statement::Goto { target } => go(Flow::Goto(target)),
         Statement::IfZero { number, target } => if_zero(unit, parts, bytes, number, target),
         Statement::Call { target } => go(Flow::Call(target)),
@@ -415,109 +457,5 @@ pub fn work(unit: &[u8], parts: Parts, bytes: &[u8], at: u16) -> Turn
         Statement::Stop => go(Flow::Stop),
         Statement::Computed { count, number } => computed(unit, parts, bytes, at, count, number),
         Statement::Bad => fails(Fault::Malformed),
-    }
-}
-
-// ---- stores
-
-// A number in a decimal span.
-fn store_number(parts: Parts, bytes: &mut [u8], start: usize, len: usize, v: i64)
-    requires { ⌜ Dialect parts ⌝ }
-    requires { ⌜ (start + len ≤ length (now bytes)) × (len ≤ 18) ⌝ }
-    requires { ⌜ Val (10 ^ 18) v ⌝ }
-    ensures { λ _. ⌜ now (bytes .exit) ≡ stored (now (bytes .entry)) start (written (parts .sign) len v) ⌝ }
-{
-    let end = start + len;
-    text::write(parts.sign, &mut bytes[start..end], v)
-}
-
-// A number in an alpha span.
-fn store_shown(bytes: &mut [u8], start: usize, len: usize, v: i64)
-    requires { ⌜ start + len ≤ length (now bytes) ⌝ }
-    requires { ⌜ Val (10 ^ 18) v ⌝ }
-    ensures { λ _. ⌜ now (bytes .exit) ≡ stored (now (bytes .entry)) start (shown len v) ⌝ }
-{
-    let end = start + len;
-    text::show(&mut bytes[start..end], v)
-}
-
-// An alpha literal, which lies in the unit.
-fn store_literal(
-    unit: &[u8],
-    parts: Parts,
-    bytes: &mut [u8],
-    start: usize,
-    len: usize,
-    place: u16,
-    count: u16,
-)
-    requires { ⌜ Fills (now unit) parts ⌝ }
-    requires { ⌜ start + len ≤ length (now bytes) ⌝ }
-    requires { ⌜ place + count ≤ length (codeOf (now unit) parts .literals) ⌝ }
-    ensures { λ _. ⌜ now (bytes .exit) ≡ stored (now (bytes .entry)) start (fitted len (take count (drop place (codeOf (now (unit .entry)) parts .literals)))) ⌝ }
-{
-    let from = decode::literals_offset(parts) + decode::long(place);
-    let to = from + decode::long(count);
-    let end = start + len;
-    text::fit(&mut bytes[start..end], &unit[from..to])
-}
-
-// The character that CLEAR writes: a zero to decimal, a space to alpha.
-fn clear_character(decimal: bool) -> u8
-    ensures { λ r. ⌜ r ≡ cond decimal 48 32 ⌝ }
-{
-    if decimal { 48 } else { 32 }
-}
-
-// CLEAR of a span.
-fn store_cleared(bytes: &mut [u8], start: usize, len: usize, decimal: bool)
-    requires { ⌜ start + len ≤ length (now bytes) ⌝ }
-    ensures { λ _. ⌜ now (bytes .exit) ≡ stored (now (bytes .entry)) start (cleared decimal len) ⌝ }
-{
-    let end = start + len;
-    text::fill(&mut bytes[start..end], clear_character(decimal))
-}
-
-// UPCASE or LOCASE of a span.
-fn store_cased(bytes: &mut [u8], start: usize, len: usize, upper: bool)
-    requires { ⌜ start + len ≤ length (now bytes) ⌝ }
-    ensures { λ _. ⌜ now (bytes .exit) ≡ stored (now (bytes .entry)) start (cased upper (take len (drop start (now (bytes .entry))))) ⌝ }
-{
-    let end = start + len;
-    if upper {
-        return text::upcase(&mut bytes[start..end]);
-    }
-    text::locase(&mut bytes[start..end])
-}
-
-// Stores what a statement answered. Data changes here and nowhere else.
-pub fn store(unit: &[u8], parts: Parts, bytes: &mut [u8], w: Write)
-    requires { ⌜ Fills (now unit) parts ⌝ }
-    requires { ⌜ Dialect parts ⌝ }
-    requires { ⌜ Room (codeOf (now unit) parts) (length (now bytes)) w ⌝ }
-    ensures { λ _. ⌜ now (bytes .exit) ≡ applied (codeOf (now (unit .entry)) parts) (now (bytes .entry)) w ⌝ }
-{
-    match w {
-        Write::Nothing => {}
-        Write::Number { start, len, value } => store_number(parts, bytes, start, len, value),
-        Write::Show { start, len, value } => store_shown(bytes, start, len, value),
-        Write::Move {
-            start,
-            len,
-            from,
-            count,
-        } => spans::move_text(bytes, start, len, from, count),
-        Write::Literal {
-            start,
-            len,
-            place,
-            count,
-        } => store_literal(unit, parts, bytes, start, len, place, count),
-        Write::Clear {
-            start,
-            len,
-            decimal,
-        } => store_cleared(bytes, start, len, decimal),
-        Write::Case { start, len, upper } => store_cased(bytes, start, len, upper),
     }
 }

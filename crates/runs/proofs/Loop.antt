@@ -50,7 +50,7 @@ module _ (u : List ℕ) (p : Parts) (e : checkOf u ≡ checked.Passed p) where
     pub passed-applied : (d′ : List ℕ) (n : ℕ) → length d ≡ n → d′ ≡ applied (codeOf u p) d (t .write) → length d′ ≡ n
     passed-applied d′ n l f = rw f (applied-length (codeOf u p) d (t .write) passed-room ∙ l)
 
--- What `machine::work` and `machine::store` ask of the unit.
+-- What `machine::work` and `stores::store` ask of the unit.
 pub ruleset passed-laws = (passed-fills, passed-dialect, passed-shape, passed-room)
 
 -- ---- a turn

@@ -137,7 +137,7 @@ pub fn turns(unit: &[u8], parts: Parts, bytes: &mut [u8], state: State, allowanc
             return halt(Stop::Failed(e), at, count, s);
         }
         let write = turn.write;
-        machine::store(unit, parts, bytes, write);
+        stores::store(unit, parts, bytes, write);
         left -= 1;
         count += 1;
         match flow {

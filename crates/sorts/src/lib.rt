@@ -1,23 +1,19 @@
-// Expressions: their form, their sort, and whether the sort suits each use.
+// Expressions: their form and their sort.
 use rules_unit::How;
 use rules_unit::Item;
 use rules_unit::Kind;
 use rules_unit::Op;
 use rules_unit::Parts;
 use rules_unit::Sort;
-use rules_unit::Statement;
-use rules_unit::Use;
-use rules_unit::Want;
 ghost use mathlib.Core.Path.{_≡_};
 ghost use mathlib.Core.Bool.{true, false};
-ghost use Prim.Native.Nat.{_<_};
-ghost use lib.ListN.{getD};
-ghost use Rattle.rules_unit.specs.declared.Use.the-variants as used;
+ghost use Prim.Native.Nat.{_+_, _*_, _<_, _≤_};
+ghost use lib.ListN.{set};
 ghost use Rattle.rules_unit.specs.Codes.{isDecimal};
 ghost use Rattle.rules_unit.specs.Decode.{Fills, itemsAt, codeOf};
-ghost use Rattle.rules_unit.specs.Expressions.{digitsb, opTakes, howTakes, takes, numberb, textb, itemb, placeSort, sortOf, goesOn, sortFrom, sortAt, usesOf, suits, useb, usesb};
+ghost use Rattle.rules_unit.specs.Expressions.{digitsb, opTakes, howTakes, takes, numberb, textb, itemb, placeSort, sortOf, goesOn, sortFrom, sortAt};
 ghost use Rattle.rules_unit.specs.declared.Sort.the-variants as sort;
-ghost use Rattle.rules_unit.specs.declared.Want.the-variants as want;
+ghost use Rattle.sorts.specs.Notes.{isWrong, noteOf, sortBy, notedAt, Noted, NotedOf};
 
 // Whether all characters are 0 to 9.
 fn digits(s: &[u8]) -> bool
@@ -194,9 +190,85 @@ fn goes_on(k: Sort) -> bool
     }
 }
 
+// ---- notes
+
+// Whether a sort is Wrong.
+fn is_wrong(k: Sort) -> bool
+    ensures { λ r. ⌜ r ≡ isWrong k ⌝ }
+{
+    match k {
+        Sort::Wrong => true,
+        Sort::Number => false,
+        Sort::Text => false,
+        Sort::Decimal => false,
+        Sort::Alpha => false,
+    }
+}
+
+// The note of a sort: 1 to 4, and 0 of Wrong, which is not noted.
+fn note_of(k: Sort) -> u8
+    ensures { λ r. ⌜ (r ≡ noteOf k) × (r < 8) ⌝ }
+{
+    match k {
+        Sort::Wrong => 0,
+        Sort::Number => 1,
+        Sort::Text => 2,
+        Sort::Decimal => 3,
+        Sort::Alpha => 4,
+    }
+}
+
+// The sort of which m is the note; Wrong where it is that of none.
+fn sort_by(m: u8) -> Sort
+    ensures { λ r. ⌜ r ≡ sortBy m ⌝ }
+{
+    if m == 1 {
+        return Sort::Number;
+    }
+    if m == 2 {
+        return Sort::Text;
+    }
+    if m == 3 {
+        return Sort::Decimal;
+    }
+    if m == 4 {
+        return Sort::Alpha;
+    }
+    Sort::Wrong
+}
+
+// The sort noted for the items from an offset on, where n values are held before them; Wrong where none is noted.
+fn noted(notes: &[u8], at: usize, n: u16) -> Sort
+    ensures { λ r. ⌜ r ≡ notedAt (now (notes .entry)) at n ⌝ }
+{
+    if notes.len() <= at {
+        return Sort::Wrong;
+    }
+    let b = notes[at];
+    if decode::wide(b / 8) != n {
+        return Sort::Wrong;
+    }
+    sort_by(b % 8)
+}
+
+// Notes the sort k for the items from an offset on, where n values are held before them. An offset outside the notes is not noted.
+fn note(notes: &mut [u8], at: usize, n: u16, k: Sort)
+    requires { ⌜ n ≤ 16 ⌝ }
+    ensures { λ _. ⌜ now (notes .exit) ≡ set (now (notes .entry)) at (n * 8 + noteOf k) ⌝ }
+{
+    if notes.len() <= at {
+        return;
+    }
+    let held = (n * 8) as u8;
+    notes[at] = held + note_of(k);
+}
+
+// ---- expressions
+
 // The sort of the expression at an offset of the expressions s.
-fn sort_in(unit: &[u8], parts: Parts, s: &[u8], at: usize) -> Sort
+fn sort_in(unit: &[u8], parts: Parts, s: &[u8], notes: &[u8], at: usize) -> Sort
     requires { ⌜ Fills (now unit) parts ⌝ }
+    requires { ⌜ Noted (codeOf (now unit) parts) (now s) (now notes) ⌝ }
     ensures { λ r. ⌜ r ≡ sortFrom (codeOf (now (unit .entry)) parts) (itemsAt (now (s .entry)) at) 0 sort.Number ⌝ }
 {
     let mut k = Sort::Number;
@@ -212,6 +284,10 @@ fn sort_in(unit: &[u8], parts: Parts, s: &[u8], at: usize) -> Sort
         }
         if goes_on(k) {} else {
             return Sort::Wrong;
+        }
+        let known = noted(notes, i, n);
+        if !is_wrong(known) {
+            return known;
         }
         if item_good(unit, parts, item) {} else {
             return Sort::Wrong;
@@ -230,199 +306,43 @@ fn sort_in(unit: &[u8], parts: Parts, s: &[u8], at: usize) -> Sort
     Sort::Wrong
 }
 
-// The sort of the expression at an offset; Wrong where it is badly formed.
-pub fn sort_at(unit: &[u8], parts: Parts, e: u16) -> Sort
+// Notes the sort k of the expression at an offset of the expressions s, for each of its items up to one for which it is noted.
+fn note_in(unit: &[u8], parts: Parts, s: &[u8], notes: &mut [u8], at: usize, k: Sort)
+    requires { ⌜ Noted (codeOf (now unit) parts) (now s) (now notes) ⌝ }
+    requires { ⌜ isWrong k ≡ false ⌝ }
+    requires { ⌜ k ≡ sortFrom (codeOf (now unit) parts) (itemsAt (now s) at) 0 sort.Number ⌝ }
+    ensures { λ _. ⌜ Noted (codeOf (now (unit .entry)) parts) (now (s .entry)) (now (notes .exit)) ⌝ }
+{
+    let mut n: u16 = 0;
+    let mut i = at;
+    while i < decode::long(parts.e) {
+        let item = decode::item_at(s, i);
+        if let Item::End = item {
+            return;
+        }
+        if !is_wrong(noted(notes, i, n)) {
+            return;
+        }
+        note(notes, i, n, k);
+        n = n - takes_of(item) + 1;
+        i = i + decode::width_of(item);
+    }
+}
+
+// The sort of the expression at an offset; Wrong where it is badly formed. What is found is noted, and what is noted is not looked for again.
+pub fn sort_at(unit: &[u8], parts: Parts, notes: &mut [u8], e: u16) -> Sort
     requires { ⌜ Fills (now unit) parts ⌝ }
+    requires { ⌜ NotedOf (now unit) parts (now notes) ⌝ }
     ensures { λ r. ⌜ r ≡ sortAt (codeOf (now (unit .entry)) parts) e ⌝ }
+    ensures { λ _. ⌜ NotedOf (now (unit .entry)) parts (now (notes .exit)) ⌝ }
 {
     let start = decode::expressions_offset(parts);
     let end = decode::literals_offset(parts);
-    sort_in(unit, parts, &unit[start..end], decode::long(e))
-}
-
-// A use that writes what its place names.
-fn writes(want: Want, at: u16) -> Use
-    ensures { λ r. ⌜ r ≡ used.Of want at true ⌝ }
-{
-    Use::Of {
-        want: want,
-        at: at,
-        written: true,
+    let at = decode::long(e);
+    let k = sort_in(unit, parts, &unit[start..end], notes, at);
+    if is_wrong(k) {
+        return k;
     }
-}
-
-// A use that reads what its expression gives.
-fn reads(want: Want, at: u16) -> Use
-    ensures { λ r. ⌜ r ≡ used.Of want at false ⌝ }
-{
-    Use::Of {
-        want: want,
-        at: at,
-        written: false,
-    }
-}
-
-// The first use of an expression that a statement has.
-fn first_use(s: Statement) -> Use
-    ensures { λ r. ⌜ r ≡ getD (usesOf s) 0 used.Nothing ⌝ }
-{
-    match s {
-        Statement::Set { place, source: _ } => writes(Want::Place, place),
-        Statement::Clear { place } => writes(Want::Place, place),
-        Statement::Incr { place } => writes(Want::DecimalPlace, place),
-        Statement::Decr { place } => writes(Want::DecimalPlace, place),
-        Statement::Upcase { place } => writes(Want::AlphaPlace, place),
-        Statement::Locase { place } => writes(Want::AlphaPlace, place),
-        Statement::Goto { target: _ } => Use::Nothing,
-        Statement::IfZero { number, target: _ } => reads(Want::Number, number),
-        Statement::Call { target: _ } => Use::Nothing,
-        Statement::Return => Use::Nothing,
-        Statement::Stop => Use::Nothing,
-        Statement::Computed { count: _, number } => reads(Want::Number, number),
-        Statement::Bad => Use::Nothing,
-    }
-}
-
-// The second use of an expression that a statement has: only SET has one.
-fn second_use(s: Statement) -> Use
-    ensures { λ r. ⌜ r ≡ getD (usesOf s) 1 used.Nothing ⌝ }
-{
-    match s {
-        Statement::Set { place: _, source } => reads(Want::Source, source),
-        Statement::Clear { place: _ } => Use::Nothing,
-        Statement::Incr { place: _ } => Use::Nothing,
-        Statement::Decr { place: _ } => Use::Nothing,
-        Statement::Upcase { place: _ } => Use::Nothing,
-        Statement::Locase { place: _ } => Use::Nothing,
-        Statement::Goto { target: _ } => Use::Nothing,
-        Statement::IfZero {
-            number: _,
-            target: _,
-        } => Use::Nothing,
-        Statement::Call { target: _ } => Use::Nothing,
-        Statement::Return => Use::Nothing,
-        Statement::Stop => Use::Nothing,
-        Statement::Computed {
-            count: _,
-            number: _,
-        } => Use::Nothing,
-        Statement::Bad => Use::Nothing,
-    }
-}
-
-// The use k of a statement, from 0, in the order in which they are worked out; Nothing past the last.
-pub fn use_at(s: Statement, k: usize) -> Use
-    ensures { λ r. ⌜ r ≡ getD (usesOf s) k used.Nothing ⌝ }
-{
-    if k == 0 {
-        return first_use(s);
-    }
-    if k == 1 {
-        return second_use(s);
-    }
-    Use::Nothing
-}
-
-// Whether the sort k is that of a place.
-fn suits_place(k: Sort) -> bool
-    ensures { λ r. ⌜ r ≡ suits want.Place k ⌝ }
-{
-    match k {
-        Sort::Wrong => false,
-        Sort::Number => false,
-        Sort::Text => false,
-        Sort::Decimal => true,
-        Sort::Alpha => true,
-    }
-}
-
-// Whether the sort k is that of a decimal place.
-fn suits_decimal_place(k: Sort) -> bool
-    ensures { λ r. ⌜ r ≡ suits want.DecimalPlace k ⌝ }
-{
-    match k {
-        Sort::Wrong => false,
-        Sort::Number => false,
-        Sort::Text => false,
-        Sort::Decimal => true,
-        Sort::Alpha => false,
-    }
-}
-
-// Whether the sort k is that of an alpha place.
-fn suits_alpha_place(k: Sort) -> bool
-    ensures { λ r. ⌜ r ≡ suits want.AlphaPlace k ⌝ }
-{
-    match k {
-        Sort::Wrong => false,
-        Sort::Number => false,
-        Sort::Text => false,
-        Sort::Decimal => false,
-        Sort::Alpha => true,
-    }
-}
-
-// Whether the sort k is that of a number or an alpha source.
-fn suits_source(k: Sort) -> bool
-    ensures { λ r. ⌜ r ≡ suits want.Source k ⌝ }
-{
-    match k {
-        Sort::Wrong => false,
-        Sort::Number => true,
-        Sort::Text => true,
-        Sort::Decimal => true,
-        Sort::Alpha => true,
-    }
-}
-
-// Whether the sort k is that of a number.
-fn suits_number(k: Sort) -> bool
-    ensures { λ r. ⌜ r ≡ suits want.Number k ⌝ }
-{
-    match k {
-        Sort::Wrong => false,
-        Sort::Number => true,
-        Sort::Text => false, // An alpha literal is no number.
-        Sort::Decimal => true,
-        Sort::Alpha => false,
-    }
-}
-
-// Whether an expression of the sort k is of the sort wanted.
-fn suits_use(w: Want, k: Sort) -> bool
-    ensures { λ r. ⌜ r ≡ suits w k ⌝ }
-{
-    match w {
-        Want::Place => suits_place(k),
-        Want::DecimalPlace => suits_decimal_place(k),
-        Want::AlphaPlace => suits_alpha_place(k),
-        Want::Source => suits_source(k),
-        Want::Number => suits_number(k),
-    }
-}
-
-// Whether the expression of a use is well formed and of the sort wanted.
-fn use_good(unit: &[u8], parts: Parts, u: Use) -> bool
-    requires { ⌜ Fills (now unit) parts ⌝ }
-    ensures { λ r. ⌜ r ≡ useb (codeOf (now (unit .entry)) parts) u ⌝ }
-{
-    match u {
-        Use::Nothing => true,
-        Use::Of {
-            want,
-            at,
-            written: _,
-        } => suits_use(want, sort_at(unit, parts, at)),
-    }
-}
-
-// Whether the expressions of a statement are well formed and of the sorts that it wants.
-pub fn uses_good(unit: &[u8], parts: Parts, s: Statement) -> bool
-    requires { ⌜ Fills (now unit) parts ⌝ }
-    ensures { λ r. ⌜ r ≡ usesb (codeOf (now (unit .entry)) parts) (usesOf s) ⌝ }
-{
-    if !use_good(unit, parts, use_at(s, 0)) {
-        return false;
-    }
-    use_good(unit, parts, use_at(s, 1))
+    note_in(unit, parts, &unit[start..end], notes, at, k);
+    k
 }

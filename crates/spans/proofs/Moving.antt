@@ -10,7 +10,7 @@ use lib.ListN.{length, take, drop, getD, set, replicate, length-drop, length-rep
 use lib.Seq.{length-take-le, drop-cons, drop-drop, take-add, take-take, take-length, set-split}
 use borrow.Rule.Slice.PartMut.{putMid, mid-len}
 use Rattle.rules.specs.Moves.{fitted}
-use Rattle.text.proofs.Fitting.{fitted-is}
+use Rattle.letters.proofs.Fitting.{fitted-is}
 use Rattle.rules_run.specs.Turns.{stored}
 use Rattle.rules_run.proofs.Stored.{stored-low, stored-high, stored-length, stored-none, stored-append, stored-prepend, stored-part}
 

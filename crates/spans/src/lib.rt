@@ -194,5 +194,5 @@ pub fn move_text(bytes: &mut [u8], start: usize, len: usize, from: usize, count:
     shift(bytes, start, from, count);
     let a = start + count;
     let e = start + len;
-    text::fill(&mut bytes[a..e], 32)
+    letters::fill(&mut bytes[a..e], 32)
 }

@@ -1,5 +1,3 @@
 pub mod Reading
 pub mod Writing
 pub mod Alpha
-pub mod Casing
-pub mod Fitting

@@ -8,6 +8,7 @@ ghost use mathlib.Core.Path.{_≡_};
 ghost use Prim.Native.Nat.{_+_, _<_, _≤_};
 ghost use Rattle.rules_unit.specs.Decode.{Fills, codeOf};
 ghost use Rattle.rules_unit.specs.Checks.{isGoto, gotosb, tableb, formb, shapeb, foundOf, statementsFrom, partsCheck, checkOf};
+ghost use Rattle.sorts.specs.Notes.{NotedOf};
 
 // ---- 5
 
@@ -116,29 +117,32 @@ fn shape_good(unit: &[u8], parts: Parts, i: u16) -> bool
 
 // ---- the check
 
-// What is found of the statement i: 5 before 4.
-fn found_of(unit: &[u8], parts: Parts, i: u16) -> Found
+// What is found of the statement i: 5 before 4. What is found of its expressions is noted.
+fn found_of(unit: &[u8], parts: Parts, notes: &mut [u8], i: u16) -> Found
     requires { ⌜ Fills (now unit) parts ⌝ }
+    requires { ⌜ NotedOf (now unit) parts (now notes) ⌝ }
     requires { ⌜ i < parts .n ⌝ }
     ensures { λ r. ⌜ r ≡ foundOf (codeOf (now (unit .entry)) parts) i ⌝ }
+    ensures { λ _. ⌜ NotedOf (now (unit .entry)) parts (now (notes .exit)) ⌝ }
 {
     if !shape_good(unit, parts, i) {
         return Found::BadShape;
     }
-    if !sorts::uses_good(unit, parts, decode::statement(unit, parts, i)) {
+    if !uses::uses_good(unit, parts, notes, decode::statement(unit, parts, i)) {
         return Found::BadExpression;
     }
     Found::Good
 }
 
-// Checks 4 and 5, statement by statement.
-fn statements(unit: &[u8], parts: Parts) -> Checked
+// Checks 4 and 5, statement by statement, with notes of the sorts that are found.
+fn statements_noted(unit: &[u8], parts: Parts, notes: &mut [u8]) -> Checked
     requires { ⌜ Fills (now unit) parts ⌝ }
+    requires { ⌜ NotedOf (now unit) parts (now notes) ⌝ }
     ensures { λ r. ⌜ r ≡ statementsFrom (now (unit .entry)) parts (parts .n) 0 ⌝ }
 {
     let mut i: u16 = 0;
     while i < parts.n {
-        let found = found_of(unit, parts, i);
+        let found = found_of(unit, parts, notes, i);
         match found {
             Found::Good => {}
             Found::BadShape => return Checked::Refused(Refusal::BadStatement(i)),
@@ -147,6 +151,15 @@ fn statements(unit: &[u8], parts: Parts) -> Checked
         i += 1;
     }
     Checked::Passed(parts)
+}
+
+// Checks 4 and 5. There is a note for each offset of the expressions, and nothing is noted yet.
+fn statements(unit: &[u8], parts: Parts) -> Checked
+    requires { ⌜ Fills (now unit) parts ⌝ }
+    ensures { λ r. ⌜ r ≡ statementsFrom (now (unit .entry)) parts (parts .n) 0 ⌝ }
+{
+    let mut notes = [0u8; 16384];
+    statements_noted(unit, parts, &mut notes)
 }
 
 // Checks 2 to 5 of a unit that its parts fill.

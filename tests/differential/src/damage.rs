@@ -29,17 +29,22 @@ fn other(random: &mut Random, now: u16) -> u16 {
     }
 }
 
+/// Changes a part of a statement, or has it name an expression of another.
 fn edit_statement(random: &mut Random, draft: &mut Draft) {
-    let count = draft.statements.len();
-    let Some(statement) = draft.statements.get_mut(random.below(count.max(1))) else {
+    if draft.statements.is_empty() {
         return;
-    };
-    match random.below(6) {
+    }
+    let shared = random.pick(&draft.statements);
+    let count = draft.statements.len();
+    let statement = &mut draft.statements[random.below(count)];
+    match random.below(8) {
         0 => statement.code = random.below(14) as u8,
         1 => statement.zero = random.pick(&[1, 0x80, 0xFF]),
         2 => statement.a = other(random, statement.a),
         3 => statement.b = other(random, statement.b),
         4 => statement.c = other(random, statement.c),
+        5 => statement.a = random.pick(&[shared.a, shared.b]),
+        6 => statement.b = random.pick(&[shared.a, shared.b]),
         _ => (statement.a, statement.b) = (statement.b, statement.a),
     }
 }

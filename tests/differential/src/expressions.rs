@@ -29,6 +29,22 @@ pub enum Sort {
     AlphaLiteral,
 }
 
+impl Sort {
+    /// Whether an expression of this sort may stand where `wanted` does: a place may be read and written, and a decimal place is a number.
+    fn serves(self, wanted: Sort) -> bool {
+        match (self, wanted) {
+            (
+                Sort::Place {
+                    is_decimal: made, ..
+                },
+                Sort::Place { is_decimal, .. },
+            ) => made == is_decimal,
+            (Sort::Place { is_decimal, .. }, Sort::Number) => is_decimal,
+            _ => self == wanted,
+        }
+    }
+}
+
 /// How deep expressions nest at first.
 const DEPTH: usize = 3;
 
@@ -62,7 +78,7 @@ impl<'a> Maker<'a> {
     pub fn expression(&mut self, sort: Sort) -> u16 {
         if self.random.chance(25) && !self.made.is_empty() {
             let (made, offset) = self.random.pick(&self.made);
-            if made == sort {
+            if made.serves(sort) {
                 return offset;
             }
         }

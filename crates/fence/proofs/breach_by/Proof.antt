@@ -1,7 +1,7 @@
 -- `fence::breach_by` meets its contract: a statement number below N has the breach of that statement, and any other has none.
 -- Assumes nothing.
 use borrow.Author.Needs.{needs}
-use Rattle.fence.proofs.Statements.{by-past, by-in}
+use Rattle.fence.proofs.Answers.{by-past, by-in}
 use Rattle.fence.proofs.breach_by.Statement.{statement}
 use Rattle.fence.proofs.breach_by.Tie as tie
 

@@ -2,8 +2,8 @@
 -- literal; an alpha one has it stored.
 -- Assumes nothing.
 use borrow.Author.Needs.{needs}
+use Rattle.stores.proofs.Literals.{literal-end}
 use Rattle.machine.proofs.Moves.{literal-alpha, literal-moved}
-use Rattle.machine.proofs.Storing.{literal-end}
 use Rattle.machine.proofs.move_literal.Statement.{statement}
 use Rattle.machine.proofs.move_literal.Tie as tie
 

@@ -1,6 +1,8 @@
--- `machine::work` meets its contract: each arm knows the statement that is decoded, and its callee answers what the rule has for that statement.
+-- `machine::work` meets its contract: each arm knows the statement that is decoded, or the two that it may be, and its callee answers what the rule has
+-- for that statement.
 -- Assumes nothing.
 use borrow.Author.Needs.{needs}
+use mathlib.Core.Logic.{⊎-elim}
 use Rattle.machine.proofs.Statements.{statements, table-fits}
 use Rattle.machine.proofs.work.Statement.{statement}
 use Rattle.machine.proofs.work.Tie as tie
@@ -8,56 +10,47 @@ use Rattle.machine.proofs.work.Tie as tie
 statement-requires : tie.Need-statement-requires
 statement-requires c κs = search needs
 
-enum-known-place : tie.Need-enum-known-place
-enum-known-place c = search needs
+upward-requires : tie.Need-upward-requires
+upward-requires c κs = search needs
+
+enum-known-s : tie.Need-enum-known-s
+enum-known-s c = search needs
 
 set-place-requires : tie.Need-set-place-requires
 set-place-requires c κs = search needs
 
-enum-known-place-2 : tie.Need-enum-known-place-2
-enum-known-place-2 c = search needs
+enum-known-s-2 : tie.Need-enum-known-s-2
+enum-known-s-2 c = search needs
 
 clear-place-requires : tie.Need-clear-place-requires
 clear-place-requires c κs = search needs
 
-enum-known-place-3 : tie.Need-enum-known-place-3
-enum-known-place-3 c = search needs
+enum-known-s-3 : tie.Need-enum-known-s-3
+enum-known-s-3 c = search needs
 
-count-place-requires : tie.Need-count-place-requires
-count-place-requires c κs = search needs
+enum-known-s-4 : tie.Need-enum-known-s-4
+enum-known-s-4 c = search needs
 
-enum-known-place-4 : tie.Need-enum-known-place-4
-enum-known-place-4 c = search needs
+enum-known-s-5 : tie.Need-enum-known-s-5
+enum-known-s-5 c = search needs
 
-count-place-requires-2 : tie.Need-count-place-requires-2
-count-place-requires-2 c κs = search needs
+enum-known-s-6 : tie.Need-enum-known-s-6
+enum-known-s-6 c = search needs
 
-enum-known-place-5 : tie.Need-enum-known-place-5
-enum-known-place-5 c = search needs
-
-case-place-requires : tie.Need-case-place-requires
-case-place-requires c κs = search needs
-
-enum-known-place-6 : tie.Need-enum-known-place-6
-enum-known-place-6 c = search needs
-
-case-place-requires-2 : tie.Need-case-place-requires-2
-case-place-requires-2 c κs = search needs
-
-enum-known-target : tie.Need-enum-known-target
-enum-known-target c = search needs
+enum-known-s-7 : tie.Need-enum-known-s-7
+enum-known-s-7 c = search needs
 
 go-requires : tie.Need-go-requires
 go-requires c κs = search needs
 
-enum-known-number : tie.Need-enum-known-number
-enum-known-number c = search needs
+enum-known-s-8 : tie.Need-enum-known-s-8
+enum-known-s-8 c = search needs
 
 if-zero-requires : tie.Need-if-zero-requires
 if-zero-requires c κs = search needs
 
-enum-known-target-2 : tie.Need-enum-known-target-2
-enum-known-target-2 c = search needs
+enum-known-s-9 : tie.Need-enum-known-s-9
+enum-known-s-9 c = search needs
 
 go-requires-2 : tie.Need-go-requires-2
 go-requires-2 c κs = search needs
@@ -74,8 +67,8 @@ enum-told-2 c = search needs
 go-requires-4 : tie.Need-go-requires-4
 go-requires-4 c κs = search needs
 
-enum-known-count : tie.Need-enum-known-count
-enum-known-count c = search needs
+enum-known-s-10 : tie.Need-enum-known-s-10
+enum-known-s-10 c = search needs
 
 computed-requires : tie.Need-computed-requires
 computed-requires c κs = (search needs, (search needs, (search needs, search table-fits depth 3)))
@@ -85,6 +78,12 @@ enum-told-3 c = search needs
 
 fails-requires : tie.Need-fails-requires
 fails-requires c κs = search needs
+
+case-place-requires : tie.Need-case-place-requires
+case-place-requires c κs = search needs
+
+count-place-requires : tie.Need-count-place-requires
+count-place-requires c κs = search needs
 
 returns : tie.Need-returns
 returns c = search statements depth 3
@@ -114,48 +113,41 @@ returns-9 : tie.Need-returns-9
 returns-9 c = search statements depth 3
 
 returns-10 : tie.Need-returns-10
-returns-10 c = search statements depth 3
+returns-10 c = ⊎-elim (λ w. search statements depth 3) (λ w. search statements depth 3) (c .before .match .came)
 
 returns-11 : tie.Need-returns-11
-returns-11 c = search statements depth 3
-
-returns-12 : tie.Need-returns-12
-returns-12 c = search statements depth 3
-
-returns-13 : tie.Need-returns-13
-returns-13 c = search statements depth 3
+returns-11 c = ⊎-elim (λ w. search statements depth 3) (λ w. search statements depth 3) (c .before .match .came)
 
 pub work-spec : {M : Type 1} → statement M
 work-spec =
     tie.close
     (tie.spec
     statement-requires
-    enum-known-place
+    upward-requires
+    enum-known-s
     set-place-requires
-    enum-known-place-2
+    enum-known-s-2
     clear-place-requires
-    enum-known-place-3
-    count-place-requires
-    enum-known-place-4
-    count-place-requires-2
-    enum-known-place-5
-    case-place-requires
-    enum-known-place-6
-    case-place-requires-2
-    enum-known-target
+    enum-known-s-3
+    enum-known-s-4
+    enum-known-s-5
+    enum-known-s-6
+    enum-known-s-7
     go-requires
-    enum-known-number
+    enum-known-s-8
     if-zero-requires
-    enum-known-target-2
+    enum-known-s-9
     go-requires-2
     enum-told
     go-requires-3
     enum-told-2
     go-requires-4
-    enum-known-count
+    enum-known-s-10
     computed-requires
     enum-told-3
     fails-requires
+    case-place-requires
+    count-place-requires
     returns
     returns-2
     returns-3
@@ -166,6 +158,4 @@ work-spec =
     returns-8
     returns-9
     returns-10
-    returns-11
-    returns-12
-    returns-13)
+    returns-11)

@@ -1,0 +1,4 @@
+pub mod Spans
+pub mod References
+pub mod Turns
+pub mod Statements

@@ -1,0 +1,107 @@
+-- The uses of a statement, and what a passed check gives: one law for each way out of the code.
+-- Assumes nothing.
+use mathlib.Core.Path.{_≡_, refl, sym, _∙_}
+use mathlib.Core.Bool.{Bool, true, false, cond, not}
+use mathlib.Core.List.{List, [], _∷_}
+use Prim.Native.Nat.{ℕ, zero, suc, _-_, _≤_, _<_}
+use native.Mathlib.Omega.{arith}
+use lib.Dec.{ltb}
+use lib.ListN.{length, getD, take, drop, drop-of-length-le, List·getD-eq-default}
+use borrow.Author.Tests.{ltb-true, ltb-false, not-true, not-false}
+use Rattle.rules_unit.specs.declared.Parts.{Parts}
+use Rattle.rules_unit.specs.declared.Checked.the-variants as checked
+use Rattle.rules_unit.specs.declared.Statement.{Statement}
+use Rattle.rules_unit.specs.declared.Want.{Want}
+use Rattle.rules_unit.specs.declared.Use.{Use}
+use Rattle.rules_unit.specs.declared.Use.the-variants as use-of
+use Rattle.rules_unit.specs.Codes.{Code}
+use Rattle.rules_unit.specs.Decode.{Fills, Dialect, expressionsAt, literalsAt, itemsAt, codeOf}
+use Rattle.rules_unit.specs.Expressions.{usesOf, useb}
+use Rattle.rules_unit.specs.Checks.{checkOf}
+use Rattle.rules_unit.proofs.Sound.{passed-sound, passed-fills}
+use Rattle.rules_run.proofs.Lengths.{passed-dialect}
+use Rattle.uses.proofs.Uses.{uses-few}
+use Rattle.rules_fence.specs.declared.Breach.{Breach}
+use Rattle.rules_fence.specs.declared.Breach.the-variants as breach
+use Rattle.rules_fence.specs.declared.Seen.the-variants as seen
+use Rattle.rules_fence.specs.Breaches.{keepsb, firstOf, breachFrom, useBreach, usesBreach, breachOf}
+use Rattle.rules_fence.proofs.Kept.{none-kept}
+use Rattle.rules_fence.proofs.Sorts.{known-of}
+use Rattle.breaches.specs.Asked.{AllKnown}
+
+-- ---- one use
+
+module _ (u : List ℕ) (p : Parts) where
+  -- the expressions are the part of the unit from a to b
+  module _ (a b e e′ : ℕ) (ea : a ≡ expressionsAt p) (eb : b ≡ literalsAt p) (ee : e′ ≡ e) where
+    pub part-known : AllKnown (codeOf u p) (codeOf u p .items e) → AllKnown (codeOf u p) (itemsAt (take (b - a) (drop a u)) e′)
+    part-known k = let size : b - a ≡ p .e = omega arith in rw (size, ea, ee) k
+
+    pub part-breach : (dest : Bool) (r : Breach) → r ≡ breachFrom (codeOf u p) dest seen.Nothing (itemsAt (take (b - a) (drop a u)) e′)
+        → r ≡ breachFrom (codeOf u p) dest seen.Nothing (codeOf u p .items e)
+    part-breach dest r q = let size : b - a ≡ p .e = omega arith in rw (size, ea, ee) at q
+
+  module _ (x : Use) where
+    pub use-none : x ≡ use-of.Nothing → breach.None ≡ useBreach (codeOf u p) x
+    use-none e = rw e
+
+    module _ (w : Want) (at : ℕ) (t : Bool) (e : x ≡ use-of.Of w at t) where
+      pub use-known : useb (codeOf u p) x ≡ true → AllKnown (codeOf u p) (codeOf u p .items at)
+      use-known h = record { each = known-of (codeOf u p) w at (rw e at h) }
+
+      pub use-by : (r : Breach) → r ≡ breachFrom (codeOf u p) t seen.Nothing (codeOf u p .items at) → r ≡ useBreach (codeOf u p) x
+      use-by r q = rw e q
+
+-- ---- one statement
+
+uses-suc : (c : Code) (us : List Use) (k : ℕ)
+    → usesBreach c (drop k us) ≡ firstOf (useBreach c (getD us k use-of.Nothing)) (usesBreach c (drop (suc k) us))
+unfolding usesBreach
+uses-suc c [] zero = refl
+uses-suc c [] (suc k) = refl
+uses-suc c (x ∷ us) zero = refl
+uses-suc c (x ∷ us) (suc k) = uses-suc c us k
+
+uses-end : (c : Code) (us : List Use) → length us ≤ 2 → usesBreach c (drop 2 us) ≡ breach.None
+unfolding usesBreach
+uses-end c us h = rw (drop-of-length-le us h)
+
+last-of : (b : Breach) (t : Bool) → keepsb b ≡ t → cond t breach.None b ≡ b
+last-of b true e = sym (none-kept b e)
+last-of b false e = refl
+
+module _ (u : List ℕ) (p : Parts) (i : ℕ) (s : Statement) (es : s ≡ codeOf u p .statement i) where
+  -- Every use of a unit that passed its check is good, and past the last there is none.
+  pub use-good : (x : Use) (k : ℕ) → checkOf u ≡ checked.Passed p → i < p .n → x ≡ getD (usesOf s) k use-of.Nothing → useb (codeOf u p) x ≡ true
+  use-good x k e h ex = rw (ex, es) (by (ltb k (length (usesOf (codeOf u p .statement i)))) refl)
+    where
+      by : (t : Bool) → ltb k (length (usesOf (codeOf u p .statement i))) ≡ t
+          → useb (codeOf u p) (getD (usesOf (codeOf u p .statement i)) k use-of.Nothing) ≡ true
+      by true q = passed-sound u p e .code .statements i h .uses .each k (ltb-true k (length (usesOf (codeOf u p .statement i))) q)
+      by false q = rw (List·getD-eq-default (usesOf (codeOf u p .statement i)) use-of.Nothing (ltb-false k (length (usesOf (codeOf u p .statement i))) q))
+
+  -- x and y are the first two uses, r and q what they break
+  module _ (x : Use) (r : Breach) (k : Bool) (ex : x ≡ getD (usesOf s) 0 use-of.Nothing) (er : r ≡ useBreach (codeOf u p) x) (ek : k ≡ keepsb r) where
+    first : breachOf (codeOf u p) i ≡ cond k (usesBreach (codeOf u p) (drop 1 (usesOf s))) r
+    unfolding breachOf
+    first = rw (← es) (uses-suc (codeOf u p) (usesOf s) 0 ∙ rw (← ex, ← er, ← ek))
+
+    pub first-breaks : not k ≡ true → r ≡ breachOf (codeOf u p) i
+    first-breaks h = sym (rw (not-true k h) at first)
+
+    pub second-breaks : (y : Use) (q : Breach) → not k ≡ false → y ≡ getD (usesOf s) 1 use-of.Nothing → q ≡ useBreach (codeOf u p) y
+        → q ≡ breachOf (codeOf u p) i
+    second-breaks y q h ey eq =
+        sym
+        ((rw (not-false k h) at first)
+        ∙ uses-suc (codeOf u p) (usesOf s) 1
+        ∙ rw (← ey, ← eq, uses-end (codeOf u p) (usesOf s) (uses-few s)) (last-of q (keepsb q) refl))
+
+-- ---- the unit
+
+module _ (u : List ℕ) (p : Parts) (e : checkOf u ≡ checked.Passed p) where
+  pub fills-of : Fills u p
+  fills-of = passed-fills u p e
+
+  pub dialect-of : Dialect p
+  dialect-of = passed-dialect u p e

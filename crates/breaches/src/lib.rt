@@ -1,0 +1,285 @@
+// What a statement of a unit that passed its check breaks first of the fence rules: its uses in order, their references left to right.
+use rules_fence::Breach;
+use rules_fence::Seen;
+use rules_run::Span;
+use rules_unit::Field;
+use rules_unit::How;
+use rules_unit::Item;
+use rules_unit::Parts;
+use rules_unit::Use;
+ghost use mathlib.Core.Path.{_≡_};
+ghost use mathlib.Core.Bool.{true};
+ghost use mathlib.Core.List.{[]};
+ghost use Prim.Native.Nat.{_+_, _<_, _≤_};
+ghost use Rattle.rules_unit.specs.declared.Checked.the-variants as checked;
+ghost use Rattle.rules_unit.specs.Codes.{offsetOf};
+ghost use Rattle.rules_unit.specs.Decode.{Fills, Dialect, itemsAt, codeOf};
+ghost use Rattle.rules_unit.specs.Expressions.{itemb, useb};
+ghost use Rattle.rules_unit.specs.Checks.{checkOf};
+ghost use Rattle.rules_run.specs.declared.Span.the-variants as span;
+ghost use Rattle.rules_fence.specs.declared.Seen.the-variants as seen;
+ghost use Rattle.rules_fence.specs.Fence.{destb};
+ghost use Rattle.rules_fence.specs.Breaches.{breachNumber, keepsb, endBreach, elementBreach, apartOf, apartFrom, alphaBreach, spanBreach, referenceBreach, itemBreach, breachFrom, useBreach, breachOf};
+ghost use Rattle.bounds.specs.Asked.{Small};
+ghost use Rattle.breaches.specs.Asked.{AllKnown, closesb};
+
+// Whether no rule is broken.
+pub fn keeps(b: Breach) -> bool
+    ensures { λ r. ⌜ r ≡ keepsb b ⌝ }
+{
+    match b {
+        Breach::None => true,
+        Breach::BoundNotLiteral => false,
+        Breach::BoundsWrong => false,
+        Breach::LeavesField => false,
+        Breach::OverElements => false,
+        Breach::StopsMidElement => false,
+        Breach::OnDecimal => false,
+    }
+}
+
+// The number of a breach, in the order of the rules; 0 where none is broken.
+pub fn breach_number(b: Breach) -> u8
+    ensures { λ r. ⌜ r ≡ breachNumber b ⌝ }
+{
+    match b {
+        Breach::None => 0,
+        Breach::BoundNotLiteral => 1,
+        Breach::BoundsWrong => 2,
+        Breach::LeavesField => 3,
+        Breach::OverElements => 4,
+        Breach::StopsMidElement => 5,
+        Breach::OnDecimal => 6,
+    }
+}
+
+// ---- one span
+
+// What a decimal span breaks that ends at `last`, where the element that it starts in ends at e.
+fn end_breach(dest: bool, e: usize, last: usize) -> Breach
+    ensures { λ r. ⌜ r ≡ endBreach dest e last ⌝ }
+{
+    if e < last {
+        return Breach::OverElements;
+    }
+    if dest {} else {
+        return Breach::None;
+    }
+    if last == e {
+        return Breach::None;
+    }
+    Breach::StopsMidElement
+}
+
+// What the n bytes from a on of a decimal field break, which start inside the field.
+fn element_breach(unit: &[u8], parts: Parts, dest: bool, field: u16, a: usize, n: usize) -> Breach
+    requires { ⌜ Fills (now unit) parts ⌝ }
+    requires { ⌜ field < parts .f ⌝ }
+    requires { ⌜ a + n ≤ parts .d ⌝ }
+    requires { ⌜ offsetOf (codeOf (now unit) parts) field ≤ a ⌝ }
+    ensures { λ r. ⌜ r ≡ elementBreach (codeOf (now (unit .entry)) parts) dest field a n ⌝ }
+{
+    let entry = decode::field(unit, parts, field);
+    let offset = decode::long(entry.offset);
+    let size = decode::long(entry.size);
+    // Never true of a unit that passed its check: an element has at least one byte.
+    if size == 0 {
+        return end_breach(dest, offset, a + n);
+    }
+    let k = (a - offset) / size;
+    end_breach(dest, offset + k * size + size, a + n)
+}
+
+// Whether a field is no decimal one, or shares no byte with the n bytes from a on.
+fn apart_of(field: Field, a: usize, n: usize) -> bool
+    requires { ⌜ a + n < 65536 ⌝ }
+    ensures { λ r. ⌜ r ≡ apartOf field a n ⌝ }
+{
+    let kind = field.kind;
+    if sorts::is_decimal(kind) {} else {
+        return true;
+    }
+    if a + n <= decode::long(field.offset) {
+        return true;
+    }
+    entries::end_of(field) <= a
+}
+
+// Whether no decimal field shares a byte with the n bytes from a on.
+fn apart_all(unit: &[u8], parts: Parts, a: usize, n: usize) -> bool
+    requires { ⌜ Fills (now unit) parts ⌝ }
+    requires { ⌜ a + n ≤ parts .d ⌝ }
+    ensures { λ r. ⌜ r ≡ apartFrom (codeOf (now (unit .entry)) parts) a n (parts .f) 0 ⌝ }
+{
+    let mut g: u16 = 0;
+    while g < parts.f {
+        if !apart_of(decode::field(unit, parts, g), a, n) {
+            return false;
+        }
+        g += 1;
+    }
+    true
+}
+
+// What the n bytes from a on of an alpha or record field break.
+fn alpha_breach(unit: &[u8], parts: Parts, dest: bool, a: usize, n: usize) -> Breach
+    requires { ⌜ Fills (now unit) parts ⌝ }
+    requires { ⌜ a + n ≤ parts .d ⌝ }
+    ensures { λ r. ⌜ r ≡ alphaBreach (codeOf (now (unit .entry)) parts) dest a n ⌝ }
+{
+    if dest {} else {
+        return Breach::None;
+    }
+    if apart_all(unit, parts, a, n) {
+        return Breach::None;
+    }
+    Breach::OnDecimal
+}
+
+// What the n bytes from a on break, which a reference to the field names.
+fn span_breach(unit: &[u8], parts: Parts, dest: bool, field: u16, a: usize, n: usize) -> Breach
+    requires { ⌜ Fills (now unit) parts ⌝ }
+    requires { ⌜ field < parts .f ⌝ }
+    requires { ⌜ a + n ≤ parts .d ⌝ }
+    ensures { λ r. ⌜ r ≡ spanBreach (codeOf (now (unit .entry)) parts) dest field (span.At a n) ⌝ }
+{
+    let entry = decode::field(unit, parts, field);
+    let kind = entry.kind;
+    if a < decode::long(entry.offset) {
+        return Breach::LeavesField;
+    }
+    if entries::end_of(entry) < a + n {
+        return Breach::LeavesField;
+    }
+    if sorts::is_decimal(kind) {
+        return element_breach(unit, parts, dest, field, a, n);
+    }
+    alpha_breach(unit, parts, dest, a, n)
+}
+
+// ---- references, expressions, statements
+
+// What a reference breaks, before which the bounds s stand.
+fn reference_breach(unit: &[u8], parts: Parts, dest: bool, how: How, field: u16, s: Seen) -> Breach
+    requires { ⌜ Fills (now unit) parts ⌝ }
+    requires { ⌜ field < parts .f ⌝ }
+    requires { ⌜ Small s ⌝ }
+    ensures { λ r. ⌜ r ≡ referenceBreach (codeOf (now (unit .entry)) parts) dest how field s ⌝ }
+{
+    if bounds::bounded(how, s) {} else {
+        return Breach::BoundNotLiteral;
+    }
+    match bounds::fixed_span(unit, parts, how, field, s) {
+        Span::At { start, len } => span_breach(unit, parts, dest, field, start, len),
+        Span::Outside => Breach::BoundsWrong,
+    }
+}
+
+// What an item breaks, where `dest` says whether it is the last one of a place that is written.
+fn item_breach(unit: &[u8], parts: Parts, dest: bool, s: Seen, item: Item) -> Breach
+    requires { ⌜ Fills (now unit) parts ⌝ }
+    requires { ⌜ Small s ⌝ }
+    requires { ⌜ itemb (codeOf (now unit) parts) item ≡ true ⌝ }
+    ensures { λ r. ⌜ r ≡ itemBreach (codeOf (now (unit .entry)) parts) dest s item [] ⌝ }
+{
+    match item {
+        Item::Number { place: _, len: _ } => Breach::None,
+        Item::Reference { how, field } => reference_breach(unit, parts, dest, how, field, s),
+        Item::Text { place: _, len: _ } => Breach::None,
+        Item::Operator(_) => Breach::None,
+        Item::End => Breach::None,
+        Item::Bad => Breach::None,
+    }
+}
+
+// Whether a reference that ends before the offset `next` is a destination: the last item of a place that is written.
+fn aimed(dest: bool, es: &[u8], next: usize) -> bool
+    ensures { λ r. ⌜ r ≡ destb dest (itemsAt (now (es .entry)) next) ⌝ }
+{
+    if dest {
+        return items::ends(es, next);
+    }
+    false
+}
+
+// Whether no item follows that belongs to the expression.
+fn closes(item: Item) -> bool
+    ensures { λ r. ⌜ r ≡ closesb item ⌝ }
+{
+    match item {
+        Item::Number { place: _, len: _ } => false,
+        Item::Reference { how: _, field: _ } => false,
+        Item::Text { place: _, len: _ } => false,
+        Item::Operator(_) => false,
+        Item::End => true,
+        Item::Bad => true,
+    }
+}
+
+// What the expression at an offset of the expressions es breaks first.
+fn breach_in(unit: &[u8], parts: Parts, dest: bool, es: &[u8], at: usize) -> Breach
+    requires { ⌜ Fills (now unit) parts ⌝ }
+    requires { ⌜ Dialect parts ⌝ }
+    requires { ⌜ AllKnown (codeOf (now unit) parts) (itemsAt (now es) at) ⌝ }
+    ensures { λ r. ⌜ r ≡ breachFrom (codeOf (now (unit .entry)) parts) dest seen.Nothing (itemsAt (now (es .entry)) at) ⌝ }
+{
+    let mut s = Seen::Nothing;
+    let mut i = at;
+    while i < es.len() {
+        let item = decode::item_at(es, i);
+        if closes(item) {
+            return Breach::None;
+        }
+        let next = i + decode::width_of(item);
+        let b = item_breach(unit, parts, aimed(dest, es, next), s, item);
+        if !keeps(b) {
+            return b;
+        }
+        s = bounds::seen_after(unit, parts, s, item);
+        i = next;
+    }
+    Breach::None
+}
+
+// What the expression at an offset breaks first.
+pub fn breach_at(unit: &[u8], parts: Parts, dest: bool, e: u16) -> Breach
+    requires { ⌜ Fills (now unit) parts ⌝ }
+    requires { ⌜ Dialect parts ⌝ }
+    requires { ⌜ AllKnown (codeOf (now unit) parts) (codeOf (now unit) parts .items e) ⌝ }
+    ensures { λ r. ⌜ r ≡ breachFrom (codeOf (now (unit .entry)) parts) dest seen.Nothing (codeOf (now (unit .entry)) parts .items e) ⌝ }
+{
+    let start = decode::expressions_offset(parts);
+    let end = decode::literals_offset(parts);
+    breach_in(unit, parts, dest, &unit[start..end], decode::long(e))
+}
+
+// What a use of an expression breaks first.
+fn use_breach(unit: &[u8], parts: Parts, u: Use) -> Breach
+    requires { ⌜ Fills (now unit) parts ⌝ }
+    requires { ⌜ Dialect parts ⌝ }
+    requires { ⌜ useb (codeOf (now unit) parts) u ≡ true ⌝ }
+    ensures { λ r. ⌜ r ≡ useBreach (codeOf (now (unit .entry)) parts) u ⌝ }
+{
+    match u {
+        Use::Nothing => Breach::None,
+        Use::Of {
+            want: _,
+            at,
+            written,
+        } => breach_at(unit, parts, written, at),
+    }
+}
+
+// What the statement i of a unit that passed its check breaks first: its uses in order, their references left to right.
+pub fn breach_of(unit: &[u8], parts: Parts, i: u16) -> Breach
+    requires { ⌜ checkOf (now unit) ≡ checked.Passed parts ⌝ }
+    requires { ⌜ i < parts .n ⌝ }
+    ensures { λ r. ⌜ r ≡ breachOf (codeOf (now (unit .entry)) parts) i ⌝ }
+{
+    let s = decode::statement(unit, parts, i);
+    let first = use_breach(unit, parts, uses::use_at(s, 0));
+    if !keeps(first) {
+        return first;
+    }
+    use_breach(unit, parts, uses::use_at(s, 1))
+}

@@ -1,0 +1,4 @@
+pub mod Operators
+pub mod Literals
+pub mod Places
+pub mod Closing

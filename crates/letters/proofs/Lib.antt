@@ -1,0 +1,2 @@
+pub mod Casing
+pub mod Fitting

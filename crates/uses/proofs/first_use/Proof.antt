@@ -1,0 +1,147 @@
+-- `uses::first_use` meets its contract: each arm knows the constructor, and answers the first use that the rule lists for it.
+-- Assumes nothing.
+use borrow.Author.Needs.{needs}
+use Rattle.uses.proofs.Uses.{use-as}
+use Rattle.uses.proofs.first_use.Statement.{statement}
+use Rattle.uses.proofs.first_use.Tie as tie
+
+enum-known-s : tie.Need-enum-known-s
+enum-known-s c = search needs
+
+writes-requires : tie.Need-writes-requires
+writes-requires c κs = search needs
+
+enum-known-s-2 : tie.Need-enum-known-s-2
+enum-known-s-2 c = search needs
+
+writes-requires-2 : tie.Need-writes-requires-2
+writes-requires-2 c κs = search needs
+
+enum-known-s-3 : tie.Need-enum-known-s-3
+enum-known-s-3 c = search needs
+
+writes-requires-3 : tie.Need-writes-requires-3
+writes-requires-3 c κs = search needs
+
+enum-known-s-4 : tie.Need-enum-known-s-4
+enum-known-s-4 c = search needs
+
+writes-requires-4 : tie.Need-writes-requires-4
+writes-requires-4 c κs = search needs
+
+enum-known-s-5 : tie.Need-enum-known-s-5
+enum-known-s-5 c = search needs
+
+writes-requires-5 : tie.Need-writes-requires-5
+writes-requires-5 c κs = search needs
+
+enum-known-s-6 : tie.Need-enum-known-s-6
+enum-known-s-6 c = search needs
+
+writes-requires-6 : tie.Need-writes-requires-6
+writes-requires-6 c κs = search needs
+
+enum-told : tie.Need-enum-told
+enum-told c = search needs
+
+enum-known-s-7 : tie.Need-enum-known-s-7
+enum-known-s-7 c = search needs
+
+reads-requires : tie.Need-reads-requires
+reads-requires c κs = search needs
+
+enum-told-2 : tie.Need-enum-told-2
+enum-told-2 c = search needs
+
+enum-told-3 : tie.Need-enum-told-3
+enum-told-3 c = search needs
+
+enum-told-4 : tie.Need-enum-told-4
+enum-told-4 c = search needs
+
+enum-known-s-8 : tie.Need-enum-known-s-8
+enum-known-s-8 c = search needs
+
+reads-requires-2 : tie.Need-reads-requires-2
+reads-requires-2 c κs = search needs
+
+enum-told-5 : tie.Need-enum-told-5
+enum-told-5 c = search needs
+
+returns : tie.Need-returns
+returns c = search use-as depth 3
+
+returns-2 : tie.Need-returns-2
+returns-2 c = search use-as depth 3
+
+returns-3 : tie.Need-returns-3
+returns-3 c = search use-as depth 3
+
+returns-4 : tie.Need-returns-4
+returns-4 c = search use-as depth 3
+
+returns-5 : tie.Need-returns-5
+returns-5 c = search use-as depth 3
+
+returns-6 : tie.Need-returns-6
+returns-6 c = search use-as depth 3
+
+returns-7 : tie.Need-returns-7
+returns-7 c = search use-as depth 3
+
+returns-8 : tie.Need-returns-8
+returns-8 c = search use-as depth 3
+
+returns-9 : tie.Need-returns-9
+returns-9 c = search use-as depth 3
+
+returns-10 : tie.Need-returns-10
+returns-10 c = search use-as depth 3
+
+returns-11 : tie.Need-returns-11
+returns-11 c = search use-as depth 3
+
+returns-12 : tie.Need-returns-12
+returns-12 c = search use-as depth 3
+
+returns-13 : tie.Need-returns-13
+returns-13 c = search use-as depth 3
+
+pub first-use-spec : {M : Type 1} → statement M
+first-use-spec =
+    tie.close
+    (tie.spec
+    enum-known-s
+    writes-requires
+    enum-known-s-2
+    writes-requires-2
+    enum-known-s-3
+    writes-requires-3
+    enum-known-s-4
+    writes-requires-4
+    enum-known-s-5
+    writes-requires-5
+    enum-known-s-6
+    writes-requires-6
+    enum-told
+    enum-known-s-7
+    reads-requires
+    enum-told-2
+    enum-told-3
+    enum-told-4
+    enum-known-s-8
+    reads-requires-2
+    enum-told-5
+    returns
+    returns-2
+    returns-3
+    returns-4
+    returns-5
+    returns-6
+    returns-7
+    returns-8
+    returns-9
+    returns-10
+    returns-11
+    returns-12
+    returns-13)
