@@ -3,6 +3,9 @@ SHELL := /bin/bash
 .PHONY: run check fence list owner bench test rim stored reference programs units second
 export CARGO_TARGET_DIR := $(CURDIR)/build/cargo
 
+# Cargo is not told of make's jobs, which it would try to join.
+cargo := env --unset=MAKEFLAGS --unset=MFLAGS cargo
+
 # An example unit, run by the proved bench program, with its fields before and after.
 run:
 	@mkdir -p build
@@ -47,14 +50,14 @@ stored:
 	tools/store-units --check
 
 reference: stored
-	UNITS=$(CURDIR)/build/units cargo test --release --offline --quiet --manifest-path second/Cargo.toml
+	UNITS=$(CURDIR)/build/units $(cargo) test --release --offline --quiet --manifest-path second/Cargo.toml
 
 programs: stored
 	tools/run-stored target/bin/bench
 	tools/run-owner target/bin/boxlever
 
 second:
-	@cargo build --release --offline --quiet --manifest-path second/Cargo.toml
+	@$(cargo) build --release --offline --quiet --manifest-path second/Cargo.toml
 
 # Stores the test units anew from their texts.
 units:
@@ -89,15 +92,15 @@ hosts: lib stored
 	tools/test-hosts build/prefix
 	@$(MAKE) --no-print-directory uninstall PREFIX=$(CURDIR)/build/prefix DESTDIR=
 	@test -z "$$(find build/prefix -type f)"
-	cargo test --offline --quiet --manifest-path bindings/rust/Cargo.toml
+	$(cargo) test --offline --quiet --manifest-path bindings/rust/Cargo.toml
 
 # The library against the second interpreter: some cases that reach everything, in the gate; as many as you like.
 differential: lib
-	@cargo test --release --offline --quiet --manifest-path tests/differential/Cargo.toml
-	@cargo run --release --offline --quiet --manifest-path tests/differential/Cargo.toml -- 300000 1 --reached
+	@$(cargo) test --release --offline --quiet --manifest-path tests/differential/Cargo.toml
+	@$(cargo) run --release --offline --quiet --manifest-path tests/differential/Cargo.toml -- 300000 1 --reached
 
 fuzz: lib
-	@cargo run --release --offline --quiet --manifest-path tests/differential/Cargo.toml -- $(N) $(SEED)
+	@$(cargo) run --release --offline --quiet --manifest-path tests/differential/Cargo.toml -- $(N) $(SEED)
 
 # What stands below PREFIX: the library for C, the manual pages, and the programs: the owner's program with the wrapper that gives it an
 # exit status before it, and the bench program by a longer name.
