@@ -133,7 +133,7 @@ pub fn seen_after(unit: &[u8], parts: Parts, s: Seen, item: Item) -> Seen
 // ---- what a reference takes of them
 
 // Whether there is a bound.
-fn has_one(s: Seen) -> bool
+pub fn has_one(s: Seen) -> bool
     ensures { λ r. ⌜ r ≡ boundedb how.Element s ⌝ }
 {
     match s {

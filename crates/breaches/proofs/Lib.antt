@@ -1,4 +1,5 @@
 pub mod Spans
 pub mod References
+pub mod Notes
 pub mod Turns
 pub mod Statements

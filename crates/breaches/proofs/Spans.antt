@@ -2,21 +2,22 @@
 -- read it.
 -- Assumes nothing.
 use mathlib.Core.Path.{_≡_, sym, ap, _∙_}
-use mathlib.Core.Bool.{Bool, true, false, cond, not}
+use mathlib.Core.Bool.{Bool, true, false, cond}
 use mathlib.Core.List.{List}
 use Prim.Native.Nat.{ℕ, _+_, _-_, _*_, _/_, _≤_, _<_}
 use native.Mathlib.Omega.{arith}
 use lib.Dec.{leb}
-use borrow.Author.Tests.{le-leb, lt-leb, not-true, not-false}
+use lib.ListN.{getD}
+use borrow.Author.Tests.{le-leb, lt-leb}
 use Rattle.rules_unit.specs.declared.Parts.{Parts}
 use Rattle.rules_unit.specs.declared.Field.{Field}
-use Rattle.rules_unit.specs.Codes.{Code, isDecimal}
+use Rattle.rules_unit.specs.Codes.{isDecimal}
 use Rattle.rules_unit.specs.Decode.{codeOf}
-use Rattle.rules_unit.proofs.Statements.{left-suc, left-none}
 use Rattle.rules_run.specs.declared.Span.the-variants.{At}
 use Rattle.rules_fence.specs.declared.Breach.{Breach}
 use Rattle.rules_fence.specs.declared.Breach.the-variants as breach
-use Rattle.rules_fence.specs.Breaches.{endBreach, elementBreach, apartOf, apartFrom, alphaBreach, spanBreach}
+use Rattle.rules_fence.specs.Breaches.{endBreach, elementBreach, alphaBreach, spanBreach}
+use Rattle.apart.specs.Ahead.{Ahead}
 
 -- ---- decimal spans
 
@@ -43,46 +44,20 @@ module _ (u : List ℕ) (p : Parts) (dest : Bool) (f a n : ℕ) (entry : Field) 
 
 -- ---- alpha spans
 
--- b says whether the field is decimal, o is its offset and e its end, as the code has them
-module _ (f : Field) (a n : ℕ) (b : Bool) (eb : b ≡ isDecimal (f .kind)) where
-  pub apart-other : b ≡ false → true ≡ apartOf f a n
-  apart-other h = rw (sym eb ∙ h)
-
-  module _ (t : b ≡ true) (o : ℕ) (eo : o ≡ f .offset) where
-    pub apart-before : a + n ≤ o → true ≡ apartOf f a n
-    apart-before h = rw (sym eb ∙ t, le-leb (a + n) (f .offset) (omega arith))
-
-    pub apart-behind : (e : ℕ) → o < a + n → e ≡ f .offset + f .count * f .size → leb e a ≡ apartOf f a n
-    apart-behind e h q = rw (sym eb ∙ t, lt-leb (a + n) (f .offset) (omega arith)) (ap (λ (x : ℕ). leb x a) q)
-
--- the loop over the fields: m of them, g is the next one, and z is what the whole loop answers
-module _ (c : Code) (a n m g : ℕ) (z : Bool) (w : apartFrom c a n (m - g) g ≡ z) where
-  pub apart-end : m ≤ g → true ≡ z
-  unfolding apartFrom
-  apart-end h = sym (rw (left-none m g h)) ∙ w
-
-  module _ (f : Field) (b : Bool) (h : g < m) (e : f ≡ c .field g) (q : b ≡ apartOf f a n) where
-    pub apart-stop : not b ≡ true → false ≡ z
-    unfolding apartFrom
-    apart-stop t = sym (rw (left-suc m g h, ← e, ← q, not-true b t)) ∙ w
-
-    pub apart-on : not b ≡ false → apartFrom c a n (m - (g + 1)) (g + 1) ≡ z
-    unfolding apartFrom
-    apart-on t = sym (rw (left-suc m g h, ← e, ← q, not-false b t)) ∙ w
-
+-- b says whether the span ends at or before the decimal field that is noted for its first byte
 module _ (u : List ℕ) (p : Parts) (dest : Bool) (a n : ℕ) where
   pub alpha-read : dest ≡ false → breach.None ≡ alphaBreach (codeOf u p) dest a n
   unfolding alphaBreach
   alpha-read e = rw e
 
-  module _ (e : dest ≡ true) (b : Bool) (eb : b ≡ apartFrom (codeOf u p) a n (p .f) 0) where
+  module _ (ahead : List ℕ) (w : Ahead (codeOf u p) ahead) (e : dest ≡ true) (l : a + n ≤ p .d) (b : Bool) (eb : b ≡ leb (a + n) (getD ahead a 65535)) where
     pub alpha-apart : b ≡ true → breach.None ≡ alphaBreach (codeOf u p) dest a n
     unfolding alphaBreach
-    alpha-apart h = rw (e, sym eb ∙ h)
+    alpha-apart h = rw (e, sym (w .so a n l) ∙ sym eb ∙ h)
 
     pub alpha-shared : b ≡ false → breach.OnDecimal ≡ alphaBreach (codeOf u p) dest a n
     unfolding alphaBreach
-    alpha-shared h = rw (e, sym eb ∙ h)
+    alpha-shared h = rw (e, sym (w .so a n l) ∙ sym eb ∙ h)
 
 -- ---- any span
 

@@ -41,6 +41,10 @@ module _ (u : List ℕ) (p : Parts) where
         → r ≡ breachFrom (codeOf u p) dest seen.Nothing (codeOf u p .items e)
     part-breach dest r q = let size : b - a ≡ p .e = omega arith in rw (size, ea, ee) at q
 
+  pub written-as : (e : ℕ) (written t : Bool) (r : Breach) → written ≡ t → r ≡ breachFrom (codeOf u p) t seen.Nothing (codeOf u p .items e)
+      → r ≡ breachFrom (codeOf u p) written seen.Nothing (codeOf u p .items e)
+  written-as e written t r h q = rw h q
+
   module _ (x : Use) where
     pub use-none : x ≡ use-of.Nothing → breach.None ≡ useBreach (codeOf u p) x
     use-none e = rw e

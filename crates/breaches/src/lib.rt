@@ -1,8 +1,9 @@
-// What a statement of a unit that passed its check breaks first of the fence rules: its uses in order, their references left to right.
+// What a statement of a unit that passed its check breaks first of the fence rules: its uses in order, their references left to right. Items that
+// keep the rules to the end of their expression are noted, once as read and once as of a place that is written, so that no two expressions that
+// come to the same item walk on from it.
 use rules_fence::Breach;
 use rules_fence::Seen;
 use rules_run::Span;
-use rules_unit::Field;
 use rules_unit::How;
 use rules_unit::Item;
 use rules_unit::Parts;
@@ -19,9 +20,12 @@ ghost use Rattle.rules_unit.specs.Checks.{checkOf};
 ghost use Rattle.rules_run.specs.declared.Span.the-variants as span;
 ghost use Rattle.rules_fence.specs.declared.Seen.the-variants as seen;
 ghost use Rattle.rules_fence.specs.Fence.{destb};
-ghost use Rattle.rules_fence.specs.Breaches.{breachNumber, keepsb, endBreach, elementBreach, apartOf, apartFrom, alphaBreach, spanBreach, referenceBreach, itemBreach, breachFrom, useBreach, breachOf};
+ghost use Rattle.rules_fence.specs.Breaches.{breachNumber, keepsb, endBreach, elementBreach, alphaBreach, spanBreach, referenceBreach, itemBreach, breachFrom, useBreach, breachOf};
 ghost use Rattle.bounds.specs.Asked.{Small};
+ghost use Rattle.sorts.specs.Notes.{expressionsOf};
+ghost use Rattle.apart.specs.Ahead.{Ahead};
 ghost use Rattle.breaches.specs.Asked.{AllKnown, closesb};
+ghost use Rattle.breaches.specs.Notes.{notedb, noteAt, Kept, KeptIf, Both, BothIf};
 
 // Whether no rule is broken.
 pub fn keeps(b: Breach) -> bool
@@ -90,55 +94,33 @@ fn element_breach(unit: &[u8], parts: Parts, dest: bool, field: u16, a: usize, n
     end_breach(dest, offset + k * size + size, a + n)
 }
 
-// Whether a field is no decimal one, or shares no byte with the n bytes from a on.
-fn apart_of(field: Field, a: usize, n: usize) -> bool
-    requires { ⌜ a + n < 65536 ⌝ }
-    ensures { λ r. ⌜ r ≡ apartOf field a n ⌝ }
-{
-    let kind = field.kind;
-    if sorts::is_decimal(kind) {} else {
-        return true;
-    }
-    if a + n <= decode::long(field.offset) {
-        return true;
-    }
-    entries::end_of(field) <= a
-}
-
-// Whether no decimal field shares a byte with the n bytes from a on.
-fn apart_all(unit: &[u8], parts: Parts, a: usize, n: usize) -> bool
-    requires { ⌜ Fills (now unit) parts ⌝ }
-    requires { ⌜ a + n ≤ parts .d ⌝ }
-    ensures { λ r. ⌜ r ≡ apartFrom (codeOf (now (unit .entry)) parts) a n (parts .f) 0 ⌝ }
-{
-    let mut g: u16 = 0;
-    while g < parts.f {
-        if !apart_of(decode::field(unit, parts, g), a, n) {
-            return false;
-        }
-        g += 1;
-    }
-    true
-}
-
 // What the n bytes from a on of an alpha or record field break.
-fn alpha_breach(unit: &[u8], parts: Parts, dest: bool, a: usize, n: usize) -> Breach
-    requires { ⌜ Fills (now unit) parts ⌝ }
+fn alpha_breach(unit: &[u8], parts: Parts, ahead: &[u16], dest: bool, a: usize, n: usize) -> Breach
+    requires { ⌜ Ahead (codeOf (now unit) parts) (now ahead) ⌝ }
     requires { ⌜ a + n ≤ parts .d ⌝ }
     ensures { λ r. ⌜ r ≡ alphaBreach (codeOf (now (unit .entry)) parts) dest a n ⌝ }
 {
     if dest {} else {
         return Breach::None;
     }
-    if apart_all(unit, parts, a, n) {
+    if apart::apart(ahead, a, n) {
         return Breach::None;
     }
     Breach::OnDecimal
 }
 
 // What the n bytes from a on break, which a reference to the field names.
-fn span_breach(unit: &[u8], parts: Parts, dest: bool, field: u16, a: usize, n: usize) -> Breach
+fn span_breach(
+    unit: &[u8],
+    parts: Parts,
+    ahead: &[u16],
+    dest: bool,
+    field: u16,
+    a: usize,
+    n: usize,
+) -> Breach
     requires { ⌜ Fills (now unit) parts ⌝ }
+    requires { ⌜ Ahead (codeOf (now unit) parts) (now ahead) ⌝ }
     requires { ⌜ field < parts .f ⌝ }
     requires { ⌜ a + n ≤ parts .d ⌝ }
     ensures { λ r. ⌜ r ≡ spanBreach (codeOf (now (unit .entry)) parts) dest field (span.At a n) ⌝ }
@@ -154,14 +136,23 @@ fn span_breach(unit: &[u8], parts: Parts, dest: bool, field: u16, a: usize, n: u
     if sorts::is_decimal(kind) {
         return element_breach(unit, parts, dest, field, a, n);
     }
-    alpha_breach(unit, parts, dest, a, n)
+    alpha_breach(unit, parts, ahead, dest, a, n)
 }
 
-// ---- references, expressions, statements
+// ---- references and items
 
 // What a reference breaks, before which the bounds s stand.
-fn reference_breach(unit: &[u8], parts: Parts, dest: bool, how: How, field: u16, s: Seen) -> Breach
+fn reference_breach(
+    unit: &[u8],
+    parts: Parts,
+    ahead: &[u16],
+    dest: bool,
+    how: How,
+    field: u16,
+    s: Seen,
+) -> Breach
     requires { ⌜ Fills (now unit) parts ⌝ }
+    requires { ⌜ Ahead (codeOf (now unit) parts) (now ahead) ⌝ }
     requires { ⌜ field < parts .f ⌝ }
     requires { ⌜ Small s ⌝ }
     ensures { λ r. ⌜ r ≡ referenceBreach (codeOf (now (unit .entry)) parts) dest how field s ⌝ }
@@ -170,21 +161,22 @@ fn reference_breach(unit: &[u8], parts: Parts, dest: bool, how: How, field: u16,
         return Breach::BoundNotLiteral;
     }
     match bounds::fixed_span(unit, parts, how, field, s) {
-        Span::At { start, len } => span_breach(unit, parts, dest, field, start, len),
+        Span::At { start, len } => span_breach(unit, parts, ahead, dest, field, start, len),
         Span::Outside => Breach::BoundsWrong,
     }
 }
 
 // What an item breaks, where `dest` says whether it is the last one of a place that is written.
-fn item_breach(unit: &[u8], parts: Parts, dest: bool, s: Seen, item: Item) -> Breach
+fn item_breach(unit: &[u8], parts: Parts, ahead: &[u16], dest: bool, s: Seen, item: Item) -> Breach
     requires { ⌜ Fills (now unit) parts ⌝ }
+    requires { ⌜ Ahead (codeOf (now unit) parts) (now ahead) ⌝ }
     requires { ⌜ Small s ⌝ }
     requires { ⌜ itemb (codeOf (now unit) parts) item ≡ true ⌝ }
     ensures { λ r. ⌜ r ≡ itemBreach (codeOf (now (unit .entry)) parts) dest s item [] ⌝ }
 {
     match item {
         Item::Number { place: _, len: _ } => Breach::None,
-        Item::Reference { how, field } => reference_breach(unit, parts, dest, how, field, s),
+        Item::Reference { how, field } => reference_breach(unit, parts, ahead, dest, how, field, s),
         Item::Text { place: _, len: _ } => Breach::None,
         Item::Operator(_) => Breach::None,
         Item::End => Breach::None,
@@ -216,25 +208,70 @@ fn closes(item: Item) -> bool
     }
 }
 
-// What the expression at an offset of the expressions es breaks first.
-fn breach_in(unit: &[u8], parts: Parts, dest: bool, es: &[u8], at: usize) -> Breach
+// ---- notes
+
+// Whether the items from an offset on are noted, where the bounds s stand before them. Past the end of the list none are.
+fn noted(notes: &[u8], at: usize, s: Seen) -> bool
+    ensures { λ r. ⌜ r ≡ notedb (now (notes .entry)) at s ⌝ }
+{
+    if bounds::has_one(s) {
+        return false; // What is noted is of items before which no bounds stand.
+    }
+    if notes.len() <= at {
+        return false;
+    }
+    0 < notes[at]
+}
+
+// Notes the items from an offset on, where no bounds stand before them. Past the end of the list nothing is noted.
+fn note(notes: &mut [u8], at: usize, s: Seen)
+    ensures { λ _. ⌜ now (notes .exit) ≡ noteAt (now (notes .entry)) at s ⌝ }
+{
+    if bounds::has_one(s) {
+        return;
+    }
+    if at < notes.len() {
+        notes[at] = 1;
+    }
+}
+
+// ---- expressions and statements
+
+// What the expression at an offset of the expressions es breaks first. The items that it comes to are noted; if it breaks a rule, what is noted
+// is of no use.
+fn breach_in(
+    unit: &[u8],
+    parts: Parts,
+    ahead: &[u16],
+    dest: bool,
+    es: &[u8],
+    notes: &mut [u8],
+    at: usize,
+) -> Breach
     requires { ⌜ Fills (now unit) parts ⌝ }
     requires { ⌜ Dialect parts ⌝ }
+    requires { ⌜ Ahead (codeOf (now unit) parts) (now ahead) ⌝ }
     requires { ⌜ AllKnown (codeOf (now unit) parts) (itemsAt (now es) at) ⌝ }
+    requires { ⌜ Kept (codeOf (now unit) parts) dest (now es) (now notes) ⌝ }
     ensures { λ r. ⌜ r ≡ breachFrom (codeOf (now (unit .entry)) parts) dest seen.Nothing (itemsAt (now (es .entry)) at) ⌝ }
+    ensures { λ r. ⌜ KeptIf r (codeOf (now (unit .entry)) parts) dest (now (es .entry)) (now (notes .exit)) ⌝ }
 {
     let mut s = Seen::Nothing;
     let mut i = at;
     while i < es.len() {
+        if noted(notes, i, s) {
+            return Breach::None;
+        }
         let item = decode::item_at(es, i);
         if closes(item) {
             return Breach::None;
         }
         let next = i + decode::width_of(item);
-        let b = item_breach(unit, parts, aimed(dest, es, next), s, item);
+        let b = item_breach(unit, parts, ahead, aimed(dest, es, next), s, item);
         if !keeps(b) {
             return b;
         }
+        note(notes, i, s);
         s = bounds::seen_after(unit, parts, s, item);
         i = next;
     }
@@ -242,23 +279,75 @@ fn breach_in(unit: &[u8], parts: Parts, dest: bool, es: &[u8], at: usize) -> Bre
 }
 
 // What the expression at an offset breaks first.
-pub fn breach_at(unit: &[u8], parts: Parts, dest: bool, e: u16) -> Breach
+fn breach_at(
+    unit: &[u8],
+    parts: Parts,
+    ahead: &[u16],
+    dest: bool,
+    notes: &mut [u8],
+    e: u16,
+) -> Breach
     requires { ⌜ Fills (now unit) parts ⌝ }
     requires { ⌜ Dialect parts ⌝ }
+    requires { ⌜ Ahead (codeOf (now unit) parts) (now ahead) ⌝ }
     requires { ⌜ AllKnown (codeOf (now unit) parts) (codeOf (now unit) parts .items e) ⌝ }
+    requires { ⌜ Kept (codeOf (now unit) parts) dest (expressionsOf (now unit) parts) (now notes) ⌝ }
     ensures { λ r. ⌜ r ≡ breachFrom (codeOf (now (unit .entry)) parts) dest seen.Nothing (codeOf (now (unit .entry)) parts .items e) ⌝ }
+    ensures { λ r. ⌜ KeptIf r (codeOf (now (unit .entry)) parts) dest (expressionsOf (now (unit .entry)) parts) (now (notes .exit)) ⌝ }
 {
     let start = decode::expressions_offset(parts);
     let end = decode::literals_offset(parts);
-    breach_in(unit, parts, dest, &unit[start..end], decode::long(e))
+    breach_in(
+        unit,
+        parts,
+        ahead,
+        dest,
+        &unit[start..end],
+        notes,
+        decode::long(e),
+    )
+}
+
+// What the expression at an offset breaks first, as a place that is written or as one that is read.
+fn breach_as(
+    unit: &[u8],
+    parts: Parts,
+    ahead: &[u16],
+    reads: &mut [u8],
+    writes: &mut [u8],
+    written: bool,
+    e: u16,
+) -> Breach
+    requires { ⌜ Fills (now unit) parts ⌝ }
+    requires { ⌜ Dialect parts ⌝ }
+    requires { ⌜ Ahead (codeOf (now unit) parts) (now ahead) ⌝ }
+    requires { ⌜ AllKnown (codeOf (now unit) parts) (codeOf (now unit) parts .items e) ⌝ }
+    requires { ⌜ Both (now unit) parts (now reads) (now writes) ⌝ }
+    ensures { λ r. ⌜ r ≡ breachFrom (codeOf (now (unit .entry)) parts) written seen.Nothing (codeOf (now (unit .entry)) parts .items e) ⌝ }
+    ensures { λ r. ⌜ BothIf r (now (unit .entry)) parts (now (reads .exit)) (now (writes .exit)) ⌝ }
+{
+    if written {
+        return breach_at(unit, parts, ahead, true, writes, e);
+    }
+    breach_at(unit, parts, ahead, false, reads, e)
 }
 
 // What a use of an expression breaks first.
-fn use_breach(unit: &[u8], parts: Parts, u: Use) -> Breach
+fn use_breach(
+    unit: &[u8],
+    parts: Parts,
+    ahead: &[u16],
+    reads: &mut [u8],
+    writes: &mut [u8],
+    u: Use,
+) -> Breach
     requires { ⌜ Fills (now unit) parts ⌝ }
     requires { ⌜ Dialect parts ⌝ }
+    requires { ⌜ Ahead (codeOf (now unit) parts) (now ahead) ⌝ }
     requires { ⌜ useb (codeOf (now unit) parts) u ≡ true ⌝ }
+    requires { ⌜ Both (now unit) parts (now reads) (now writes) ⌝ }
     ensures { λ r. ⌜ r ≡ useBreach (codeOf (now (unit .entry)) parts) u ⌝ }
+    ensures { λ r. ⌜ BothIf r (now (unit .entry)) parts (now (reads .exit)) (now (writes .exit)) ⌝ }
 {
     match u {
         Use::Nothing => Breach::None,
@@ -266,20 +355,30 @@ fn use_breach(unit: &[u8], parts: Parts, u: Use) -> Breach
             want: _,
             at,
             written,
-        } => breach_at(unit, parts, written, at),
+        } => breach_as(unit, parts, ahead, reads, writes, written, at),
     }
 }
 
 // What the statement i of a unit that passed its check breaks first: its uses in order, their references left to right.
-pub fn breach_of(unit: &[u8], parts: Parts, i: u16) -> Breach
+pub fn breach_of(
+    unit: &[u8],
+    parts: Parts,
+    ahead: &[u16],
+    reads: &mut [u8],
+    writes: &mut [u8],
+    i: u16,
+) -> Breach
     requires { ⌜ checkOf (now unit) ≡ checked.Passed parts ⌝ }
+    requires { ⌜ Ahead (codeOf (now unit) parts) (now ahead) ⌝ }
     requires { ⌜ i < parts .n ⌝ }
+    requires { ⌜ Both (now unit) parts (now reads) (now writes) ⌝ }
     ensures { λ r. ⌜ r ≡ breachOf (codeOf (now (unit .entry)) parts) i ⌝ }
+    ensures { λ r. ⌜ BothIf r (now (unit .entry)) parts (now (reads .exit)) (now (writes .exit)) ⌝ }
 {
     let s = decode::statement(unit, parts, i);
-    let first = use_breach(unit, parts, uses::use_at(s, 0));
+    let first = use_breach(unit, parts, ahead, reads, writes, uses::use_at(s, 0));
     if !keeps(first) {
         return first;
     }
-    use_breach(unit, parts, uses::use_at(s, 1))
+    use_breach(unit, parts, ahead, reads, writes, uses::use_at(s, 1))
 }

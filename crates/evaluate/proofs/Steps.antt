@@ -35,6 +35,7 @@ use Rattle.rules_run.specs.declared.Worked.the-variants as worked
 use Rattle.rules_run.specs.Spans.{spanIn}
 use Rattle.rules_run.specs.Evaluation.{calc, literalNumber, reference, apply, Held, halt, push, room, stepBy, left, onHeld, placeBy, lastOf, workedFrom, workedOf}
 use Rattle.rules_run.proofs.Ranges.{apply-range}
+use Rattle.sorts.proofs.Notes.{same}
 use Rattle.items.proofs.Closing.{closed, unclosed}
 use Rattle.evaluate.specs.declared.Step.{Step}
 use Rattle.evaluate.specs.declared.Step.the-variants.{Hold, Done}
@@ -46,10 +47,6 @@ pub rest-start : (c : Code) (d : List ℕ) (is : List Item) (held : List ℤ) �
 unfolding restOf topDown workedOf
 rest-start c d [] held = refl
 rest-start c d (i ∷ is) held = refl
-
-same : {A : Type 0} (b : Bool) (x : A) → cond b x x ≡ x
-same true x = refl
-same false x = refl
 
 -- ---- the items that are left
 

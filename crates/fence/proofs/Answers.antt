@@ -27,14 +27,15 @@ module _ (c : Code) (n i : ℕ) (z : Verdict) (w : verdictFrom c (n - i) i ≡ z
   unfolding verdictFrom
   verdict-yes h = sym (rw (left-none n i h)) ∙ w
 
-  module _ (k : Bool) (h : i < n) (ek : k ≡ keepsb (breachOf c i)) where
+  -- b is what the statement breaks, and k whether that is nothing
+  module _ (b : Breach) (k : Bool) (h : i < n) (eb : b ≡ breachOf c i) (ek : k ≡ keepsb b) where
     pub verdict-no : not k ≡ true → verdict.No i ≡ z
     unfolding verdictFrom
-    verdict-no t = sym (rw (left-suc n i h, ← ek, not-true k t)) ∙ w
+    verdict-no t = sym (rw (left-suc n i h, ← eb, ← ek, not-true k t)) ∙ w
 
     pub verdict-on : not k ≡ false → verdictFrom c (n - (i + 1)) (i + 1) ≡ z
     unfolding verdictFrom
-    verdict-on t = sym (rw (left-suc n i h, ← ek, not-false k t)) ∙ w
+    verdict-on t = sym (rw (left-suc n i h, ← eb, ← ek, not-false k t)) ∙ w
 
 -- ---- the unit
 

@@ -29,6 +29,7 @@ use Rattle.rules_run.specs.declared.Worked.{Worked}
 use Rattle.rules_run.specs.declared.Worked.the-variants as worked
 use Rattle.rules_run.specs.Spans.{spanIn}
 use Rattle.rules_run.specs.Evaluation.{plainNumber, literalNumber, readSpan, reference, apply, push, room, stepBy, onHeld}
+use Rattle.rules_run.proofs.Ranges.{both}
 use Rattle.rules_run.proofs.Faults.{passes, calc-passes, read-passes}
 
 abbrev pub formedb : Fault → Bool
@@ -42,10 +43,6 @@ formedb fault.NoCall = true
 formedb fault.RoundCount = true
 
 -- ---- an item that is not last
-
-both : (t x : Bool) → cond t x false ≡ true → (t ≡ true) × (x ≡ true)
-both true x e = (refl, e)
-both false x e = absurd (false≢true e)
 
 module _ (c : Code) where
   pub literal-formed : (p l : ℕ) → numberb c p l ≡ true → passes formedb (literalNumber c p l) ≡ true

@@ -2,7 +2,7 @@
 -- numbers: its truths, its sums and its digits.
 -- Assumes nothing.
 use mathlib.Core.Path.{_≡_, refl}
-use mathlib.Core.Bool.{Bool, true, false, cond, not, _&&_, _||_}
+use mathlib.Core.Bool.{Bool, true, false, cond, not, _&&_, _||_, false≢true}
 use mathlib.Core.List.{List, [], _∷_}
 use Prim.Native.Nat.{ℕ, _+_, _-_, _*_, _^_, _≤_, _<_}
 use native.Mathlib.Nat.{pow-le-pow-right, lt-of-lt-of-le}
@@ -36,13 +36,14 @@ pub range-up : {low high : ℕ} → low ≤ high → (n : Num) → InRange low n
 range-up h (Value z) v = record { small = omega (arith, v .small) }
 range-up h (Failed e) v = tt
 
+-- Of two tests, one after the other, both are met.
+pub both : (t x : Bool) → cond t x false ≡ true → (t ≡ true) × (x ≡ true)
+both true x e = (refl, e)
+both false x e = absurd (false≢true e)
+
 digits-head : (b : ℕ) (bs : List ℕ) → digitsb (b ∷ bs) ≡ true → (isFrom 48 b ≡ true) × (digitsb bs ≡ true)
 unfolding digitsb
-digits-head b bs e = both (isFrom 48 b) e
-  where
-    both : (t : Bool) → cond t (digitsb bs) false ≡ true → (t ≡ true) × (digitsb bs ≡ true)
-    both true g = (refl, g)
-    both false g = let z : _≡_ {A = ℕ} 0 1 = cc in absurd (omega arith)
+digits-head b bs e = both (isFrom 48 b) (digitsb bs) e
 
 -- Digits after the i digits of acc, at most n in all.
 digits-most : (n acc i : ℕ) (s : List ℕ) → acc < 10 ^ i → i + length s ≤ n → digitsb s ≡ true → digitsFrom acc s < 10 ^ n

@@ -3,10 +3,10 @@
 use mathlib.Core.Path.{_≡_, refl, sym, subst}
 use mathlib.Core.Bool.{Bool, true, false, cond}
 use mathlib.Core.List.{List}
-use Prim.Native.Nat.{ℕ, _+_, _*_, _/_, _%_, _≤_, _<_}
+use Prim.Native.Nat.{ℕ, zero, suc, _+_, _*_, _/_, _%_, _≤_, _<_}
 use native.Mathlib.Omega.{arith}
 use lib.Dec.{T, eqb, ltb}
-use lib.ListN.{length, getD, set, replicate, length-replicate, getD-replicate, List·getD-eq-default}
+use lib.ListN.{length, getD, set, replicate, List·getD-eq-default}
 use lib.Seq.{getD-set-same, getD-set-other, set-out}
 use borrow.Author.Tests.{eq-eqb, ne-eqb, eqb-true, eqb-false, ltb-true, ltb-false}
 use Rattle.rules_unit.specs.declared.Sort.{Sort}
@@ -73,12 +73,10 @@ pub ruleset note-laws = (note-out, note-put)
 not-wrong : (k : Sort) → k ≡ sort.Wrong → isWrong k ≡ false → ⊥
 not-wrong k e h = let z : true ≡ false = rw e at h in subst T z tt
 
-zeros : (m e : ℕ) → _≡_ {A = ℕ} (getD (replicate m 0) e 0) 0
-zeros m e = by (ltb e m) refl
-  where
-    by : (t : Bool) → ltb e m ≡ t → _≡_ {A = ℕ} (getD (replicate m 0) e 0) 0
-    by true h = getD-replicate m e 0 0 (ltb-true e m h)
-    by false h = List·getD-eq-default (replicate m 0) 0 (rw length-replicate (ltb-false e m h))
+pub zeros : (m e : ℕ) → _≡_ {A = ℕ} (getD (replicate m 0) e 0) 0
+zeros zero e = refl
+zeros (suc m) zero = refl
+zeros (suc m) (suc e) = zeros m e
 
 module _ (c : Code) (s : List ℕ) where
   pub noted-none : (m : ℕ) → Noted c s (replicate m 0)

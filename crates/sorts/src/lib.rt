@@ -1,4 +1,5 @@
-// Expressions: their form and their sort.
+// Expressions: their form and their sort. What is found of the items to the end of an expression is noted, so that no two expressions that come
+// to the same item walk on from it.
 use rules_unit::How;
 use rules_unit::Item;
 use rules_unit::Kind;

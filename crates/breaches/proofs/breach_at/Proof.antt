@@ -1,6 +1,7 @@
 -- `breaches::breach_at` meets its contract: the part of the unit that it hands to `breach_in` is the expressions.
 -- Assumes nothing.
 use borrow.Author.Needs.{needs}
+use Rattle.breaches.proofs.Notes.{part-kept, part-kept-if}
 use Rattle.breaches.proofs.Statements.{part-known, part-breach}
 use Rattle.breaches.proofs.breach_at.Statement.{statement}
 use Rattle.breaches.proofs.breach_at.Tie as tie
@@ -24,10 +25,13 @@ long-requires : tie.Need-long-requires
 long-requires c κs = search needs
 
 breach-in-requires : tie.Need-breach-in-requires
-breach-in-requires c κs = (search needs, (search needs, search part-known depth 3))
+breach-in-requires c κs = (search needs, (search needs, (search needs, (search part-known depth 3, search part-kept depth 3))))
+
+same-length : tie.Need-same-length
+same-length c = search needs
 
 returns : tie.Need-returns
-returns c = search part-breach depth 3
+returns c = (search part-breach depth 3, search part-kept-if depth 3)
 
 pub breach-at-spec : {M : Type 1} → statement M
 breach-at-spec =
@@ -40,4 +44,5 @@ breach-at-spec =
     part-breach-in-end
     long-requires
     breach-in-requires
+    same-length
     returns)

@@ -12,7 +12,7 @@ enum-known-item : tie.Need-enum-known-item
 enum-known-item c = search needs
 
 reference-breach-requires : tie.Need-reference-breach-requires
-reference-breach-requires c κs = (search needs, (search item-field depth 3, search needs))
+reference-breach-requires c κs = (search needs, (search needs, (search item-field depth 3, search needs)))
 
 enum-told-2 : tie.Need-enum-told-2
 enum-told-2 c = search needs

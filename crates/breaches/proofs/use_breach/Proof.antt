@@ -1,6 +1,7 @@
 -- `breaches::use_breach` meets its contract: a use is its expression, and where there is none nothing is broken.
 -- Assumes nothing.
 use borrow.Author.Needs.{needs}
+use Rattle.breaches.proofs.Notes.{both-still}
 use Rattle.breaches.proofs.Statements.{use-none, use-known, use-by}
 use Rattle.breaches.proofs.use_breach.Statement.{statement}
 use Rattle.breaches.proofs.use_breach.Tie as tie
@@ -11,14 +12,29 @@ enum-told c = search needs
 enum-known-u : tie.Need-enum-known-u
 enum-known-u c = search needs
 
-breach-at-requires : tie.Need-breach-at-requires
-breach-at-requires c κs = (search needs, (search needs, search use-known depth 3))
+breach-as-requires : tie.Need-breach-as-requires
+breach-as-requires c κs = (search needs, (search needs, (search needs, (search use-known depth 3, search needs))))
 
 returns : tie.Need-returns
-returns c = search use-none depth 3
+returns c = (search use-none depth 3, search both-still depth 3)
+
+same-length : tie.Need-same-length
+same-length c = search needs
+
+same-length-2 : tie.Need-same-length-2
+same-length-2 c = search needs
 
 returns-2 : tie.Need-returns-2
-returns-2 c = search use-by depth 3
+returns-2 c = (search use-by depth 3, search needs)
 
 pub use-breach-spec : {M : Type 1} → statement M
-use-breach-spec = tie.close (tie.spec enum-told enum-known-u breach-at-requires returns returns-2)
+use-breach-spec =
+    tie.close
+    (tie.spec
+    enum-told
+    enum-known-u
+    breach-as-requires
+    returns
+    same-length
+    same-length-2
+    returns-2)

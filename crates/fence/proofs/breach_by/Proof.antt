@@ -11,15 +11,15 @@ long-requires c κs = search needs
 returns : tie.Need-returns
 returns c = search by-past depth 3
 
-cast-breach-of : tie.Need-cast-breach-of
-cast-breach-of c = search needs
+cast-breach-alone : tie.Need-cast-breach-alone
+cast-breach-alone c = search needs
 
-breach-of-requires : tie.Need-breach-of-requires
-breach-of-requires c κs = search needs
+breach-alone-requires : tie.Need-breach-alone-requires
+breach-alone-requires c κs = search needs
 
 returns-2 : tie.Need-returns-2
 returns-2 c = search by-in depth 3
 
 pub breach-by-spec : {M : Type 1} → statement M
 breach-by-spec =
-    tie.close (tie.spec long-requires returns cast-breach-of breach-of-requires returns-2)
+    tie.close (tie.spec long-requires returns cast-breach-alone breach-alone-requires returns-2)

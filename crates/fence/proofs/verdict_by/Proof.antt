@@ -3,32 +3,35 @@
 -- Assumes nothing.
 use borrow.Author.Needs.{needs}
 use mathlib.Core.Path.{_≡_}
-use mathlib.Core.Bool.{true, false}
 use lib.ListN.{length}
 use Prim.Native.Nat.{_-_, _≤_}
 use Rattle.rules_unit.specs.Decode.{codeOf}
 use Rattle.rules_unit.proofs.Statements.{left-all}
 use Rattle.rules_fence.specs.Breaches.{verdictFrom}
-use Rattle.fence.specs.Notes.{Kept}
+use Rattle.breaches.specs.Notes.{Both}
+use Rattle.breaches.proofs.Notes.{both-kept}
 use Rattle.fence.proofs.Answers.{verdict-yes, verdict-no, verdict-on}
 use Rattle.fence.proofs.verdict_by.Statement.{statement}
 use Rattle.fence.proofs.verdict_by.Tie as tie
 
 abbrev Inv-loop : tie.InvT-loop
-Inv-loop unit parts reads₀ writes₀ i₀ reads writes i =
+Inv-loop unit parts ahead reads₀ writes₀ i₀ reads writes i =
     (i ≤ parts .n)
     × (verdictFrom (codeOf unit parts) (parts .n - i) i ≡ verdictFrom (codeOf unit parts) (parts .n) 0)
-    × Kept (codeOf unit parts) false reads × Kept (codeOf unit parts) true writes
+    × Both unit parts reads writes
     × (length reads ≡ length reads₀) × (length writes ≡ length writes₀)
 
 abbrev μ-loop : tie.MeasureT-loop
-μ-loop unit parts reads₀ writes₀ i₀ reads writes i = parts .n - i
+μ-loop unit parts ahead reads₀ writes₀ i₀ reads writes i = parts .n - i
 
 loop-holds : tie.Need-loop-holds Inv-loop μ-loop
-loop-holds c = (search needs, rw left-all, search needs, search needs, search needs, search needs)
+loop-holds c = (search needs, rw left-all, search needs, search needs, search needs)
 
-statement-keeps-requires : tie.Need-statement-keeps-requires Inv-loop μ-loop
-statement-keeps-requires c κs = search needs
+breach-of-requires : tie.Need-breach-of-requires Inv-loop μ-loop
+breach-of-requires c κs = search needs
+
+keeps-requires : tie.Need-keeps-requires Inv-loop μ-loop
+keeps-requires c κs = search needs
 
 same-length : tie.Need-same-length Inv-loop μ-loop
 same-length c = search needs
@@ -46,7 +49,7 @@ loop-less : tie.Need-loop-less Inv-loop μ-loop
 loop-less c = search needs
 
 loop-again : tie.Need-loop-again Inv-loop μ-loop
-loop-again c = (search needs, search verdict-on depth 3, search needs, search needs, search needs, search needs)
+loop-again c = (search needs, search verdict-on depth 3, search both-kept depth 3, search needs, search needs)
 
 same-length-3 : tie.Need-same-length-3 Inv-loop μ-loop
 same-length-3 c = search needs
@@ -64,7 +67,8 @@ verdict-by-spec =
     Inv-loop
     μ-loop
     loop-holds
-    statement-keeps-requires
+    breach-of-requires
+    keeps-requires
     same-length
     same-length-2
     returns
