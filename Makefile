@@ -1,6 +1,6 @@
 SHELL := /bin/bash
 .SHELLFLAGS := -eu -o pipefail -c
-.PHONY: run check fence list owner bench test rim stored reference programs units second
+.PHONY: run check fence list owner bench test rim stored reference programs pages units second
 export CARGO_TARGET_DIR := $(CURDIR)/build/cargo
 
 # Cargo is not told of make's jobs, which it would try to join.
@@ -43,8 +43,8 @@ test:
 
 # What is not proved: everything stored is what the texts and the second interpreter make; the second interpreter's own tests; the
 # proved bench program writes what is expected of each stored run, and the owner's program answers each call and each stored unit as
-# expected; hosts in C and Rust; and the library against the second interpreter.
-rim: stored reference programs hosts differential
+# expected; hosts in C and Rust; the library against the second interpreter; and what the pages show is what is seen.
+rim: stored reference programs hosts differential pages
 
 stored:
 	tools/store-units --check
@@ -55,6 +55,10 @@ reference: stored
 programs: stored
 	tools/run-stored target/bin/bench
 	tools/run-owner target/bin/boxlever
+
+# The pages have commands that ask rt, as the hosts do, and rt is asked by one at a time.
+pages: stored hosts
+	tools/run-pages target/bin/bench target/bin/boxlever build/cargo/release/second
 
 second:
 	@$(cargo) build --release --offline --quiet --manifest-path second/Cargo.toml
@@ -105,7 +109,7 @@ fuzz: lib
 # What stands below PREFIX: the library for C, the manual pages, and the programs: the owner's program with the wrapper that gives it an
 # exit status before it, and the bench program by a longer name.
 to := $(DESTDIR)$(PREFIX)
-pages := $(notdir $(wildcard man/*.[1-8]))
+manual := $(notdir $(wildcard man/*.[1-8]))
 
 install: lib
 	@rt check bench boxlever > build/install.log || { tail -n 20 build/install.log; exit 1; }
@@ -114,12 +118,12 @@ install: lib
 	install -m 644 $(INCLUDE)/dibol.h $(to)/include/dibol.h
 	@version=$$(sed -n 's/^.define DIBOL_VERSION "\(.*\)"/\1/p' $(INCLUDE)/dibol.h); \
 	sed "s|@PREFIX@|$(PREFIX)|; s|@VERSION@|$$version|" include/dibol.pc.in > $(to)/lib/pkgconfig/dibol.pc
-	@for page in $(pages); do install -D -m 644 man/$$page $(to)/share/man/man$${page##*.}/$$page; done
+	@for page in $(manual); do install -D -m 644 man/$$page $(to)/share/man/man$${page##*.}/$$page; done
 	install -m 755 tools/boxlever $(to)/bin/boxlever
 	install -m 755 target/bin/boxlever $(to)/bin/boxlever-program
 	install -m 755 target/bin/bench $(to)/bin/boxlever-bench
 
 uninstall:
 	rm -f $(to)/lib/libdibol.a $(to)/include/dibol.h $(to)/lib/pkgconfig/dibol.pc
-	@rm -f $(foreach page,$(pages),$(to)/share/man/man$(subst .,,$(suffix $(page)))/$(page))
+	@rm -f $(foreach page,$(manual),$(to)/share/man/man$(subst .,,$(suffix $(page)))/$(page))
 	@rm -f $(addprefix $(to)/bin/,boxlever boxlever-program boxlever-bench)

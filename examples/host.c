@@ -55,7 +55,7 @@ static uint64_t run_in_slices(const uint8_t *unit, size_t unit_len, uint8_t *dat
         slices++;
         /* The host does its own work here; data and state stay as they are until it goes on. */
     } while (stop == DIBOL_SPENT && allowance > 0 && left > 0);
-    printf("%" PRIu64 " statements in %" PRIu64 " slices\n", STATEMENTS_MOST - left, slices);
+    printf("statements: %" PRIu64 " completed, in slices: %" PRIu64 "\n", STATEMENTS_MOST - left, slices);
     print_stop(stop, answer[1]);
     return stop;
 }

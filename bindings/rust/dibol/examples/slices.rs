@@ -1,7 +1,9 @@
 //! Loads a unit from a file, checks it, asks the fence, and runs it in slices of a few statements, as
 //! a host does that has a terminal or a printer to see to between them.
 //!
-//!     cargo run --example slices -- FILE [SLICE]
+//! After `make lib`, in bindings/rust:
+//!
+//!     DIBOL_LIB_DIR=$PWD/../../build/lib cargo run --example slices -- FILE [SLICE]
 
 use dibol::{Outcome, State, Stop, Unit, Verdict};
 use std::error::Error;
@@ -43,7 +45,7 @@ fn run_in_slices(unit: &Unit, data: &mut [u8], slice: u64) -> Outcome {
         left -= outcome.count;
         slices += 1;
         if outcome.stop != Stop::Allowance || allowance == 0 || left == 0 {
-            println!("{} statements in {slices} slices", STATEMENTS_MOST - left);
+            println!("statements: {} completed, in slices: {slices}", STATEMENTS_MOST - left);
             return outcome;
         }
         // The host does its own work here; data and state stay as they are until it goes on.

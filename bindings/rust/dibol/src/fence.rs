@@ -91,7 +91,7 @@ impl fmt::Display for Breach {
     fn fmt(&self, f: &mut fmt::Formatter<'_>) -> fmt::Result {
         f.write_str(match self {
             Breach::Bound => "a bound is not a literal",
-            Breach::Bounds => "the bounds are wrong",
+            Breach::Bounds => "the bounds give 21",
             Breach::Outside => "a span leaves its field",
             Breach::Elements => "a decimal span is not in one element",
             Breach::MidField => "a decimal destination ends inside its element",

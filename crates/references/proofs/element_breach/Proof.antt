@@ -1,12 +1,12 @@
--- `breaches::element_breach` meets its contract: the element that the span starts in is found by a division, whose quotient times the size is no more than what was divided.
+-- `references::element_breach` meets its contract: the element that the span starts in is found by a division, whose quotient times the size is no more than what was divided.
 -- Assumes nothing.
 use Prim.Native.Nat.{_-_, _*_, _/_, _≤_}
 use native.Mathlib.Nat.{div-mul-le-self}
 use native.Mathlib.Omega.{arith}
 use borrow.Author.Needs.{needs}
-use Rattle.breaches.proofs.Spans.{element-low, element-none, element-by}
-use Rattle.breaches.proofs.element_breach.Statement.{statement}
-use Rattle.breaches.proofs.element_breach.Tie as tie
+use Rattle.references.proofs.Spans.{element-low, element-none, element-by}
+use Rattle.references.proofs.element_breach.Statement.{statement}
+use Rattle.references.proofs.element_breach.Tie as tie
 
 field-requires : tie.Need-field-requires
 field-requires c κs = search needs

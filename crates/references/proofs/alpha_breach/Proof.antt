@@ -1,9 +1,9 @@
--- `breaches::alpha_breach` meets its contract: what is read may lie on anything, and what is written ends at or before the next decimal field.
+-- `references::alpha_breach` meets its contract: what is read may lie on anything, and what is written ends at or before the next decimal field.
 -- Assumes nothing.
 use borrow.Author.Needs.{needs}
-use Rattle.breaches.proofs.Spans.{alpha-read, alpha-apart, alpha-shared}
-use Rattle.breaches.proofs.alpha_breach.Statement.{statement}
-use Rattle.breaches.proofs.alpha_breach.Tie as tie
+use Rattle.references.proofs.Spans.{alpha-read, alpha-apart, alpha-shared}
+use Rattle.references.proofs.alpha_breach.Statement.{statement}
+use Rattle.references.proofs.alpha_breach.Tie as tie
 
 returns : tie.Need-returns
 returns c = search alpha-read depth 3

@@ -1,9 +1,9 @@
--- `breaches::span_breach` meets its contract: the tests are the rule's own, in its order; a span of the field is held to the rule of its kind.
+-- `references::span_breach` meets its contract: the tests are the rule's own, in its order; a span of the field is held to the rule of its kind.
 -- Assumes nothing.
 use borrow.Author.Needs.{needs}
-use Rattle.breaches.proofs.Spans.{span-low, offset-low, span-high, span-decimal, span-alpha}
-use Rattle.breaches.proofs.span_breach.Statement.{statement}
-use Rattle.breaches.proofs.span_breach.Tie as tie
+use Rattle.references.proofs.Spans.{span-low, offset-low, span-high, span-decimal, span-alpha}
+use Rattle.references.proofs.span_breach.Statement.{statement}
+use Rattle.references.proofs.span_breach.Tie as tie
 
 field-requires : tie.Need-field-requires
 field-requires c κs = search needs

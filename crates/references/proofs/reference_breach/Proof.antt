@@ -1,10 +1,10 @@
--- `breaches::reference_breach` meets its contract: where there are bounds, the span that they name is held to the rules, and it lies inside the data.
+-- `references::reference_breach` meets its contract: where there are bounds, the span that they name is held to the rules, and it lies inside the data.
 -- Assumes nothing.
 use borrow.Author.Needs.{needs}
 use Rattle.rules.proofs.Walk.{told-yes}
-use Rattle.breaches.proofs.References.{reference-unbound, found-inside, reference-at, reference-outside}
-use Rattle.breaches.proofs.reference_breach.Statement.{statement}
-use Rattle.breaches.proofs.reference_breach.Tie as tie
+use Rattle.references.proofs.References.{reference-unbound, found-inside, reference-at, reference-outside}
+use Rattle.references.proofs.reference_breach.Statement.{statement}
+use Rattle.references.proofs.reference_breach.Tie as tie
 
 bounded-requires : tie.Need-bounded-requires
 bounded-requires c κs = search needs

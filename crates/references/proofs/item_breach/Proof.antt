@@ -1,9 +1,9 @@
--- `breaches::item_breach` meets its contract: each arm knows the constructor, and only a reference can break a rule.
+-- `references::item_breach` meets its contract: each arm knows the constructor, and only a reference can break a rule.
 -- Assumes nothing.
 use borrow.Author.Needs.{needs}
-use Rattle.breaches.proofs.References.{item-field, item-reference, item-number, item-text, item-operator, item-end, item-bad}
-use Rattle.breaches.proofs.item_breach.Statement.{statement}
-use Rattle.breaches.proofs.item_breach.Tie as tie
+use Rattle.references.proofs.References.{item-field, item-reference, item-number, item-text, item-operator, item-end, item-bad}
+use Rattle.references.proofs.item_breach.Statement.{statement}
+use Rattle.references.proofs.item_breach.Tie as tie
 
 enum-told : tie.Need-enum-told
 enum-told c = search needs

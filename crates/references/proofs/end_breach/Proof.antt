@@ -1,8 +1,8 @@
--- `breaches::end_breach` meets its contract: the tests are the rule's own, in its order.
+-- `references::end_breach` meets its contract: the tests are the rule's own, in its order.
 -- Assumes nothing.
 use Rattle.rules.proofs.Walk.{walk}
-use Rattle.breaches.proofs.end_breach.Statement.{statement}
-use Rattle.breaches.proofs.end_breach.Tie as tie
+use Rattle.references.proofs.end_breach.Statement.{statement}
+use Rattle.references.proofs.end_breach.Tie as tie
 
 returns : tie.Need-returns
 returns c = search walk depth 6
