@@ -33,7 +33,10 @@ bench: second
 	@tools/measure target/bin/bench build/cargo/release/second
 
 # The gate: layout, every proof from nothing, every must-fail edit, every program's output, then the rim. rt's own last line comes last.
-# rt waits for all of a batch before it starts the next, so eight at a time keep two processors busier than two do.
+# rt waits for all of a batch before it starts the next, so eight at a time keep two processors busier than two do. The prover writes
+# some thousand small files for each crate and each edit: they are kept in memory where it has room for them.
+memory := $(shell grep -E '^[^ ]+ /dev/shm tmpfs rw' /proc/mounts | grep -qv noexec && df --output=avail /dev/shm | awk '4000000 < $$1 + 0 { print "/dev/shm" }')
+test: export TMPDIR := $(or $(memory),$(TMPDIR),/tmp)
 test:
 	mkdir -p build
 	rt fmt --check

@@ -2,14 +2,13 @@
 -- Assumes nothing.
 use Prim.Native.Nat.{ℕ, _+_, _<_, _≤_}
 use native.Mathlib.Omega.{arith}
-use native.Mathlib.Nat.{mul-le-mul}
 use mathlib.Core.Path.{_≡_, refl}
 use mathlib.Core.Bool.{Bool, true, false, cond}
 use lib.Dec.{leb}
 use borrow.Author.Tests.{leb-true, leb-false}
 use Rattle.rules_unit.specs.Codes.{Code, decimalb, offsetOf, endOf}
 use Rattle.rules_unit.specs.Sound.{SoundCode}
-use Rattle.rules_unit.proofs.Fields.{decimal-not}
+use Rattle.rules_unit.proofs.Fields.{decimal-not, some-byte}
 use Rattle.apart.specs.Ahead.{behindOf}
 
 -- no decimal field from g on starts below the floor
@@ -23,10 +22,6 @@ pub above-skip : (c : Code) (g floor : ℕ) → Above c g floor → Above c (g +
 above-skip c g floor w = record { each = λ j h. w .each j (omega arith) }
 
 module _ (c : Code) (s : SoundCode c) where
-  -- a field has at least one byte
-  pub full : (i : ℕ) → i < c .fields → offsetOf c i < endOf c i
-  full i h = let e = s .entries i h .own in omega (arith, mul-le-mul {n₁ = 1} {m₁ = 1} (e .many) (e .some))
-
   later : (i j : ℕ) → i < j → j < c .fields → decimalb c i ≡ true → decimalb c j ≡ true → endOf c i ≤ offsetOf c j
   later i j h k t v = by (leb (endOf c i) (offsetOf c j)) refl
     where
@@ -34,7 +29,7 @@ module _ (c : Code) (s : SoundCode c) where
       by true q = leb-true (endOf c i) (offsetOf c j) q
       by false q =
           let o = s .entries j k .after i h (decimal-not c i t) (decimal-not c j v) in
-          absurd (o .apart (offsetOf c j) (omega (arith, o .rising)) (leb-false (endOf c i) (offsetOf c j) q) (omega arith) (full j k))
+          absurd (o .apart (offsetOf c j) (omega (arith, o .rising)) (leb-false (endOf c i) (offsetOf c j) q) (omega arith) (some-byte c j (s .entries j k .own)))
 
   module _ (g floor : ℕ) (h : g < c .fields) (w : Above c g floor) where
     pub above-next : Above c (g + 1) (behindOf (c .field g) floor)
@@ -49,7 +44,7 @@ module _ (c : Code) (s : SoundCode c) where
     floor-rises = by (decimalb c g) refl
       where
         by : (t : Bool) → decimalb c g ≡ t → floor ≤ cond t (endOf c g) floor
-        by true t = omega (arith, w .each g (omega arith) h t, full g h)
+        by true t = omega (arith, w .each g (omega arith) h t, some-byte c g (s .entries g h .own))
         by false t = omega arith
 
     pub floor-inside : floor ≤ c .size → behindOf (c .field g) floor ≤ c .size

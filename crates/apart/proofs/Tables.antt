@@ -19,10 +19,11 @@ use Rattle.rules_unit.specs.Codes.{Code, decimalb, offsetOf, endOf}
 use Rattle.rules_unit.specs.Decode.{codeOf}
 use Rattle.rules_unit.specs.Checks.{checkOf}
 use Rattle.rules_unit.specs.Sound.{SoundCode}
+use Rattle.rules_unit.proofs.Fields.{some-byte}
 use Rattle.rules_unit.proofs.Sound.{passed-sound}
 use Rattle.rules_fence.specs.Breaches.{apartFrom}
 use Rattle.apart.specs.Ahead.{behindOf, aheadFrom, aheadOf, Ahead}
-use Rattle.apart.proofs.Fields.{Above, above-start, above-skip, above-next, full}
+use Rattle.apart.proofs.Fields.{Above, above-start, above-skip, above-next}
 
 -- ---- lists that start with one number, m times
 
@@ -111,7 +112,7 @@ module _ (c : Code) (s : SoundCode c) (a n : ℕ) where
   says (suc k) g floor b e w h = by (decimalb c g) (leb (endOf c g) a) refl refl (λ next. says k (g + 1) next b (omega arith))
     where
       low : decimalb c g ≡ true → floor < endOf c g
-      low t = omega (arith, w .each g (omega arith) (omega arith) t, full c s g (omega arith))
+      low t = omega (arith, w .each g (omega arith) (omega arith) t, some-byte c g (s .entries g (omega arith) .own))
 
       next : Above c (g + 1) (behindOf (c .field g) floor)
       next = above-next c s g floor (omega arith) w
@@ -124,7 +125,7 @@ module _ (c : Code) (s : SoundCode c) (a n : ℕ) where
       by true false t v rest =
           let l = leb-false (endOf c g) a v in
           let u : Above c (g + 1) (endOf c g) = rw t at next in
-          ends-behind k g floor h l (λ q. beyond k (g + 1) (endOf c g) (omega arith) u (omega (arith, full c s g (omega arith))))
+          ends-behind k g floor h l (λ q. beyond k (g + 1) (endOf c g) (omega arith) u (omega (arith, some-byte c g (s .entries g (omega arith) .own))))
       by false v t q rest = no-decimal k g floor (rest floor (above-skip c g floor w) h)
 
 -- ---- the whole table

@@ -26,6 +26,7 @@ use Rattle.rules_fence.specs.Breaches.{keepsb, breachFrom}
 use Rattle.rules_fence.proofs.Kept.{none-kept}
 use Rattle.sorts.specs.Notes.{expressionsOf}
 use Rattle.sorts.proofs.Notes.{zeros}
+use Rattle.sorts.proofs.Parts.{part-is}
 use Rattle.breaches.specs.Notes.{notedb, noteAt, Kept, KeptIf, Both, BothIf}
 
 -- ---- the list, where b says whether there are bounds
@@ -105,14 +106,11 @@ module _ (c : Code) (dest : Bool) (es notes : List ℕ) (at : ℕ) (z : Breach) 
 -- ---- the expressions as the part of the unit from a to b
 
 module _ (u : List ℕ) (p : Parts) (a b : ℕ) (ea : a ≡ expressionsAt p) (eb : b ≡ literalsAt p) (dest : Bool) (notes : List ℕ) where
-  part-is : take (b - a) (drop a u) ≡ expressionsOf u p
-  part-is = let size : b - a ≡ p .e = omega arith in rw (size, ea)
-
   pub part-kept : Kept (codeOf u p) dest (expressionsOf u p) notes → Kept (codeOf u p) dest (take (b - a) (drop a u)) notes
-  part-kept h = rw part-is h
+  part-kept h = rw (part-is u p a b ea eb) h
 
   pub part-kept-if : (r : Breach) → KeptIf r (codeOf u p) dest (take (b - a) (drop a u)) notes → KeptIf r (codeOf u p) dest (expressionsOf u p) notes
-  part-kept-if r h = rw part-is at h
+  part-kept-if r h = rw (part-is u p a b ea eb) at h
 
 -- ---- the two lists
 

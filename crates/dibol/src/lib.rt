@@ -93,7 +93,7 @@ pub fn run(unit: &[u8], bytes: &mut [u8], state: State, allowance: u64) -> Outco
             if bytes.len() != parts.d as usize {
                 return refused(Stop::WrongSize, 0, state);
             }
-            if !runs::sound(parts.n, state) {
+            if !states::sound(parts.n, state) {
                 return refused(Stop::Unsound, 0, state);
             }
             runs::turns(unit, parts, bytes, state, allowance)

@@ -10,7 +10,7 @@ use Rattle.rules_run.specs.declared.Outcome.{Outcome}
 use Rattle.rules_run.specs.Runs.{Ran, runOf}
 use Rattle.rules_run.specs.Stops.{stopNumber}
 use Rattle.words.specs.Laid.{laid}
-use Rattle.dibol_c.specs.States.{numbersOf, stateOf}
+use Rattle.states.specs.Numbers.{numbersOf, stateOf}
 use Rattle.dibol_c.specs.Calls.{Handed, refusedb, handed, handedOf}
 
 module _ (u d w : List ℕ) (k : ℕ) (a : List ℕ) (s : State) (is : s ≡ stateOf w) where

@@ -29,7 +29,7 @@ use Rattle.rules_run.proofs.Calls.{beforeb, call-refused, call-wrong-size, call
 use Rattle.rules_run.proofs.Steps.{every-run}
 use Rattle.rules_run.proofs.SoundRuns.{run-sound}
 use Rattle.words.proofs.Laid.{laid-same}
-use Rattle.dibol_c.specs.States.{numbersOf, Held, smallb, stateb, nowhere, stateOf}
+use Rattle.states.specs.Numbers.{numbersOf, Held, smallb, stateb, nowhere, stateOf}
 use Rattle.dibol_c.specs.Calls.{refusedb, handedOf, untouched}
 
 -- ---- read after write

@@ -17,7 +17,7 @@ use Rattle.rules_fence.specs.declared.Verdict.{Verdict}
 use Rattle.rules_fence.specs.declared.Verdict.the-variants as verdict
 use Rattle.rules_fence.specs.Breaches.{breachNumber, breachIn}
 use Rattle.words.specs.Laid.{laid}
-use Rattle.dibol_c.specs.States.{numbersOf, stateOf}
+use Rattle.states.specs.Numbers.{numbersOf, stateOf}
 
 -- ---- check, fence, literal
 

@@ -1,7 +1,6 @@
 // The public face of Boxlever for C: `dibol` in numbers and slices. A slice is a pointer and a length in C; include/dibol.h has the prototypes.
 // Any bytes and any numbers may be given, of any length, and every call answers.
 use rules_fence::Verdict;
-use rules_run::State;
 use rules_unit::Checked;
 ghost use mathlib.Core.Path.{_≡_};
 ghost use mathlib.Core.List.{[], _∷_};
@@ -10,99 +9,19 @@ ghost use Rattle.rules_unit.specs.Literals.{stretchOf};
 ghost use Rattle.rules_fence.specs.Breaches.{breachNumber, fenceOf, breachIn};
 ghost use Rattle.words.specs.Laid.{laid};
 ghost use Rattle.words.specs.Words.{Said, saidOf};
-ghost use Rattle.dibol_c.specs.States.{numbersOf, nowhere, stateOf};
 ghost use Rattle.dibol_c.specs.Calls.{Told, checkTold, fenceTold, literalTold, Handed, refusedb, handedOf};
 
 // ---- answers
 
-// Puts two numbers at the front of an answer, as many as fit.
-fn put_two(answer: &mut [u64], a: u64, b: u64)
-    ensures { λ _. ⌜ now (answer .exit) ≡ laid (a ∷ b ∷ []) (now (answer .entry)) ⌝ }
-{
-    let n = answer.len();
-    if n < 1 {
-        return;
-    }
-    answer[0] = a;
-    if n < 2 {
-        return;
-    }
-    answer[1] = b;
-}
-
-// Puts three numbers there.
+// Puts three numbers at the front of an answer, as many as fit.
 fn put_three(answer: &mut [u64], a: u64, b: u64, c: u64)
     ensures { λ _. ⌜ now (answer .exit) ≡ laid (a ∷ b ∷ c ∷ []) (now (answer .entry)) ⌝ }
 {
-    put_two(answer, a, b);
+    states::put_two(answer, a, b);
     if answer.len() < 3 {
         return;
     }
     answer[2] = c;
-}
-
-// ---- the resume state in numbers
-
-// A state that is sound for no unit, since no unit has so many statements.
-fn no_state() -> State
-    ensures { λ r. ⌜ r ≡ nowhere ⌝ }
-{
-    State {
-        at: 65535,
-        depth: 0,
-        returns: [0u16; 50],
-    }
-}
-
-// The state that 52 numbers stand for: the statement, the open calls and the 50 return numbers. Another count than 52, or a number
-// over 65,535, stands for no state.
-fn read_state(numbers: &[u64]) -> State
-    ensures { λ r. ⌜ r ≡ stateOf (now (numbers .entry)) ⌝ }
-{
-    if numbers.len() != 52 {
-        return no_state();
-    }
-    let at = numbers[0];
-    let depth = numbers[1];
-    if 65535 < at {
-        return no_state();
-    }
-    if 65535 < depth {
-        return no_state();
-    }
-    let mut returns = [0u16; 50];
-    let mut i: usize = 0;
-    while i < 50 {
-        let x = numbers[i + 2];
-        if 65535 < x {
-            return no_state();
-        }
-        returns[i] = x as u16;
-        i += 1;
-    }
-    State {
-        at: at as u16,
-        depth: depth as u16,
-        returns: returns,
-    }
-}
-
-// Puts the numbers of a state in place of others, as many as fit.
-fn write_state(numbers: &mut [u64], s: State)
-    ensures { λ _. ⌜ now (numbers .exit) ≡ laid (numbersOf s) (now (numbers .entry)) ⌝ }
-{
-    let at = s.at as u64;
-    let depth = s.depth as u64;
-    let returns = s.returns;
-    put_two(numbers, at, depth);
-    let mut i: usize = 0;
-    while i < 50 {
-        if numbers.len() <= i + 2 {
-            return;
-        }
-        numbers[i + 2] = returns[i] as u64;
-        i += 1;
-    }
 }
 
 // Whether a stop's number is one of 1 to 7, which refuse a call.
@@ -131,7 +50,7 @@ pub extern "C" fn dibol_run(
 ) -> u64
     ensures { λ r. ⌜ _≡_ {A = Handed} (record { stop = r; bytes = now (bytes .exit); state = now (state .exit); answer = now (answer .exit) }) (handedOf (now (unit .entry)) (now (bytes .entry)) (now (state .entry)) allowance (now (answer .entry))) ⌝ }
 {
-    let from = read_state(state);
+    let from = states::read_state(state);
     let ended = dibol::run(unit, bytes, from, allowance);
     let stop = ended.stop;
     let number = dibol::stop_number(stop) as u64;
@@ -140,7 +59,7 @@ pub extern "C" fn dibol_run(
         return number;
     }
     let next = ended.state;
-    write_state(state, next);
+    states::write_state(state, next);
     number
 }
 
@@ -173,16 +92,16 @@ pub extern "C" fn dibol_fence(unit: &[u8], answer: &mut [u64]) -> u64
     let verdict = dibol::fence(unit);
     match verdict {
         Verdict::Yes => {
-            put_two(answer, 0, 0);
+            states::put_two(answer, 0, 0);
             0
         }
         Verdict::No(i) => {
-            put_two(answer, i as u64, dibol_breach(unit, i as usize));
+            states::put_two(answer, i as u64, dibol_breach(unit, i as usize));
             1
         }
         Verdict::Refused(r) => {
             let number = rules_unit::refusal_number(r) as u64;
-            put_two(answer, number, rules_unit::refusal_place(r) as u64);
+            states::put_two(answer, number, rules_unit::refusal_place(r) as u64);
             2
         }
     }
@@ -204,7 +123,7 @@ pub extern "C" fn dibol_literal(unit: &[u8], statement: usize, answer: &mut [u64
 {
     let found = dibol::stretch(unit, statement);
     let len = found.len as u64;
-    put_two(answer, found.at as u64, len);
+    states::put_two(answer, found.at as u64, len);
     len
 }
 

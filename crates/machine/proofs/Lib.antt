@@ -1,4 +1,3 @@
-pub mod Moves
 pub mod Places
 pub mod Jumps
 pub mod Statements

@@ -31,7 +31,7 @@ use Rattle.rules_run.proofs.Runs.{counted}
 use Rattle.rules_run.proofs.Resumed.{call-resumed}
 use Rattle.words.specs.Words as words
 use Rattle.words.proofs.Short.{words-short}
-use Rattle.dibol_c.specs.States.{numbersOf, Held, stateb, stateOf}
+use Rattle.states.specs.Numbers.{numbersOf, Held, stateb, stateOf}
 use Rattle.dibol_c.specs.Calls.{refusedb, handedOf, untouched}
 use Rattle.dibol_c.proofs.Resume as resume
 

@@ -2,13 +2,14 @@
 -- Assumes nothing.
 use Prim.Native.Nat.{ℕ, zero, suc, _+_, _-_, _/_, _<_, _≤_, max}
 use native.Mathlib.Omega.{arith}
-use native.Mathlib.Nat.{mul-le-mul, div-mul-le-self, div-eq-of-lt-le, div-lt-iff-lt-mul}
+use native.Mathlib.Nat.{div-mul-le-self, div-eq-of-lt-le, div-lt-iff-lt-mul}
 use mathlib.Core.Path.{_≡_, refl, sym, ap, _∙_}
 use mathlib.Core.Bool.{Bool, true, false, cond, _||_, false≢true}
 use lib.Dec.{ltb, leb}
 use borrow.Author.Tests.{ltb-true, ltb-false, leb-true, leb-false}
 use Rattle.rules_unit.specs.Codes.{Code, decimalb, offsetOf, sizeOf, countOf, elementAt, endOf}
 use Rattle.rules_unit.specs.Sound.{SoundCode}
+use Rattle.rules_unit.proofs.Fields.{some-byte}
 use Rattle.rules_unit.proofs.Tells.{Tells, tells-le, tells-eq, tells-as, tells-and}
 use Rattle.rules_run.specs.declared.Span.the-variants.{At}
 use Rattle.rules_fence.specs.declared.Breach.the-variants as breach
@@ -58,7 +59,7 @@ module _ (c : Code) (s : SoundCode c) (a n : ℕ) (o : 1 ≤ n) where
   apart-tells g h = by (decimalb c g) (leb (a + n) (offsetOf c g)) (leb (endOf c g) a) refl refl refl
     where
       full : offsetOf c g < endOf c g
-      full = omega (arith, mul-le-mul {n₁ = 1} {m₁ = 1} (s .entries g h .own .many) (s .entries g h .own .some))
+      full = some-byte c g (s .entries g h .own)
 
       by : (i j k : Bool) → decimalb c g ≡ i → leb (a + n) (offsetOf c g) ≡ j → leb (endOf c g) a ≡ k → Tells (cond i (j || k) true) (Apart g)
       by false j k q l m = record { to = λ e t. absurd (false≢true (sym q ∙ t)); of = λ r. refl }

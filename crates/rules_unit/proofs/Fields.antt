@@ -52,8 +52,8 @@ module _ (c : Code) where
       (tells-and (tells-le floor (offsetOf c i)) (tells-which (decimalb c i) (tells-le (sizeOf c i) (c .limit)) tells-true))))))))
 
   -- an entry has at least one byte
-  full : (i : ℕ) → EntrySound c i → offsetOf c i < endOf c i
-  full i e = omega (arith, mul-le-mul {n₁ = 1} {m₁ = 1} (e .many) (e .some))
+  pub some-byte : (i : ℕ) → EntrySound c i → offsetOf c i < endOf c i
+  some-byte i e = omega (arith, mul-le-mul {n₁ = 1} {m₁ = 1} (e .many) (e .some))
 
   -- ---- the floor
 
@@ -73,7 +73,7 @@ module _ (c : Code) where
         after = λ j h t v.
             let a = w .above j h t in
             let b = up v in
-            let f = full j (before j h .own) in
+            let f = some-byte j (before j h .own) in
             record { rising = omega arith; apart = λ x p q r s. omega arith };
       }
 
@@ -86,7 +86,7 @@ module _ (c : Code) where
           let l = ltb-true (offsetOf c i) floor q in
           let s = w .some (omega arith) in
           let o = e .after (s .0) (s .1 .0) (s .1 .1 .0) t in
-          let f = full i (e .own) in
+          let f = some-byte i (e .own) in
           absurd (o .apart (offsetOf c i) (omega (arith, o .rising)) (omega (arith, s .1 .1 .1)) (omega arith) f)
 
   floor-next : (i floor : ℕ) → Floor i floor → (recordb c i ≡ false → floor ≤ offsetOf c i) → EntrySound c i → Floor (i + 1) (floorAfter c i floor)
@@ -112,7 +112,7 @@ module _ (c : Code) where
           }
         where
           rises : (j : ℕ) → j < i + 1 → recordb c j ≡ false → (b : Bool) → ltb j i ≡ b → endOf c j ≤ endOf c i
-          rises j h v true q = omega (arith, w .above j (ltb-true j i q) v, up t, full i own)
+          rises j h v true q = omega (arith, w .above j (ltb-true j i q) v, up t, some-byte i own)
           rises j h v false q = subst (λ (x : ℕ). endOf c j ≤ endOf c x) (last j h q) (omega arith)
 
   -- ---- all entries

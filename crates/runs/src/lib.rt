@@ -1,4 +1,4 @@
-// The run: the resume state tested, and statements one after the other within an allowance.
+// The run: statements one after the other within an allowance.
 use rules::Fault;
 use rules_run::Flow;
 use rules_run::Outcome;
@@ -13,52 +13,10 @@ ghost use Rattle.rules_unit.specs.declared.Checked.the-variants as checked;
 ghost use Rattle.rules_unit.specs.Decode.{Fills, Dialect, codeOf};
 ghost use Rattle.rules_unit.specs.Checks.{checkOf};
 ghost use Rattle.rules_unit.specs.Sound.{ShapeSound};
-ghost use Rattle.rules_run.specs.States.{Sound, entryb, entriesb, soundb};
+ghost use Rattle.rules_run.specs.States.{Sound};
 ghost use Rattle.rules_run.specs.Turns.{turnOf};
 ghost use Rattle.rules_run.specs.Runs.{Ran, runFrom};
 ghost use Rattle.runs.specs.Flows.{turnUnder};
-
-// ---- the resume state
-
-// Whether the return number x at the place i is one: 0 to n for an open call, and zero for none.
-fn entry_sound(n: u16, depth: u16, i: u16, x: u16) -> bool
-    ensures { λ r. ⌜ r ≡ entryb n depth i x ⌝ }
-{
-    if i < depth {
-        return x <= n;
-    }
-    x == 0
-}
-
-// Whether all return numbers are.
-fn entries_sound(n: u16, depth: u16, returns: [u16; 50]) -> bool
-    ensures { λ r. ⌜ r ≡ entriesb n depth 0 returns ⌝ }
-{
-    let mut i: u16 = 0;
-    while i < 50 {
-        let at = i as usize;
-        let x = returns[at];
-        if !entry_sound(n, depth, i, x) {
-            return false;
-        }
-        i += 1;
-    }
-    true
-}
-
-// Whether a resume state is sound for a unit of n statements.
-pub fn sound(n: u16, s: State) -> bool
-    ensures { λ r. ⌜ r ≡ soundb n s ⌝ }
-{
-    if n < s.at {
-        return false;
-    }
-    if 50 < s.depth {
-        return false;
-    }
-    let returns = s.returns;
-    entries_sound(n, s.depth, returns)
-}
 
 // ---- where a statement leads
 
@@ -74,11 +32,11 @@ fn turn_under(depth: u16, turn: Turn) -> Turn
             if depth < 50 {
                 return turn;
             }
-            machine::fails(Fault::CallsFull)
+            moves::fails(Fault::CallsFull)
         }
         Flow::Return => {
             if depth == 0 {
-                return machine::fails(Fault::NoCall);
+                return moves::fails(Fault::NoCall);
             }
             turn
         }

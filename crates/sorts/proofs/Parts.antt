@@ -12,7 +12,7 @@ use Rattle.rules_unit.specs.Expressions.{sortFrom, sortAt}
 use Rattle.sorts.specs.Notes.{expressionsOf, Noted, NotedOf}
 
 module _ (u : List ℕ) (p : Parts) (a b : ℕ) (ea : a ≡ expressionsAt p) (eb : b ≡ literalsAt p) where
-  part-is : take (b - a) (drop a u) ≡ expressionsOf u p
+  pub part-is : take (b - a) (drop a u) ≡ expressionsOf u p
   part-is = let size : b - a ≡ p .e = omega arith in rw (size, ea)
 
   pub sort-part : (e e′ : ℕ) (r : Sort) → r ≡ sortFrom (codeOf u p) (itemsAt (take (b - a) (drop a u)) e′) 0 sort.Number → e′ ≡ e

@@ -1,0 +1,4 @@
+pub mod Entries
+pub mod Answers
+pub mod Reading
+pub mod Writing
