@@ -1,16 +1,19 @@
 // `boxlever check FILES..`: a row for each unit with the answer of the fence check, and a line of totals.
+use crate::say::Line;
 use crate::say::fill_to;
+use crate::say::new_line;
 use crate::say::open;
+use crate::say::part;
 use crate::say::put;
 use crate::say::put_form;
 use crate::say::put_right;
 use crate::say::put_text;
+use crate::say::say;
 use crate::say::say_line;
+use crate::say::say_text;
 use crate::words::put_breach;
 use crate::words::put_refused;
 use rules_fence::Verdict;
-ghost use Prim.Native.Nat.{_≤_};
-ghost use lib.ListN.{length};
 
 // How many units the fence says yes and no of, are refused, and could not be read.
 struct Tally {
@@ -26,9 +29,7 @@ fn one_more(n: u32) -> u32 {
 }
 
 // Where the name of a file starts: behind the last slash of its path.
-fn name_at(path: &[u8]) -> usize
-    ensures { λ r. ⌜ r ≤ length (now (path .entry)) ⌝ }
-{
+fn name_at(path: &[u8]) -> usize {
     let mut i = path.len();
     while 0 < i {
         if path[i - 1] == b'/' {
@@ -39,22 +40,21 @@ fn name_at(path: &[u8]) -> usize
     0
 }
 
-fn put_name(t: &mut [u8], at: usize, path: &[u8]) -> usize {
-    let from = name_at(path);
-    let end = path.len();
-    put_text(t, at, &path[from..end])
+// Writes the name of a file, which may be longer than a line.
+fn say_name(path: &[u8]) {
+    say(part(path, name_at(path), path.len()));
 }
 
-fn put_no(t: &mut [u8], at: usize, unit: &[u8], i: u16) -> usize {
-    let next = put_form(t, at, b"no at #: ", i as u64, 0);
-    put_breach(t, next, dibol::breach(unit, i as usize))
+fn put_no(l: Line, unit: &[u8], i: u16) -> Line {
+    let next = put_form(l, b"no at #: ", i as u64, 0);
+    put_breach(next, dibol::breach(unit, i as usize))
 }
 
-fn put_answer(t: &mut [u8], at: usize, unit: &[u8], v: Verdict) -> usize {
+fn put_answer(l: Line, unit: &[u8], v: Verdict) -> Line {
     match v {
-        Verdict::Yes => put_text(t, at, b"yes"),
-        Verdict::No(i) => put_no(t, at, unit, i),
-        Verdict::Refused(r) => put_refused(t, at, r),
+        Verdict::Yes => put_text(l, b"yes"),
+        Verdict::No(i) => put_no(l, unit, i),
+        Verdict::Refused(r) => put_refused(l, r),
     }
 }
 
@@ -71,24 +71,18 @@ fn counted(tally: Tally, v: Verdict) -> Tally {
 
 // The row of a unit that was read.
 fn say_unit(path: &[u8], unit: &[u8], v: Verdict) {
-    let mut space = [0u8; 4400];
-    let t: &mut [u8] = &mut space;
-    let mut at = put_right(t, 0, unit.len() as u64, 6);
-    at = fill_to(t, at, 8);
-    at = put_name(t, at, path);
-    at = put(t, at, b' ');
-    at = put_answer(t, at, unit, v);
-    say_line(t, at);
+    let start = put_right(new_line(), unit.len() as u64, 6);
+    say_text(fill_to(start, 8));
+    say_name(path);
+    let l = put(new_line(), b' ');
+    say_line(put_answer(l, unit, v));
 }
 
 // The row of a file that cannot be read.
 fn say_unread(path: &[u8]) {
-    let mut space = [0u8; 4400];
-    let t: &mut [u8] = &mut space;
-    let mut at = put_text(t, 0, b"     -  ");
-    at = put_name(t, at, path);
-    at = put_text(t, at, b" cannot be read");
-    say_line(t, at);
+    say(b"     -  ");
+    say_name(path);
+    say(b" cannot be read\n");
 }
 
 // The row of a file, and the tally with it. Of one longer than the longest unit the first 65,536 bytes are enough to refuse it.
@@ -108,23 +102,20 @@ fn say_file(path: &[u8], tally: Tally) -> Tally {
     counted(tally, verdict)
 }
 
-fn put_unread(t: &mut [u8], at: usize, n: u32) -> usize {
+fn put_unread(l: Line, n: u32) -> Line {
     if n == 0 {
-        return at;
+        return l;
     }
-    put_form(t, at, b", # not read", n as u64, 0)
+    put_form(l, b", # not read", n as u64, 0)
 }
 
 fn say_totals(tally: Tally) {
-    let mut space = [0u8; 200];
-    let t: &mut [u8] = &mut space;
     let yes = tally.yes as u64;
     let no = tally.no as u64;
     let refused = tally.refused as u64;
-    let mut at = put_form(t, 0, b"# units: # yes, ", yes + no + refused, yes);
-    at = put_form(t, at, b"# no, # refused", no, refused);
-    at = put_unread(t, at, tally.unread);
-    say_line(t, at);
+    let mut l = put_form(new_line(), b"# units: # yes, ", yes + no + refused, yes);
+    l = put_form(l, b"# no, # refused", no, refused);
+    say_line(put_unread(l, tally.unread));
 }
 
 // The row of the file that the argument i names.

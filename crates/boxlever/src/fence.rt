@@ -12,8 +12,11 @@ use crate::phrase::none_held;
 use crate::phrase::put_name;
 use crate::phrase::say_statement;
 use crate::phrase::start_of;
+use crate::say::Line;
+use crate::say::ROOM;
 use crate::say::less;
-use crate::say::part;
+use crate::say::new_line;
+use crate::say::put_between;
 use crate::say::put_form;
 use crate::say::put_text;
 use crate::say::say;
@@ -88,22 +91,25 @@ fn is_negate(op: Op) -> bool {
     }
 }
 
+// The bounds after an operator.
+fn known_by(k: Known, op: Op) -> Known {
+    if is_negate(op) {
+        return known_negated(k);
+    }
+    nothing_known()
+}
+
 // The bounds after an item.
 fn known_after(unit: &[u8], parts: Parts, k: Known, item: Item) -> Known {
     match item {
         Item::Number { place, len } => {
             known_number(k, figures_of(literal_of(unit, parts, place, len)))
         }
-        Item::Reference { how: _, field: _ } => nothing_known(),
-        Item::Text { place: _, len: _ } => nothing_known(),
-        Item::Operator(op) => {
-            if is_negate(op) {
-                return known_negated(k);
-            }
-            nothing_known()
-        }
-        Item::End => nothing_known(),
-        Item::Bad => nothing_known(),
+        Item::Operator(op) => known_by(k, op),
+        Item::Reference { how: _, field: _ }
+        | Item::Text { place: _, len: _ }
+        | Item::End
+        | Item::Bad => nothing_known(),
     }
 }
 
@@ -136,40 +142,37 @@ fn span_of(parts: Parts, field: Field, how: How, k: Known) -> Span {
 }
 
 // Puts ` bytes 3 to 7`, or ` byte 3`.
-fn put_bytes(t: &mut [u8], at: usize, from: usize, len: usize) -> usize {
+fn put_bytes(l: Line, from: usize, len: usize) -> Line {
     if len < 2 {
-        return put_form(t, at, b" byte #", from as u64, 0);
+        return put_form(l, b" byte #", from as u64, 0);
     }
     let last = less(sum(from, len), 1);
-    put_form(t, at, b" bytes # to #", from as u64, last as u64)
+    put_form(l, b" bytes # to #", from as u64, last as u64)
 }
 
 // Puts how long the elements of a field are, if it has several.
-fn put_elements(t: &mut [u8], at: usize, field: Field) -> usize {
+fn put_elements(l: Line, field: Field) -> Line {
     if field.count < 2 {
-        return at;
+        return l;
     }
-    put_form(t, at, b", # in each element", field.size as u64, 0)
+    put_form(l, b", # in each element", field.size as u64, 0)
 }
 
 // Puts the bytes of the field i.
-fn put_field(t: &mut [u8], at: usize, unit: &[u8], parts: Parts, i: u16) -> usize {
+fn put_field(l: Line, unit: &[u8], parts: Parts, i: u16) -> Line {
     let field = field_of(unit, parts, i);
-    let offset = decode::long(field.offset);
-    let mut next = put_text(t, at, b"; ");
-    next = put_name(t, next, unit, parts, i);
-    next = put_text(t, next, b" has");
-    next = put_bytes(t, next, offset, less(entries::end_of(field), offset));
-    put_elements(t, next, field)
+    let offset = field.offset as usize;
+    let mut next = put_text(l, b"; ");
+    next = put_name(next, field, i);
+    next = put_text(next, b" has");
+    next = put_bytes(next, offset, less(entries::end_of(field), offset));
+    put_elements(next, field)
 }
 
-fn put_span(t: &mut [u8], at: usize, span: Span) -> usize {
+fn put_span(l: Line, span: Span) -> Line {
     match span {
-        Span::At { start, len } => {
-            let next = put_text(t, at, b" is");
-            put_bytes(t, next, start, len)
-        }
-        Span::Outside => put_text(t, at, b" gives 21"),
+        Span::At { start, len } => put_bytes(put_text(l, b" is"), start, len),
+        Span::Outside => put_text(l, b" gives 21"),
     }
 }
 
@@ -181,7 +184,7 @@ fn is_shared(field: Field, span: Span) -> bool {
     }
     match span {
         Span::At { start, len } => {
-            if sum(start, len) <= decode::long(field.offset) {
+            if sum(start, len) <= field.offset as usize {
                 return false;
             }
             start < entries::end_of(field)
@@ -203,45 +206,36 @@ fn shared_with(unit: &[u8], parts: Parts, span: Span) -> u16 {
 }
 
 // Puts the decimal field that a destination shares a byte with, if there is one.
-fn put_shared(t: &mut [u8], at: usize, unit: &[u8], parts: Parts, span: Span) -> usize {
+fn put_shared(l: Line, unit: &[u8], parts: Parts, span: Span) -> Line {
     let i = shared_with(unit, parts, span);
     if i < parts.f {
-        return put_field(t, at, unit, parts, i);
+        return put_field(l, unit, parts, i);
     }
-    at
+    l
 }
 
 // Puts the bytes of the field of a reference, unless it is named whole.
-fn put_own(t: &mut [u8], at: usize, unit: &[u8], parts: Parts, how: How, i: u16) -> usize {
+fn put_own(l: Line, unit: &[u8], parts: Parts, how: How, i: u16) -> Line {
     if sorts::how_takes(how) == 0 {
-        return at;
+        return l;
     }
-    put_field(t, at, unit, parts, i)
+    put_field(l, unit, parts, i)
 }
 
-// The line of a reference whose bounds are known. An alpha destination names the decimal field that it is on.
-fn say_known(text: &[u8], unit: &[u8], parts: Parts, how: How, i: u16, span: Span, written: bool) {
-    let mut space = [0u8; 600];
-    let t: &mut [u8] = &mut space;
-    let mut at = put_text(t, 0, b"  ");
-    at = put_text(t, at, text);
-    at = put_span(t, at, span);
-    at = put_own(t, at, unit, parts, how, i);
+// The line of a reference whose bounds are known, begun with its text. An alpha destination names the decimal field that it is on.
+fn say_known(l: Line, unit: &[u8], parts: Parts, how: How, i: u16, span: Span, written: bool) {
+    let mut next = put_span(l, span);
+    next = put_own(next, unit, parts, how, i);
     if written {
-        at = put_shared(t, at, unit, parts, span);
+        next = put_shared(next, unit, parts, span);
     }
-    say_line(t, at);
+    say_line(next);
 }
 
 // The line of a reference with another bound.
-fn say_unknown(text: &[u8], unit: &[u8], parts: Parts, i: u16) {
-    let mut space = [0u8; 600];
-    let t: &mut [u8] = &mut space;
-    let mut at = put_text(t, 0, b"  ");
-    at = put_text(t, at, text);
-    at = put_text(t, at, b" is found only by the run");
-    at = put_field(t, at, unit, parts, i);
-    say_line(t, at);
+fn say_unknown(l: Line, unit: &[u8], parts: Parts, i: u16) {
+    let next = put_text(l, b" is found only by the run");
+    say_line(put_field(next, unit, parts, i));
 }
 
 // Whether nothing is to be told of a reference: it has no bounds and is on no decimal field.
@@ -255,18 +249,10 @@ fn is_plain(unit: &[u8], parts: Parts, how: How, span: Span, aimed: bool) -> boo
     parts.f <= shared_with(unit, parts, span)
 }
 
-// The line of a reference.
-fn say_reference(
-    text: &[u8],
-    unit: &[u8],
-    parts: Parts,
-    how: How,
-    i: u16,
-    k: Known,
-    written: bool,
-) {
+// The line of a reference, begun with its text.
+fn say_reference(l: Line, unit: &[u8], parts: Parts, how: How, i: u16, k: Known, written: bool) {
     if (k.count as u16) < sorts::how_takes(how) {
-        say_unknown(text, unit, parts, i);
+        say_unknown(l, unit, parts, i);
         return;
     }
     let field = field_of(unit, parts, i);
@@ -280,46 +266,45 @@ fn say_reference(
     if is_plain(unit, parts, how, span, aimed) {
         return;
     }
-    say_known(text, unit, parts, how, i, span, aimed);
+    say_known(l, unit, parts, how, i, span, aimed);
 }
 
 // ---- the statements
 
 // The line of an item, if it is a reference; its text is that of the value held last, if it has room.
-fn say_item(t: &[u8], h: Held, unit: &[u8], parts: Parts, item: Item, k: Known, written: bool) {
-    let from = start_of(h, 0);
-    if t.len() <= h.at {
+fn say_item(h: Held, unit: &[u8], parts: Parts, item: Item, k: Known, written: bool) {
+    let end = start_of(h, 0);
+    if ROOM <= end {
         return;
     }
     match item {
-        Item::Number { place: _, len: _ } => (),
         Item::Reference { how, field } => {
-            let text = part(t, from, less(h.at, from));
-            say_reference(text, unit, parts, how, field, k, written);
+            let start = put_text(new_line(), b"  ");
+            let l = put_between(start, h.line, start_of(h, 1), end);
+            say_reference(l, unit, parts, how, field, k, written);
         }
-        Item::Text { place: _, len: _ } => (),
-        Item::Operator(_) => (),
-        Item::End => (),
-        Item::Bad => (),
+        Item::Number { place: _, len: _ }
+        | Item::Text { place: _, len: _ }
+        | Item::Operator(_)
+        | Item::End
+        | Item::Bad => (),
     }
 }
 
 // The lines of the references of an expression, as far as its text has room.
 fn say_references(unit: &[u8], parts: Parts, e: u16, written: bool) {
     let es = expressions_of(unit, parts);
-    let mut space = [0u8; 500];
-    let t: &mut [u8] = &mut space;
-    let mut h = none_held(0);
+    let mut h = none_held(new_line());
     let mut k = nothing_known();
-    let mut from = decode::long(e);
+    let mut from = e as usize;
     let mut left = es.len();
     while 0 < left {
         let item = decode::item_at(es, from);
         if is_end(item) {
             return;
         }
-        h = hold_item(t, h, unit, parts, item);
-        say_item(t, h, unit, parts, item, k, written);
+        h = hold_item(h, unit, parts, item);
+        say_item(h, unit, parts, item, k, written);
         k = known_after(unit, parts, k, item);
         from = sum(from, decode::width_of(item));
         left -= 1;
@@ -340,11 +325,8 @@ fn say_use(unit: &[u8], parts: Parts, u: Use) {
 
 // The rule that a statement breaks.
 fn say_breach(b: Breach) {
-    let mut space = [0u8; 100];
-    let t: &mut [u8] = &mut space;
-    let mut at = put_text(t, 0, b"  ");
-    at = put_breach(t, at, b);
-    say_line(t, at);
+    let l = put_text(new_line(), b"  ");
+    say_line(put_breach(l, b));
 }
 
 // The lines of the statement i, if it breaks a rule: its references in the order in which they are worked out.
@@ -370,41 +352,25 @@ fn say_all(unit: &[u8], parts: Parts, first: u16) {
 }
 
 fn say_no(unit: &[u8], i: u16) {
-    let mut space = [0u8; 20];
-    let t: &mut [u8] = &mut space;
-    let at = put_form(t, 0, b"no #", i as u64, 0);
-    say_line(t, at);
+    say_line(put_form(new_line(), b"no #", i as u64, 0));
     match dibol::check(unit) {
         Checked::Passed(parts) => say_all(unit, parts, i),
         Checked::Refused(_) => (), // Never so: the fence has answered.
     }
 }
 
+// A refusal with its number and place, and in a line of its own the reason.
 fn say_refused(r: Refusal) {
-    let mut space = [0u8; 100];
-    let t: &mut [u8] = &mut space;
     let number = rules_unit::refusal_number(r) as u64;
     let place = rules_unit::refusal_place(r) as u64;
-    let at = put_form(t, 0, b"refused # #", number, place);
-    say_line(t, at);
-}
-
-// Why a unit is refused.
-fn say_reason(r: Refusal) {
-    let mut space = [0u8; 100];
-    let t: &mut [u8] = &mut space;
-    let mut at = put_text(t, 0, b"  ");
-    at = put_refusal(t, at, r);
-    say_line(t, at);
+    let l = put_form(new_line(), b"refused # #\n  ", number, place);
+    say_line(put_refusal(l, r));
 }
 
 pub fn answer(unit: &[u8]) {
     match dibol::fence(unit) {
         Verdict::Yes => say(b"yes\n"),
         Verdict::No(i) => say_no(unit, i),
-        Verdict::Refused(r) => {
-            say_refused(r);
-            say_reason(r);
-        }
+        Verdict::Refused(r) => say_refused(r),
     }
 }

@@ -6,29 +6,31 @@ use crate::phrase::kind_number;
 use crate::phrase::put_hex;
 use crate::phrase::put_name;
 use crate::phrase::put_statement;
+use crate::say::Line;
 use crate::say::byte_at;
+use crate::say::cut;
 use crate::say::fill_to;
 use crate::say::least;
 use crate::say::less;
 use crate::say::most;
+use crate::say::new_line;
 use crate::say::part;
+use crate::say::piece;
 use crate::say::put;
 use crate::say::put_form;
 use crate::say::put_number;
-use crate::say::put_piece;
 use crate::say::put_right;
 use crate::say::put_shown;
 use crate::say::put_text;
+use crate::say::same;
 use crate::say::say;
 use crate::say::say_line;
-use crate::say::set;
 use crate::say::sum;
 use crate::words::put_breach;
 use crate::words::put_refused;
 use rules_fence::Verdict;
 use rules_unit::Checked;
 use rules_unit::Field;
-use rules_unit::Kind;
 use rules_unit::Parts;
 use rules_unit::Refusal;
 use rules_unit::Statement;
@@ -64,93 +66,112 @@ const ALPHA_ROOM: usize = 60;
 // ---- the parts
 
 // Puts `3-7`, or `3` for one byte.
-fn put_span(t: &mut [u8], at: usize, from: usize, len: usize) -> usize {
+fn put_span(l: Line, from: usize, len: usize) -> Line {
     if len < 2 {
-        return put_number(t, at, from as u64);
+        return put_number(l, from as u64);
     }
     let last = less(sum(from, len), 1);
-    put_form(t, at, b"#-#", from as u64, last as u64)
+    put_form(l, b"#-#", from as u64, last as u64)
 }
 
-// The row of a part, and where the next one starts. A part of entries has a row with their number.
-fn say_part(name: &[u8], from: usize, len: usize, entries: u16) -> usize {
-    let mut space = [0u8; 100];
-    let t: &mut [u8] = &mut space;
-    let mut at = put_text(t, 0, name);
-    at = fill_to(t, at, BYTES);
+// The row of the part k, and where the next one starts. A part of entries has a row with their number.
+fn say_part(k: u8, from: usize, len: usize, entries: u16) -> usize {
+    let names = b"data|fields|expressions|literals|statements|trailer|";
+    let mut l = put_text(new_line(), piece(names, k));
+    l = fill_to(l, BYTES);
     if 0 < len {
-        at = put_span(t, at, from, len);
+        l = put_span(l, from, len);
     } else {
-        at = put_text(t, at, b"none");
+        l = put_text(l, b"none");
     }
     if 0 < entries {
-        at = put_right(t, at, entries as u64, ENTRIES);
+        l = put_right(l, entries as u64, ENTRIES);
     }
-    say_line(t, at);
+    say_line(l);
     sum(from, len)
+}
+
+// The row of the part k, which has entries of eight bytes.
+fn say_entries(k: u8, from: usize, entries: u16) -> usize {
+    say_part(k, from, entries as usize * 8, entries)
 }
 
 // The rows of the parts that the trailer names, and where they end.
 fn say_parts(parts: Parts) -> usize {
     say(b"part         bytes        entries\n");
-    let mut at = say_part(b"data", 0, decode::long(parts.d), 0);
-    at = say_part(b"fields", at, decode::long(parts.f) * 8, parts.f);
-    at = say_part(b"expressions", at, decode::long(parts.e), 0);
-    at = say_part(b"literals", at, decode::long(parts.p), 0);
-    at = say_part(b"statements", at, decode::long(parts.n) * 8, parts.n);
-    say_part(b"trailer", at, 12, 0)
+    let mut at = say_part(0, 0, parts.d as usize, 0);
+    at = say_entries(1, at, parts.f);
+    at = say_part(2, at, parts.e as usize, 0);
+    at = say_part(3, at, parts.p as usize, 0);
+    at = say_entries(4, at, parts.n);
+    say_part(5, at, 12, 0)
 }
 
 // ---- the fields
 
 // How many of a field's elements fit a room, in quotes and with a space between two; one at the least.
 fn fitting(field: Field, room: usize) -> usize {
-    let cell = decode::long(field.size) + 3;
+    let cell = field.size as usize + 3;
     let fit = sum(room, 1) / cell;
-    most(1, least(fit, decode::long(field.count)))
+    most(1, least(fit, field.count as usize))
 }
 
 // Puts an element in quotes; of a longer one than the room only its first characters, and two dots.
-fn put_element(t: &mut [u8], at: usize, s: &[u8]) -> usize {
-    let mut next = put(t, at, b'"');
-    next = put_shown(t, next, part(s, 0, ALPHA_ROOM));
-    next = put(t, next, b'"');
+fn put_element(l: Line, s: &[u8]) -> Line {
+    let mut next = put(l, b'"');
+    next = put_shown(next, part(s, 0, ALPHA_ROOM));
+    next = put(next, b'"');
     if ALPHA_ROOM < s.len() {
-        return put_text(t, next, b"..");
+        return put_text(next, b"..");
     }
     next
 }
 
-// Puts the first k elements of the data from an offset on.
-fn put_stored(t: &mut [u8], at: usize, data: &[u8], from: usize, size: usize, k: usize) -> usize {
-    let mut next = at;
-    let mut place = from;
+// Puts a decimal in figures.
+fn put_figures(l: Line, s: &[u8]) -> Line {
+    let f = figures_of(s);
+    if !f.good {
+        return put_text(l, b"no number");
+    }
+    let mut next = l;
+    if f.below {
+        next = put(l, b'-');
+    }
+    put_number(next, f.size)
+}
+
+// Puts an element as it is stored, or in figures.
+fn put_either(l: Line, s: &[u8], figures: bool) -> Line {
+    if figures {
+        return put_figures(l, s);
+    }
+    put_element(l, s)
+}
+
+// Puts the first k elements of a field, with a space between two.
+fn put_elements(l: Line, data: &[u8], field: Field, k: usize, figures: bool) -> Line {
+    let size = field.size as usize;
+    let mut next = l;
+    let mut place = field.offset as usize;
     let mut left = k;
     while 0 < left {
-        next = put_element(t, next, part(data, place, size));
-        next = put(t, next, b' ');
+        next = put_either(next, part(data, place, size), figures);
+        next = put(next, b' ');
         place = sum(place, size);
         left -= 1;
     }
-    less(next, 1)
+    cut(next, less(next.at, 1))
 }
 
 // How many columns the stored characters of a decimal field take.
 fn stored_width(field: Field, data: &[u8]) -> usize {
-    let mut space = [0u8; 100];
-    let t: &mut [u8] = &mut space;
     let kind = field.kind;
     if !sorts::is_decimal(kind) {
         return 0;
     }
-    put_stored(
-        t,
-        0,
-        data,
-        decode::long(field.offset),
-        decode::long(field.size),
-        fitting(field, DECIMAL_ROOM),
-    )
+    let k = fitting(field, DECIMAL_ROOM);
+    let l = put_elements(new_line(), data, field, k, false);
+    l.at
 }
 
 // The widest of them, or that of the head.
@@ -164,103 +185,75 @@ fn widest(unit: &[u8], parts: Parts, data: &[u8]) -> usize {
     width
 }
 
-// Puts a decimal in figures.
-fn put_figures(t: &mut [u8], at: usize, s: &[u8]) -> usize {
-    let f = figures_of(s);
-    if !f.good {
-        return put_text(t, at, b"no number");
-    }
-    if f.below {
-        let next = put(t, at, b'-');
-        return put_number(t, next, f.size);
-    }
-    put_number(t, at, f.size)
-}
-
-// Puts the values of the first k elements, each after a space.
-fn put_values(t: &mut [u8], at: usize, data: &[u8], from: usize, size: usize, k: usize) -> usize {
-    let mut next = at;
-    let mut place = from;
-    let mut left = k;
-    while 0 < left {
-        next = put_figures(t, next, part(data, place, size));
-        next = put(t, next, b' ');
-        place = sum(place, size);
-        left -= 1;
-    }
-    less(next, 1)
-}
-
 // Puts how many elements are not told.
-fn put_more(t: &mut [u8], at: usize, count: usize, k: usize) -> usize {
+fn put_more(l: Line, field: Field, k: usize) -> Line {
+    let count = field.count as usize;
     if count <= k {
-        return at;
+        return l;
     }
-    put_form(t, at, b" and # more", (count - k) as u64, 0)
+    put_form(l, b" and # more", (count - k) as u64, 0)
 }
 
 // Puts what a decimal field holds: the characters, and in the column given the values.
-fn put_decimal(t: &mut [u8], at: usize, data: &[u8], field: Field, column: usize) -> usize {
-    let from = decode::long(field.offset);
-    let size = decode::long(field.size);
+fn put_decimal(l: Line, data: &[u8], field: Field, column: usize) -> Line {
     let k = fitting(field, DECIMAL_ROOM);
-    let mut next = put_stored(t, at, data, from, size, k);
-    next = fill_to(t, next, column);
-    next = put_values(t, next, data, from, size, k);
-    put_more(t, next, decode::long(field.count), k)
+    let mut next = put_elements(l, data, field, k, false);
+    next = fill_to(next, column);
+    next = put_elements(next, data, field, k, true);
+    put_more(next, field, k)
 }
 
 // Puts what an alpha field or a record holds.
-fn put_alpha(t: &mut [u8], at: usize, data: &[u8], field: Field) -> usize {
-    let from = decode::long(field.offset);
-    let size = decode::long(field.size);
+fn put_alpha(l: Line, data: &[u8], field: Field) -> Line {
     let k = fitting(field, ALPHA_ROOM);
-    let next = put_stored(t, at, data, from, size, k);
-    put_more(t, next, decode::long(field.count), k)
+    let next = put_elements(l, data, field, k, false);
+    put_more(next, field, k)
 }
 
 // Puts a field's name and kind.
-fn put_entry(t: &mut [u8], unit: &[u8], parts: Parts, i: u16, field: Field) -> usize {
+fn put_entry(l: Line, field: Field, i: u16) -> Line {
     let kind = field.kind;
-    let mut at = put_name(t, 0, unit, parts, i);
-    at = fill_to(t, at, KIND);
-    at = put_piece(t, at, b"alpha|decimal|record|none|", kind_number(kind));
-    fill_to(t, at, SPAN)
+    let mut next = put_name(l, field, i);
+    next = fill_to(next, KIND);
+    next = put_text(
+        next,
+        piece(b"alpha|decimal|record|none|", kind_number(kind)),
+    );
+    fill_to(next, SPAN)
 }
 
 // Puts a field's bytes, size and count.
-fn put_sizes(t: &mut [u8], at: usize, field: Field) -> usize {
-    let from = decode::long(field.offset);
-    let mut next = put_span(t, at, from, less(entries::end_of(field), from));
-    next = put_right(t, next, field.size as u64, SIZE);
-    next = put_right(t, next, field.count as u64, COUNT);
-    fill_to(t, next, STORED)
+fn put_sizes(l: Line, field: Field) -> Line {
+    let from = field.offset as usize;
+    let mut next = put_span(l, from, less(entries::end_of(field), from));
+    next = put_right(next, field.size as u64, SIZE);
+    next = put_right(next, field.count as u64, COUNT);
+    fill_to(next, STORED)
 }
 
 // The row of the field i over some data.
 fn say_field(unit: &[u8], parts: Parts, data: &[u8], i: u16, column: usize) {
-    let mut space = [0u8; 500];
-    let t: &mut [u8] = &mut space;
     let field = field_of(unit, parts, i);
     let kind = field.kind;
-    let mut at = put_entry(t, unit, parts, i, field);
-    at = put_sizes(t, at, field);
+    let mut l = put_entry(new_line(), field, i);
+    l = put_sizes(l, field);
     if sorts::is_decimal(kind) {
-        at = put_decimal(t, at, data, field, column);
+        l = put_decimal(l, data, field, column);
     } else {
-        at = put_alpha(t, at, data, field);
+        l = put_alpha(l, data, field);
     }
-    say_line(t, at);
+    say_line(l);
 }
 
-// The head of the table of fields.
+// The head of the table of fields, after a line with nothing in it.
 fn say_field_head(column: usize) {
-    let mut space = [0u8; 200];
-    let t: &mut [u8] = &mut space;
-    let mut at = put_text(t, 0, b"field  kind     bytes        size  count  stored");
-    at = fill_to(t, at, column);
-    at = put_text(t, at, b"value");
-    say_line(t, at);
+    say(b"\n");
+    let mut l = put_text(
+        new_line(),
+        b"field  kind     bytes        size  count  stored",
+    );
+    l = fill_to(l, column);
+    say_line(put_text(l, b"value"));
 }
 
 // The fields of a unit, with what they hold in some data. A unit without fields has no table.
@@ -269,7 +262,6 @@ pub fn say_fields(unit: &[u8], parts: Parts, data: &[u8]) {
         return;
     }
     let column = sum(STORED + 2, widest(unit, parts, data));
-    say(b"\n");
     say_field_head(column);
     let mut i: u16 = 0;
     while i < parts.f {
@@ -283,25 +275,32 @@ pub fn say_fields(unit: &[u8], parts: Parts, data: &[u8]) {
 // The statement that a statement goes to; one past the last where it goes to none.
 fn target_of(s: Statement, n: u16) -> u16 {
     match s {
-        Statement::Set {
-            place: _,
-            source: _,
-        } => n,
-        Statement::Clear { place: _ } => n,
-        Statement::Incr { place: _ } => n,
-        Statement::Decr { place: _ } => n,
-        Statement::Upcase { place: _ } => n,
-        Statement::Locase { place: _ } => n,
         Statement::Goto { target } => target,
         Statement::IfZero { number: _, target } => target,
         Statement::Call { target } => target,
-        Statement::Return => n,
-        Statement::Stop => n,
-        Statement::Computed {
+        Statement::Set {
+            place: _,
+            source: _,
+        }
+        | Statement::Clear { place: _ }
+        | Statement::Incr { place: _ }
+        | Statement::Decr { place: _ }
+        | Statement::Upcase { place: _ }
+        | Statement::Locase { place: _ }
+        | Statement::Return
+        | Statement::Stop
+        | Statement::Computed {
             count: _,
             number: _,
-        } => n,
-        Statement::Bad => n,
+        }
+        | Statement::Bad => n,
+    }
+}
+
+// Writes a byte at an offset, or nothing past the end.
+fn set(t: &mut [u8], at: usize, b: u8) {
+    if at < t.len() {
+        t[at] = b;
     }
 }
 
@@ -310,76 +309,73 @@ fn mark_targets(unit: &[u8], parts: Parts, marks: &mut [u8]) {
     let mut i: u16 = 0;
     while i < parts.n {
         let target = target_of(statement_of(unit, parts, i), parts.n);
-        set(marks, decode::long(target), 1);
+        set(marks, target as usize, 1);
         i += 1;
     }
 }
 
 // Puts the bytes of a statement.
-fn put_coded(t: &mut [u8], at: usize, s: &[u8]) -> usize {
-    let mut next = at;
+fn put_coded(l: Line, s: &[u8]) -> Line {
+    let mut next = l;
     let mut i = 0;
     while i < s.len() {
-        next = put_hex(t, next, s[i]);
-        next = put(t, next, b' ');
+        next = put_hex(next, s[i]);
+        next = put(next, b' ');
         i += 1;
     }
     next
 }
 
 // Puts the label of a statement that is a target.
-fn put_label(t: &mut [u8], at: usize, i: u16, mark: u8) -> usize {
+fn put_label(l: Line, i: u16, mark: u8) -> Line {
     if mark == 0 {
-        return at;
+        return l;
     }
-    put_form(t, at, b"L#:", i as u64, 0)
+    put_form(l, b"L#:", i as u64, 0)
 }
 
 // Puts the rule that the statement i breaks, if it breaks one.
-fn put_broken(t: &mut [u8], at: usize, unit: &[u8], i: u16) -> usize {
+fn put_broken(l: Line, unit: &[u8], i: u16) -> Line {
     let b = dibol::breach(unit, i as usize);
     if dibol::breach_number(b) == 0 {
-        return at;
+        return l;
     }
-    let next = put_text(t, at, b"  ! ");
-    put_breach(t, next, b)
+    put_breach(put_text(l, b"  ! "), b)
 }
 
 // Where the statement i stands in the unit.
 fn offset_of(parts: Parts, i: u16) -> usize {
-    let statements = sum(decode::literals_offset(parts), decode::long(parts.p));
-    sum(statements, decode::long(i) * 8)
+    let statements = sum(decode::literals_offset(parts), parts.p as usize);
+    sum(statements, i as usize * 8)
 }
 
 // Puts the number, the offset, the bytes and the label of the statement i.
-fn put_place(t: &mut [u8], unit: &[u8], parts: Parts, i: u16, mark: u8) -> usize {
+fn put_place(l: Line, unit: &[u8], parts: Parts, i: u16, mark: u8) -> Line {
     let offset = offset_of(parts, i);
-    let mut at = put_right(t, 0, i as u64, 4);
-    at = put_right(t, at, offset as u64, OFFSET);
-    at = fill_to(t, at, CODED);
-    at = put_coded(t, at, part(unit, offset, 8));
-    at = fill_to(t, at, LABEL);
-    at = put_label(t, at, i, mark);
-    fill_to(t, at, READS)
+    let mut next = put_right(l, i as u64, 4);
+    next = put_right(next, offset as u64, OFFSET);
+    next = fill_to(next, CODED);
+    next = put_coded(next, part(unit, offset, 8));
+    next = fill_to(next, LABEL);
+    next = put_label(next, i, mark);
+    fill_to(next, READS)
 }
 
 // The row of the statement i. Before the first that breaks a rule none is asked for.
 fn say_statement(unit: &[u8], parts: Parts, i: u16, mark: u8, first: u16) {
-    let mut space = [0u8; 600];
-    let t: &mut [u8] = &mut space;
-    let mut at = put_place(t, unit, parts, i, mark);
-    at = put_statement(t, at, unit, parts, i);
+    let mut l = put_place(new_line(), unit, parts, i, mark);
+    l = put_statement(l, unit, parts, i);
     if first <= i {
-        at = put_broken(t, at, unit, i);
+        l = put_broken(l, unit, i);
     }
-    say_line(t, at);
+    say_line(l);
 }
 
 // The rows of the statements, the targets among them being marked.
 fn say_rows(unit: &[u8], parts: Parts, marks: &[u8], first: u16) {
     let mut i: u16 = 0;
     while i < parts.n {
-        say_statement(unit, parts, i, byte_at(marks, decode::long(i)), first);
+        say_statement(unit, parts, i, byte_at(marks, i as usize), first);
         i += 1;
     }
 }
@@ -395,30 +391,25 @@ fn say_statements(unit: &[u8], parts: Parts, first: u16) {
 // ---- the whole
 
 // Puts what the fence says.
-fn put_verdict(t: &mut [u8], at: usize, v: Verdict) -> usize {
+fn put_verdict(l: Line, v: Verdict) -> Line {
     match v {
-        Verdict::Yes => put_text(t, at, b"; the fence says yes"),
-        Verdict::No(i) => put_form(t, at, b"; the fence says no at #", i as u64, 0),
-        Verdict::Refused(_) => at,
+        Verdict::Yes => put_text(l, b"; the fence says yes"),
+        Verdict::No(i) => put_form(l, b"; the fence says no at #", i as u64, 0),
+        Verdict::Refused(_) => l,
     }
 }
 
-// The first line of a unit that passes its check.
+// The first line of a unit that passes its check, and one with nothing in it.
 fn say_head(unit: &[u8], v: Verdict) {
-    let mut space = [0u8; 200];
-    let t: &mut [u8] = &mut space;
-    let mut at = put_form(t, 0, b"unit of # bytes", unit.len() as u64, 0);
-    at = put_verdict(t, at, v);
-    say_line(t, at);
-    say(b"\n");
+    let l = put_form(new_line(), b"unit of # bytes", unit.len() as u64, 0);
+    say_line(put(put_verdict(l, v), b'\n'));
 }
 
 // The first statement that breaks a rule; one past the last where none does.
 fn first_of(v: Verdict, n: u16) -> u16 {
     match v {
-        Verdict::Yes => n,
         Verdict::No(i) => i,
-        Verdict::Refused(_) => n,
+        Verdict::Yes | Verdict::Refused(_) => n,
     }
 }
 
@@ -426,25 +417,17 @@ fn say_passed(unit: &[u8], parts: Parts) {
     let v = dibol::fence(unit);
     say_head(unit, v);
     let end = say_parts(parts);
-    say_fields(unit, parts, part(unit, 0, decode::long(parts.d)));
+    say_fields(unit, parts, part(unit, 0, parts.d as usize));
     say_statements(unit, parts, first_of(v, parts.n));
 }
 
 // Says that the parts that the trailer names do not end where the unit does.
 fn say_unfilled(end: usize, len: usize) {
-    let mut space = [0u8; 200];
-    let t: &mut [u8] = &mut space;
     if end == len {
         return;
     }
-    let at = put_form(
-        t,
-        0,
-        b"the parts take # bytes, the unit has #",
-        end as u64,
-        len as u64,
-    );
-    say_line(t, at);
+    let form = b"the parts take # bytes, the unit has #";
+    say_line(put_form(new_line(), form, end as u64, len as u64));
 }
 
 // The parts of a unit that is refused, where its trailer can be read.
@@ -453,10 +436,7 @@ fn say_trailer(unit: &[u8]) {
     if n < 12 {
         return;
     }
-    if byte_at(unit, less(n, 2)) != 0x44 {
-        return;
-    }
-    if byte_at(unit, less(n, 1)) != 0x42 {
+    if !same(part(unit, less(n, 2), 2), b"DB") {
         return;
     }
     say(b"\n");
@@ -465,10 +445,7 @@ fn say_trailer(unit: &[u8]) {
 }
 
 fn say_refused(unit: &[u8], r: Refusal) {
-    let mut space = [0u8; 200];
-    let t: &mut [u8] = &mut space;
-    let at = put_refused(t, 0, r);
-    say_line(t, at);
+    say_line(put_refused(new_line(), r));
     say_trailer(unit);
 }
 

@@ -9,8 +9,7 @@ mod say;
 mod words;
 
 use say::open;
-use say::part;
-use say::put_piece;
+use say::piece;
 use say::same;
 use say::tell;
 
@@ -28,20 +27,22 @@ const VERSION: u8 = 5;
 const NONE: u8 = 6;
 
 // A call that cannot be answered: the first word on standard output says so, the line on standard error why.
-fn usage(what: &[u8], why: &[u8]) {
-    say::say(b"usage\n");
+fn fail(word: &[u8], what: &[u8], why: &[u8]) {
+    say::say(word);
     tell(b"boxlever: ");
     tell(what);
     tell(why);
+}
+
+// A call whose words are not those that `--help` tells.
+fn usage(what: &[u8], why: &[u8]) {
+    fail(b"usage\n", what, why);
     tell(b"; try: boxlever --help\n");
 }
 
 // A file that cannot be read.
 fn unreadable(path: &[u8]) {
-    say::say(b"unreadable\n");
-    tell(b"boxlever: ");
-    tell(path);
-    tell(b": cannot be read\n");
+    fail(b"unreadable\n", path, b": cannot be read\n");
 }
 
 // What the word k says of a unit.
@@ -101,23 +102,15 @@ fn answer_check() {
 }
 
 fn help() {
-    say::say(b"usage: boxlever run FILE       run the unit, and show its fields after the run\n");
-    say::say(b"       boxlever fence FILE     tell whether the unit can slip, and where\n");
-    say::say(b"       boxlever list FILE      show its parts, its fields and its statements\n");
-    say::say(b"       boxlever check FILES..  a row with the fence's answer for each unit\n");
-    say::say(b"\n");
-    say::say(b"FILE is a coded DIBOL unit, or - for standard input. A run starts from the\n");
-    say::say(b"unit's own data and takes at most 100,000 statements.\n");
-    say::say(b"\n");
-    say::say(b"example: boxlever fence fares.unit\n");
+    say::say(
+        b"usage: boxlever run FILE       run the unit, and show its fields after the run\n       boxlever fence FILE     tell whether the unit can slip, and where\n       boxlever list FILE      show its parts, its fields and its statements\n       boxlever check FILES..  a row with the fence's answer for each unit\n\nFILE is a coded DIBOL unit, or - for standard input. A run starts from the\nunit's own data and takes at most 100,000 statements.\n\nexample: boxlever fence fares.unit\n",
+    );
 }
 
 // Whether a word is the word k.
 fn is_word(word: &[u8], k: u8) -> bool {
-    let mut space = [0u8; 20];
-    let t: &mut [u8] = &mut space;
-    let n = put_piece(t, 0, b"run|fence|list|check|--help|--version|", k);
-    same(word, part(t, 0, n))
+    let words = b"run|fence|list|check|--help|--version|";
+    same(word, piece(words, k))
 }
 
 // The number of a word; NONE where there is no such word.

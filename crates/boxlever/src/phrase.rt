@@ -3,17 +3,22 @@
 use crate::parts::field_of;
 use crate::parts::literal_of;
 use crate::parts::statement_of;
+use crate::say::Line;
+use crate::say::ROOM;
 use crate::say::byte_at;
-use crate::say::insert;
-use crate::say::insert_text;
-use crate::say::part;
+use crate::say::cut;
+use crate::say::less;
+use crate::say::new_line;
+use crate::say::piece;
 use crate::say::put;
+use crate::say::put_between;
 use crate::say::put_form;
-use crate::say::put_piece;
+use crate::say::put_number;
 use crate::say::put_text;
 use crate::say::say_line;
 use crate::say::shown;
 use crate::say::sum;
+use rules_unit::Field;
 use rules_unit::How;
 use rules_unit::Item;
 use rules_unit::Kind;
@@ -25,82 +30,71 @@ use rules_unit::Use;
 // How tightly a text binds that is no operation of two values.
 const TIGHTEST: u8 = 7;
 
-// The texts of the values held: how many, where the line ends, where each starts, and how tightly it binds.
+// The texts of the values held: the line that ends with them, how many, where each starts and the last ends, and how tightly each binds.
 pub struct Held {
+    pub line: Line,
     pub count: usize,
-    pub at: usize,
-    pub starts: [usize; 17],
+    pub starts: [usize; 18],
     pub levels: [u8; 17],
 }
 
-// No value, in a line that ends at an offset.
-pub fn none_held(at: usize) -> Held {
+// No value, behind a line.
+pub fn none_held(l: Line) -> Held {
+    let mut starts = [0usize; 18];
+    starts[0] = l.at;
     Held {
+        line: l,
         count: 0,
-        at: at,
-        starts: [0usize; 17],
+        starts: starts,
         levels: [0u8; 17],
     }
 }
 
-// Where the text of the value that is k before the last starts; 0 where there is none.
+// Where the texts of the last k values start.
 pub fn start_of(h: Held, k: usize) -> usize {
-    let n = h.count;
     let starts = h.starts;
-    if n <= k {
-        return 0;
-    }
-    let i = n - k - 1;
-    if i < 17 { starts[i] } else { 0 }
+    let i = less(h.count, k);
+    if i < 18 { starts[i] } else { 0 }
 }
 
-// How tightly that text binds.
+// How tightly the text of the first of the last k values binds.
 fn level_of(h: Held, k: usize) -> u8 {
-    let n = h.count;
     let levels = h.levels;
-    if n <= k {
-        return TIGHTEST;
-    }
-    let i = n - k - 1;
+    let i = less(h.count, k);
     if i < 17 { levels[i] } else { TIGHTEST }
 }
 
-// One value more, whose text goes up to an offset. Past the seventeenth, which a sound unit never holds, none is kept.
-fn held_more(h: Held, at: usize) -> Held {
+// The line without the texts of the last k values.
+fn line_before(h: Held, k: usize) -> Line {
+    cut(h.line, start_of(h, k))
+}
+
+// The last k values made one, whose text the line now ends with; one value more where k is 0. Past the seventeenth, which a sound unit
+// never holds, none is kept.
+fn hold(h: Held, k: usize, l: Line, level: u8) -> Held {
     let mut next = h;
-    let n = h.count;
-    next.at = at;
-    if n < 17 {
-        next.starts[n] = h.at;
-        next.levels[n] = TIGHTEST;
-        next.count = n + 1;
+    let i = less(h.count, k);
+    next.line = l;
+    if i < 17 {
+        next.starts[i + 1] = l.at;
+        next.levels[i] = level;
+        next.count = i + 1;
     }
     next
 }
 
-// The last values made one, whose text goes up to an offset: `fewer` of them go.
-fn held_joined(h: Held, fewer: usize, at: usize, level: u8) -> Held {
-    let mut next = h;
-    let n = h.count;
-    next.at = at;
-    if n <= fewer {
-        return next;
-    }
-    let k = n - fewer;
-    next.count = k;
-    if k < 18 {
-        next.levels[k - 1] = level;
-    }
-    next
+// Puts the text of the first of the last k values.
+fn put_held(l: Line, h: Held, k: usize) -> Line {
+    put_between(l, h.line, start_of(h, k), start_of(h, less(k, 1)))
 }
 
-// Puts the text between two offsets in brackets, if it is asked.
-fn bracket(t: &mut [u8], from: usize, to: usize, at: usize, asked: bool) -> usize {
+// Puts that text, in brackets if it is asked.
+fn put_value(l: Line, h: Held, k: usize, asked: bool) -> Line {
     if asked {
-        let next = insert(t, to, at, b')');
-        return insert(t, from, next, b'(');
+        let next = put_held(put(l, b'('), h, k);
+        return put(next, b')');
     }
-    at
+    put_held(l, h, k)
 }
 
 // ---- literals and names
@@ -116,9 +110,9 @@ fn digit_of(n: u8) -> u8 {
     b'?'
 }
 
-pub fn put_hex(t: &mut [u8], at: usize, b: u8) -> usize {
-    let next = put(t, at, digit_of(b / 16));
-    put(t, next, digit_of(b % 16))
+pub fn put_hex(l: Line, b: u8) -> Line {
+    let next = put(l, digit_of(b / 16));
+    put(next, digit_of(b % 16))
 }
 
 // Whether a byte of a quoted text has a backslash before it.
@@ -130,32 +124,29 @@ fn is_marked(b: u8) -> bool {
 }
 
 // Puts a byte as it stands in a quoted text.
-fn put_quoted_byte(t: &mut [u8], at: usize, b: u8) -> usize {
+fn put_quoted_byte(l: Line, b: u8) -> Line {
     if shown(b) != b {
-        let next = put_text(t, at, b"\\x");
-        return put_hex(t, next, b);
+        return put_hex(put_text(l, b"\\x"), b);
     }
     if is_marked(b) {
-        let next = put(t, at, b'\\');
-        return put(t, next, b);
+        return put(put(l, b'\\'), b);
     }
-    put(t, at, b)
+    put(l, b)
 }
 
-fn put_quoted(t: &mut [u8], at: usize, s: &[u8]) -> usize {
-    let mut next = at;
+fn put_quoted(l: Line, s: &[u8]) -> Line {
+    let mut next = l;
     let mut i = 0;
     while i < s.len() {
-        next = put_quoted_byte(t, next, s[i]);
+        next = put_quoted_byte(next, s[i]);
         i += 1;
     }
     next
 }
 
-fn put_literal(t: &mut [u8], at: usize, s: &[u8]) -> usize {
-    let mut next = put(t, at, b'"');
-    next = put_quoted(t, next, s);
-    put(t, next, b'"')
+fn put_literal(l: Line, s: &[u8]) -> Line {
+    let next = put_quoted(put(l, b'"'), s);
+    put(next, b'"')
 }
 
 // The number of a field's kind.
@@ -168,37 +159,14 @@ pub fn kind_number(kind: Kind) -> u8 {
     }
 }
 
-// Inserts the name of a field.
-pub fn insert_name(
-    t: &mut [u8],
-    from: usize,
-    at: usize,
-    unit: &[u8],
-    parts: Parts,
-    i: u16,
-) -> usize {
-    let mut digits = [0u8; 20];
-    let k = io::decimal(i as u64, &mut digits);
-    let next = insert_text(t, from, at, &digits[..k]);
-    let field = field_of(unit, parts, i);
+// Puts the name of a field.
+pub fn put_name(l: Line, field: Field, i: u16) -> Line {
     let kind = field.kind;
-    let letter = byte_at(b"ADRF", kind_number(kind) as usize);
-    insert(t, from, next, letter)
-}
-
-pub fn put_name(t: &mut [u8], at: usize, unit: &[u8], parts: Parts, i: u16) -> usize {
-    insert_name(t, at, at, unit, parts, i)
+    let next = put(l, byte_at(b"ADRF", kind_number(kind) as usize));
+    put_number(next, i as u64)
 }
 
 // ---- references
-
-fn hold_element(t: &mut [u8], h: Held, unit: &[u8], parts: Parts, i: u16) -> Held {
-    let from = start_of(h, 0);
-    let mut at = put(t, h.at, b')');
-    at = insert(t, from, at, b'(');
-    at = insert_name(t, from, at, unit, parts, i);
-    held_joined(h, 0, at, TIGHTEST)
-}
 
 // What stands between the two bounds of a reference.
 fn between(how: How) -> u8 {
@@ -210,25 +178,25 @@ fn between(how: How) -> u8 {
     }
 }
 
-fn hold_bounds(t: &mut [u8], h: Held, unit: &[u8], parts: Parts, how: How, i: u16) -> Held {
-    let from = start_of(h, 1);
-    let mut at = put(t, h.at, b')');
-    at = insert(t, start_of(h, 0), at, between(how));
-    at = insert(t, from, at, b'(');
-    at = insert_name(t, from, at, unit, parts, i);
-    held_joined(h, 1, at, TIGHTEST)
+// Puts the last two values as the bounds of a reference.
+fn put_bounds(l: Line, h: Held, how: How) -> Line {
+    let mut next = put(l, b'(');
+    next = put_held(next, h, 2);
+    next = put(next, between(how));
+    next = put_held(next, h, 1);
+    put(next, b')')
 }
 
-fn hold_reference(t: &mut [u8], h: Held, unit: &[u8], parts: Parts, how: How, i: u16) -> Held {
-    let taken = sorts::how_takes(how);
-    if taken == 0 {
-        let at = put_name(t, h.at, unit, parts, i);
-        return held_more(h, at);
-    }
+fn hold_reference(h: Held, unit: &[u8], parts: Parts, how: How, i: u16) -> Held {
+    let taken = sorts::how_takes(how) as usize;
+    let mut l = put_name(line_before(h, taken), field_of(unit, parts, i), i);
     if taken == 1 {
-        return hold_element(t, h, unit, parts, i);
+        l = put_value(l, h, 1, true);
     }
-    hold_bounds(t, h, unit, parts, how, i)
+    if taken == 2 {
+        l = put_bounds(l, h, how);
+    }
+    hold(h, taken, l, TIGHTEST)
 }
 
 // ---- operators
@@ -262,106 +230,99 @@ fn level_by(op: Op) -> u8 {
     level % 16
 }
 
-// Inserts an operator's sign.
-fn insert_sign(t: &mut [u8], from: usize, at: usize, op: Op) -> usize {
-    let mut space = [0u8; 8];
-    let sign: &mut [u8] = &mut space;
+// Puts an operator's sign.
+fn put_sign(l: Line, op: Op) -> Line {
     let signs =
         b" + | - | * | / | # |-| .EQ. | .NE. | .GT. | .LT. | .GE. | .LE. |.NOT. | .AND. | .OR. | .XOR. |";
-    let n = put_piece(sign, 0, signs, operator_number(op));
-    insert_text(t, from, at, part(sign, 0, n))
+    put_text(l, piece(signs, operator_number(op)))
 }
 
 // An operator of one value: its sign stands before.
-fn hold_alone(t: &mut [u8], h: Held, op: Op) -> Held {
+fn hold_alone(h: Held, op: Op) -> Held {
     let level = level_by(op);
-    let from = start_of(h, 0);
-    let mut at = bracket(t, from, h.at, h.at, level_of(h, 0) < level);
-    at = insert_sign(t, from, at, op);
-    held_joined(h, 0, at, level)
+    let mut l = put_sign(line_before(h, 1), op);
+    l = put_value(l, h, 1, level_of(h, 1) < level);
+    hold(h, 1, l, level)
 }
 
 // An operator of two values: its sign stands between them.
-fn hold_joined(t: &mut [u8], h: Held, op: Op) -> Held {
+fn hold_joined(h: Held, op: Op) -> Held {
     let level = level_by(op);
-    let left = start_of(h, 1);
-    let right = start_of(h, 0);
-    let mut at = bracket(t, right, h.at, h.at, level_of(h, 0) <= level);
-    at = insert_sign(t, right, at, op);
-    at = bracket(t, left, right, at, level_of(h, 1) < level);
-    held_joined(h, 1, at, level)
+    let mut l = put_value(line_before(h, 2), h, 2, level_of(h, 2) < level);
+    l = put_sign(l, op);
+    l = put_value(l, h, 1, level_of(h, 1) <= level);
+    hold(h, 2, l, level)
 }
 
-fn hold_operator(t: &mut [u8], h: Held, op: Op) -> Held {
+fn hold_operator(h: Held, op: Op) -> Held {
     if sorts::op_takes(op) == 1 {
-        return hold_alone(t, h, op);
+        return hold_alone(h, op);
     }
-    hold_joined(t, h, op)
+    hold_joined(h, op)
 }
 
 // ---- expressions
 
 // The values held after an item.
-pub fn hold_item(t: &mut [u8], h: Held, unit: &[u8], parts: Parts, item: Item) -> Held {
+pub fn hold_item(h: Held, unit: &[u8], parts: Parts, item: Item) -> Held {
+    let line = h.line;
     match item {
         Item::Number { place, len } => {
-            let at = put_text(t, h.at, literal_of(unit, parts, place, len));
-            held_more(h, at)
+            let l = put_text(line, literal_of(unit, parts, place, len));
+            hold(h, 0, l, TIGHTEST)
         }
-        Item::Reference { how, field } => hold_reference(t, h, unit, parts, how, field),
+        Item::Reference { how, field } => hold_reference(h, unit, parts, how, field),
         Item::Text { place, len } => {
-            let at = put_literal(t, h.at, literal_of(unit, parts, place, len));
-            held_more(h, at)
+            let l = put_literal(line, literal_of(unit, parts, place, len));
+            hold(h, 0, l, TIGHTEST)
         }
-        Item::Operator(op) => hold_operator(t, h, op),
-        Item::End => h,
-        Item::Bad => h,
+        Item::Operator(op) => hold_operator(h, op),
+        Item::End | Item::Bad => h,
     }
 }
 
 // Whether an expression ends with an item.
 pub fn is_end(item: Item) -> bool {
     match item {
-        Item::Number { place: _, len: _ } => false,
-        Item::Reference { how: _, field: _ } => false,
-        Item::Text { place: _, len: _ } => false,
-        Item::Operator(_) => false,
-        Item::End => true,
-        Item::Bad => true,
+        Item::Number { place: _, len: _ } | Item::Text { place: _, len: _ } => false,
+        Item::Reference { how: _, field: _ } | Item::Operator(_) => false,
+        Item::End | Item::Bad => true,
     }
 }
 
-// Where the text of an expression ends. Where the line was too short for it, two dots follow the first value of those held.
-fn text_end(t: &mut [u8], h: Held) -> usize {
-    if h.at < t.len() {
-        return h.at;
+// The line of the values held. Where it was too short for the expression, two dots follow the first value.
+fn line_of(h: Held) -> Line {
+    let line = h.line;
+    if line.at < ROOM {
+        return line;
     }
-    if h.count < 2 {
-        return h.at;
-    }
-    let starts = h.starts;
-    put_text(t, starts[1], b"..")
+    put_text(line_before(h, less(h.count, 1)), b"..")
 }
 
-// Puts the expression at an offset of the expressions. It has at most as many items as bytes; a full line is not gone on with.
-pub fn put_expression(t: &mut [u8], at: usize, unit: &[u8], parts: Parts, e: u16) -> usize {
+// Whether an expression is not gone on with at an item: it ends, or the line is full.
+fn is_done(h: Held, item: Item) -> bool {
+    if is_end(item) {
+        return true;
+    }
+    ROOM <= start_of(h, 0)
+}
+
+// Puts the expression at an offset of the expressions. It has at most as many items as bytes.
+pub fn put_expression(l: Line, unit: &[u8], parts: Parts, e: u16) -> Line {
     let es = crate::parts::expressions_of(unit, parts);
-    let mut h = none_held(at);
+    let mut h = none_held(l);
     let mut from = e as usize;
     let mut left = es.len();
     while 0 < left {
         let item = decode::item_at(es, from);
-        if is_end(item) {
-            return text_end(t, h);
+        if is_done(h, item) {
+            break;
         }
-        if t.len() <= h.at {
-            return text_end(t, h);
-        }
-        h = hold_item(t, h, unit, parts, item);
+        h = hold_item(h, unit, parts, item);
         from = sum(from, decode::width_of(item));
         left -= 1;
     }
-    text_end(t, h)
+    line_of(h)
 }
 
 // ---- statements
@@ -395,65 +356,54 @@ fn statement_number(s: Statement) -> u8 {
 }
 
 // The target of a statement, or how many targets it has; 0 where it has none.
-fn last_number(s: Statement) -> u64 {
+fn last_number(s: Statement) -> u16 {
     match s {
+        Statement::Goto { target } => target,
+        Statement::IfZero { number: _, target } => target,
+        Statement::Call { target } => target,
+        Statement::Computed { count, number: _ } => count,
         Statement::Set {
             place: _,
             source: _,
-        } => 0,
-        Statement::Clear { place: _ } => 0,
-        Statement::Incr { place: _ } => 0,
-        Statement::Decr { place: _ } => 0,
-        Statement::Upcase { place: _ } => 0,
-        Statement::Locase { place: _ } => 0,
-        Statement::Goto { target } => target as u64,
-        Statement::IfZero { number: _, target } => target as u64,
-        Statement::Call { target } => target as u64,
-        Statement::Return => 0,
-        Statement::Stop => 0,
-        Statement::Computed { count, number: _ } => count as u64,
-        Statement::Bad => 0,
+        }
+        | Statement::Clear { place: _ }
+        | Statement::Incr { place: _ }
+        | Statement::Decr { place: _ }
+        | Statement::Upcase { place: _ }
+        | Statement::Locase { place: _ }
+        | Statement::Return
+        | Statement::Stop
+        | Statement::Bad => 0,
     }
 }
 
-// Puts a form that belongs to a statement's number k.
-fn put_piece_of(t: &mut [u8], at: usize, pieces: &[u8], k: u8, n: u64) -> usize {
-    let mut space = [0u8; 10];
-    let form: &mut [u8] = &mut space;
-    let len = put_piece(form, 0, pieces, k);
-    put_form(t, at, part(form, 0, len), n, 0)
-}
-
 // Puts the expression of a use, if there is one.
-fn put_use(t: &mut [u8], at: usize, unit: &[u8], parts: Parts, u: Use) -> usize {
+fn put_use(l: Line, unit: &[u8], parts: Parts, u: Use) -> Line {
     match u {
-        Use::Nothing => at,
+        Use::Nothing => l,
         Use::Of {
             want: _,
             at: e,
             written: _,
-        } => put_expression(t, at, unit, parts, e),
+        } => put_expression(l, unit, parts, e),
     }
 }
 
 // Puts the statement i: its word, its first expression, what follows that, and its second expression.
-pub fn put_statement(t: &mut [u8], at: usize, unit: &[u8], parts: Parts, i: u16) -> usize {
+pub fn put_statement(l: Line, unit: &[u8], parts: Parts, i: u16) -> Line {
     let s = statement_of(unit, parts, i);
     let k = statement_number(s);
-    let n = last_number(s);
+    let n = last_number(s) as u64;
     let words =
         b"set |clear |incr |decr |upcase |locase |goto L#|ifzero |call L#|return|stop|computed |none|";
-    let mut next = put_piece_of(t, at, words, k, n);
-    next = put_use(t, next, unit, parts, uses::use_at(s, 0));
-    next = put_piece_of(t, next, b" = ||||||| goto L#|||| of #||", k, n);
-    put_use(t, next, unit, parts, uses::use_at(s, 1))
+    let mut next = put_form(l, piece(words, k), n, 0);
+    next = put_use(next, unit, parts, uses::use_at(s, 0));
+    next = put_form(next, piece(b" = ||||||| goto L#|||| of #||", k), n, 0);
+    put_use(next, unit, parts, uses::use_at(s, 1))
 }
 
 // The statement i as text, with its number.
 pub fn say_statement(unit: &[u8], parts: Parts, i: u16) {
-    let mut space = [0u8; 500];
-    let t: &mut [u8] = &mut space;
-    let mut at = put_form(t, 0, b"statement #: ", i as u64, 0);
-    at = put_statement(t, at, unit, parts, i);
-    say_line(t, at);
+    let l = put_form(new_line(), b"statement #: ", i as u64, 0);
+    say_line(put_statement(l, unit, parts, i));
 }

@@ -1,6 +1,8 @@
 // `boxlever run FILE`: what the bench program writes of the unit; then the stop in words, and what the fields hold after the run.
 use crate::list::say_fields;
 use crate::phrase::say_statement;
+use crate::say::Line;
+use crate::say::new_line;
 use crate::say::put_form;
 use crate::say::put_number;
 use crate::say::put_text;
@@ -14,28 +16,22 @@ use rules_unit::Refusal;
 
 // The bench program's first line.
 fn say_numbers(number: u8, place: u16, count: u64) {
-    let mut space = [0u8; 100];
-    let t: &mut [u8] = &mut space;
-    let mut at = put_form(t, 0, b"# # ", number as u64, place as u64);
-    at = put_number(t, at, count);
-    say_line(t, at);
+    let l = put_form(new_line(), b"# # ", number as u64, place as u64);
+    say_line(put_number(l, count));
 }
 
 // Puts a stop and how many statements were completed.
-fn put_count(t: &mut [u8], at: usize, number: u8, count: u64) -> usize {
+fn put_count(l: Line, number: u8, count: u64) -> Line {
     if count == 1 {
-        return put_form(t, at, b"stop # after # statement: ", number as u64, count);
+        return put_form(l, b"stop # after # statement: ", number as u64, count);
     }
-    put_form(t, at, b"stop # after # statements: ", number as u64, count)
+    put_form(l, b"stop # after # statements: ", number as u64, count)
 }
 
 // The stop of a run in words.
 fn say_stop(number: u8, count: u64) {
-    let mut space = [0u8; 200];
-    let t: &mut [u8] = &mut space;
-    let mut at = put_count(t, 0, number, count);
-    at = put_stop(t, at, number);
-    say_line(t, at);
+    let l = put_count(new_line(), number, count);
+    say_line(put_stop(l, number));
 }
 
 // The statement that could not be completed, or that would be the next; there is none at the end.
@@ -45,18 +41,29 @@ fn say_place(unit: &[u8], parts: Parts, place: u16) {
     }
 }
 
+// What is said of a run that is over.
+fn say_run(unit: &[u8], parts: Parts, data: &[u8], number: u8, place: u16, count: u64) {
+    say_numbers(number, place, count);
+    say(data);
+    say(b"\n");
+    say_stop(number, count);
+    say_place(unit, parts, place);
+    say_fields(unit, parts, data);
+}
+
 // Runs a unit over its data, which starts as its image, the first bytes of the unit.
 fn run_data(unit: &[u8], parts: Parts, data: &mut [u8]) {
     letters::fit(data, unit);
     let out = dibol::run(unit, data, dibol::start(), 100000);
     let stop = out.stop;
-    let number = dibol::stop_number(stop);
-    say_numbers(number, out.place, out.count);
-    say(data);
-    say(b"\n");
-    say_stop(number, out.count);
-    say_place(unit, parts, out.place);
-    say_fields(unit, parts, data);
+    say_run(
+        unit,
+        parts,
+        data,
+        dibol::stop_number(stop),
+        out.place,
+        out.count,
+    );
 }
 
 // Runs a unit that passes its check.
@@ -68,15 +75,12 @@ fn run_unit(unit: &[u8], parts: Parts) {
 
 // Of a unit that is refused there is the first line and the reason.
 fn say_refused(r: Refusal) {
-    let mut space = [0u8; 200];
-    let t: &mut [u8] = &mut space;
     let number = rules_unit::refusal_number(r);
     say_numbers(number, rules_unit::refusal_place(r), 0);
-    let mut at = put_form(t, 0, b"stop #", number as u64, 0);
-    at = put_place(t, at, r);
-    at = put_text(t, at, b": ");
-    at = put_stop(t, at, number);
-    say_line(t, at);
+    let mut l = put_form(new_line(), b"stop #", number as u64, 0);
+    l = put_place(l, r);
+    l = put_text(l, b": ");
+    say_line(put_stop(l, number));
 }
 
 pub fn answer(unit: &[u8]) {

@@ -1,5 +1,14 @@
-// What every word of the program writes by. A line is made in a buffer, from the left: each function that puts something there takes the
-// offset to put it at and answers the offset behind it. Nothing is put past the buffer's end; a line that reaches it is cut.
+// What every word of the program writes by. A line in the making is a value: each function that puts something takes the line so far and
+// answers the line with that behind it, and `say_line` writes the whole. A line has room for so many bytes; a full one takes no more.
+
+// The bytes that a line has room for.
+pub const ROOM: usize = 600;
+
+// A line in the making: its bytes up to `at`.
+pub struct Line {
+    pub at: usize,
+    pub text: [u8; 600],
+}
 
 pub fn say(s: &[u8]) {
     let done = io::write_all(libc::STDOUT_FILENO, s);
@@ -80,62 +89,7 @@ pub fn part(s: &[u8], at: usize, len: usize) -> &[u8] {
     &s[at..end]
 }
 
-// Writes a byte at an offset, or nothing past the end.
-pub fn set(t: &mut [u8], at: usize, b: u8) {
-    if at < t.len() {
-        t[at] = b;
-    }
-}
-
-pub fn put(t: &mut [u8], at: usize, b: u8) -> usize {
-    if at < t.len() {
-        t[at] = b;
-        return at + 1;
-    }
-    t.len()
-}
-
-pub fn put_text(t: &mut [u8], at: usize, s: &[u8]) -> usize {
-    let mut next = at;
-    let mut i = 0;
-    while i < s.len() {
-        next = put(t, next, s[i]);
-        i += 1;
-    }
-    next
-}
-
-pub fn put_number(t: &mut [u8], at: usize, n: u64) -> usize {
-    let mut digits = [0u8; 20];
-    let k = io::decimal(n, &mut digits);
-    put_text(t, at, &digits[..k])
-}
-
-// Puts a byte of a form: a # stands for a number.
-fn put_formed(t: &mut [u8], at: usize, b: u8, n: u64) -> usize {
-    if b == b'#' {
-        return put_number(t, at, n);
-    }
-    put(t, at, b)
-}
-
-// The number that the next # stands for, after a byte.
-fn number_after(b: u8, n: u64, y: u64) -> u64 {
-    if b == b'#' { y } else { n }
-}
-
-// Puts a form, in which the first # stands for x and any later one for y.
-pub fn put_form(t: &mut [u8], at: usize, form: &[u8], x: u64, y: u64) -> usize {
-    let mut next = at;
-    let mut n = x;
-    let mut i = 0;
-    while i < form.len() {
-        next = put_formed(t, next, form[i], n);
-        n = number_after(form[i], n, y);
-        i += 1;
-    }
-    next
-}
+// ---- pieces
 
 // How many pieces are left to pass after a byte.
 fn left_after(left: u8, b: u8) -> u8 {
@@ -145,7 +99,7 @@ fn left_after(left: u8, b: u8) -> u8 {
     if left == 0 { 0 } else { left - 1 }
 }
 
-// Where the piece k of a text starts in which a bar ends each piece.
+// Where the piece k starts.
 fn piece_at(pieces: &[u8], k: u8) -> usize {
     let mut left = k;
     let mut i = 0;
@@ -159,37 +113,110 @@ fn piece_at(pieces: &[u8], k: u8) -> usize {
     i
 }
 
-// Puts the piece k.
-pub fn put_piece(t: &mut [u8], at: usize, pieces: &[u8], k: u8) -> usize {
-    let mut next = at;
-    let mut i = piece_at(pieces, k);
+// Where the piece ends that an offset is in.
+fn piece_end(pieces: &[u8], from: usize) -> usize {
+    let mut i = from;
     while i < pieces.len() {
         if pieces[i] == b'|' {
-            return next;
+            return i;
         }
-        next = put(t, next, pieces[i]);
+        i += 1;
+    }
+    i
+}
+
+// The piece k of a text in which a bar ends each piece.
+pub fn piece(pieces: &[u8], k: u8) -> &[u8] {
+    let from = piece_at(pieces, k);
+    let end = piece_end(pieces, from);
+    part(pieces, from, less(end, from))
+}
+
+// ---- lines
+
+// A line with nothing in it.
+pub fn new_line() -> Line {
+    Line {
+        at: 0,
+        text: [0u8; 600],
+    }
+}
+
+// The line up to an offset.
+pub fn cut(l: Line, at: usize) -> Line {
+    let mut next = l;
+    next.at = at;
+    next
+}
+
+pub fn put(l: Line, b: u8) -> Line {
+    let mut next = l;
+    let at = l.at;
+    if at < ROOM {
+        next.text[at] = b;
+        next.at = at + 1;
+    }
+    next
+}
+
+pub fn put_text(l: Line, s: &[u8]) -> Line {
+    let mut next = l;
+    let mut i = 0;
+    while i < s.len() {
+        next = put(next, s[i]);
+        i += 1;
+    }
+    next
+}
+
+pub fn put_number(l: Line, n: u64) -> Line {
+    let mut digits = [0u8; 20];
+    let k = io::decimal(n, &mut digits);
+    put_text(l, &digits[..k])
+}
+
+// Puts a byte of a form: a # stands for a number.
+fn put_formed(l: Line, b: u8, n: u64) -> Line {
+    if b == b'#' {
+        return put_number(l, n);
+    }
+    put(l, b)
+}
+
+// The number that the next # stands for, after a byte.
+fn number_after(b: u8, n: u64, y: u64) -> u64 {
+    if b == b'#' { y } else { n }
+}
+
+// Puts a form, in which the first # stands for x and any later one for y.
+pub fn put_form(l: Line, form: &[u8], x: u64, y: u64) -> Line {
+    let mut next = l;
+    let mut n = x;
+    let mut i = 0;
+    while i < form.len() {
+        next = put_formed(next, form[i], n);
+        n = number_after(form[i], n, y);
         i += 1;
     }
     next
 }
 
 // Puts spaces up to a column.
-pub fn fill_to(t: &mut [u8], at: usize, column: usize) -> usize {
-    let mut next = at;
-    let mut i = at;
+pub fn fill_to(l: Line, column: usize) -> Line {
+    let mut next = l;
+    let mut i = l.at;
     while i < column {
-        next = put(t, next, b' ');
+        next = put(next, b' ');
         i += 1;
     }
     next
 }
 
 // Puts a number that ends before a column.
-pub fn put_right(t: &mut [u8], at: usize, n: u64, column: usize) -> usize {
-    let mut digits = [0u8; 20];
-    let k = io::decimal(n, &mut digits);
-    let from = fill_to(t, at, less(column, k));
-    put_text(t, from, &digits[..k])
+pub fn put_right(l: Line, n: u64, column: usize) -> Line {
+    let figures = put_number(new_line(), n);
+    let next = fill_to(l, less(column, figures.at));
+    put_number(next, n)
 }
 
 // A byte as it is shown: a dot for what cannot be printed.
@@ -204,46 +231,34 @@ pub fn shown(b: u8) -> u8 {
 }
 
 // Puts a text as it is shown.
-pub fn put_shown(t: &mut [u8], at: usize, s: &[u8]) -> usize {
-    let mut next = at;
+pub fn put_shown(l: Line, s: &[u8]) -> Line {
+    let mut next = l;
     let mut i = 0;
     while i < s.len() {
-        next = put(t, next, shown(s[i]));
+        next = put(next, shown(s[i]));
         i += 1;
     }
     next
 }
 
-// Moves the bytes from an offset on up to the end of what is put one up, and writes b before them.
-pub fn insert(t: &mut [u8], from: usize, at: usize, b: u8) -> usize {
-    let mut i = at;
-    while from < i {
-        let before = byte_at(t, i - 1);
-        set(t, i, before);
-        i -= 1;
-    }
-    set(t, from, b);
-    least(sum(at, 1), t.len())
+// Puts the bytes of another line between two offsets.
+pub fn put_between(l: Line, other: Line, from: usize, to: usize) -> Line {
+    let text = other.text;
+    put_text(l, part(&text, from, less(to, from)))
 }
 
-// Inserts a text, its last byte first.
-pub fn insert_text(t: &mut [u8], from: usize, at: usize, s: &[u8]) -> usize {
-    let mut next = at;
-    let mut i = s.len();
-    while 0 < i {
-        i -= 1;
-        next = insert(t, from, next, s[i]);
-    }
-    next
+// Writes the line that is made, without an end.
+pub fn say_text(l: Line) {
+    let text = l.text;
+    say(part(&text, 0, l.at));
 }
 
-// Writes the line that is made. One that is cut ends in two dots.
-pub fn say_line(t: &[u8], at: usize) {
-    if at < t.len() {
-        say(part(t, 0, at));
-        say(b"\n");
+// Writes the line that is made. A full one ends in two dots.
+pub fn say_line(l: Line) {
+    if l.at < ROOM {
+        say_text(put(l, b'\n'));
         return;
     }
-    say(t);
+    say_text(l);
     say(b"..\n");
 }

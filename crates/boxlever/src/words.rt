@@ -1,19 +1,18 @@
 // Stops and breaches in words, each one sentence without its full stop.
-use crate::say::byte_at;
+use crate::say::Line;
+use crate::say::ROOM;
 use crate::say::part;
+use crate::say::piece;
 use crate::say::put_form;
-use crate::say::put_piece;
 use crate::say::put_text;
-use crate::say::set;
 use rules_fence::Breach;
 use rules_unit::Refusal;
 
 // The words of a stop's number.
-pub fn put_stop(t: &mut [u8], at: usize, number: u8) -> usize {
-    let mut space = [0u8; 100];
-    let words: &mut [u8] = &mut space;
-    let n = dibol::words(number as u64, words);
-    put_text(t, at, part(words, 0, n))
+pub fn put_stop(l: Line, number: u8) -> Line {
+    let mut words = [0u8; 100];
+    let n = dibol::words(number as u64, &mut words);
+    put_text(l, part(&words, 0, n))
 }
 
 // A capital as a small letter.
@@ -28,36 +27,38 @@ fn small(b: u8) -> u8 {
 }
 
 // Why a unit is refused, inside a line: the words begin with a small letter.
-pub fn put_refusal(t: &mut [u8], at: usize, r: Refusal) -> usize {
-    let next = put_stop(t, at, rules_unit::refusal_number(r));
-    let first = byte_at(t, at);
-    set(t, at, small(first));
+pub fn put_refusal(l: Line, r: Refusal) -> Line {
+    let mut next = put_stop(l, rules_unit::refusal_number(r));
+    let text = next.text;
+    let at = l.at;
+    if at < ROOM {
+        next.text[at] = small(text[at]);
+    }
     next
 }
 
 // What a refusal's place is the number of, if it names one.
-pub fn put_place(t: &mut [u8], at: usize, r: Refusal) -> usize {
+pub fn put_place(l: Line, r: Refusal) -> Line {
     match r {
-        Refusal::NotFilled => at,
-        Refusal::BadRange => at,
-        Refusal::BadField(i) => put_form(t, at, b" at field #", i as u64, 0),
+        Refusal::NotFilled | Refusal::BadRange => l,
+        Refusal::BadField(i) => put_form(l, b" at field #", i as u64, 0),
         Refusal::BadExpression(i) | Refusal::BadStatement(i) => {
-            put_form(t, at, b" at statement #", i as u64, 0)
+            put_form(l, b" at statement #", i as u64, 0)
         }
     }
 }
 
 // A refusal with its number and place.
-pub fn put_refused(t: &mut [u8], at: usize, r: Refusal) -> usize {
+pub fn put_refused(l: Line, r: Refusal) -> Line {
     let number = rules_unit::refusal_number(r) as u64;
     let place = rules_unit::refusal_place(r) as u64;
-    let next = put_form(t, at, b"refused # at #: ", number, place);
-    put_refusal(t, next, r)
+    let next = put_form(l, b"refused # at #: ", number, place);
+    put_refusal(next, r)
 }
 
 // The fence rule that a statement breaks, in the order of the breaches' numbers.
-pub fn put_breach(t: &mut [u8], at: usize, b: Breach) -> usize {
+pub fn put_breach(l: Line, b: Breach) -> Line {
     let rules =
         b"no rule is broken|a bound is not a literal|the bounds give 21|a span leaves its field|a decimal span is not in one element|a decimal destination ends inside its element|an alpha destination shares a byte with a decimal field|";
-    put_piece(t, at, rules, dibol::breach_number(b))
+    put_text(l, piece(rules, dibol::breach_number(b)))
 }

@@ -1,4 +1,4 @@
--- `boxlever::check::name_at` meets its contract: it goes back from the end.
+-- `boxlever::check::name_at` ends: it goes back from the end.
 -- The invariant: i is at most the length. The measure: i. Assumes nothing.
 use Prim.Native.Nat.{_≤_}
 use borrow.Author.Needs.{needs}

@@ -1,31 +1,26 @@
 -- `boxlever::fence::say_references` ends: each turn takes one item.
--- The invariant: the line keeps its length. The measure: the items that may be left. Assumes nothing.
-use mathlib.Core.Path.{_≡_}
+-- The invariant: nothing is kept. The measure: the items that may be left. Assumes nothing.
 use borrow.Author.Needs.{needs}
-use lib.ListN.{length}
 use Rattle.boxlever.proofs.fence.say_references.Statement.{statement}
 use Rattle.boxlever.proofs.fence.say_references.Tie as tie
 
 abbrev Inv-loop : tie.InvT-loop
-Inv-loop unit parts e written es t₀ h₀ k₀ from₀ left₀ t h k from left = length t ≡ length t₀
+Inv-loop unit parts e written es h₀ k₀ from₀ left₀ h k from left = Unit {0}
 
 abbrev μ-loop : tie.MeasureT-loop
-μ-loop unit parts e written es t₀ h₀ k₀ from₀ left₀ t h k from left = left
+μ-loop unit parts e written es h₀ k₀ from₀ left₀ h k from left = left
 
 expressions-of-requires : tie.Need-expressions-of-requires Inv-loop μ-loop
 expressions-of-requires c κs = search needs
 
-slice-aggregate-t : tie.Need-slice-aggregate-t Inv-loop μ-loop
-slice-aggregate-t c = search needs
+new-line-requires : tie.Need-new-line-requires Inv-loop μ-loop
+new-line-requires c κs = search needs
 
 none-held-requires : tie.Need-none-held-requires Inv-loop μ-loop
 none-held-requires c κs = search needs
 
 nothing-known-requires : tie.Need-nothing-known-requires Inv-loop μ-loop
 nothing-known-requires c κs = search needs
-
-long-requires : tie.Need-long-requires Inv-loop μ-loop
-long-requires c κs = search needs
 
 loop-holds : tie.Need-loop-holds Inv-loop μ-loop
 loop-holds c = search needs
@@ -73,10 +68,9 @@ say-references-spec =
     Inv-loop
     μ-loop
     expressions-of-requires
-    slice-aggregate-t
+    new-line-requires
     none-held-requires
     nothing-known-requires
-    long-requires
     loop-holds
     item-at-requires
     is-end-requires

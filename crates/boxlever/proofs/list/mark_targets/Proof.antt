@@ -22,8 +22,8 @@ statement-of-requires c κs = search needs
 target-of-requires : tie.Need-target-of-requires Inv-loop μ-loop
 target-of-requires c κs = search needs
 
-long-requires : tie.Need-long-requires Inv-loop μ-loop
-long-requires c κs = search needs
+cast-set : tie.Need-cast-set Inv-loop μ-loop
+cast-set c = search needs
 
 set-requires : tie.Need-set-requires Inv-loop μ-loop
 set-requires c κs = search needs
@@ -52,7 +52,7 @@ mark-targets-spec =
     loop-holds
     statement-of-requires
     target-of-requires
-    long-requires
+    cast-set
     set-requires
     add-i
     loop-less

@@ -23,12 +23,6 @@ widest-requires c κs = search needs
 sum-requires : tie.Need-sum-requires Inv-loop μ-loop
 sum-requires c κs = search needs
 
-slice-aggregate-say : tie.Need-slice-aggregate-say Inv-loop μ-loop
-slice-aggregate-say c = search needs
-
-say-requires : tie.Need-say-requires Inv-loop μ-loop
-say-requires c κs = search needs
-
 say-field-head-requires : tie.Need-say-field-head-requires Inv-loop μ-loop
 say-field-head-requires c κs = search needs
 
@@ -60,8 +54,6 @@ say-fields-spec =
     add-sum
     widest-requires
     sum-requires
-    slice-aggregate-say
-    say-requires
     say-field-head-requires
     loop-holds
     say-field-requires

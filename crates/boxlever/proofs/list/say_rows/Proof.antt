@@ -14,8 +14,8 @@ abbrev μ-loop : tie.MeasureT-loop
 loop-holds : tie.Need-loop-holds Inv-loop μ-loop
 loop-holds c = search needs
 
-long-requires : tie.Need-long-requires Inv-loop μ-loop
-long-requires c κs = search needs
+cast-byte-at : tie.Need-cast-byte-at Inv-loop μ-loop
+cast-byte-at c = search needs
 
 byte-at-requires : tie.Need-byte-at-requires Inv-loop μ-loop
 byte-at-requires c κs = search needs
@@ -42,7 +42,7 @@ say-rows-spec =
     Inv-loop
     μ-loop
     loop-holds
-    long-requires
+    cast-byte-at
     byte-at-requires
     say-statement-requires
     add-i

@@ -1,16 +1,14 @@
 -- `boxlever::phrase::put_expression` ends: each turn takes one item.
--- The invariant: the line keeps its length. The measure: the items that may be left. Assumes nothing.
-use mathlib.Core.Path.{_≡_}
+-- The invariant: nothing is kept. The measure: the items that may be left. Assumes nothing.
 use borrow.Author.Needs.{needs}
-use lib.ListN.{length}
 use Rattle.boxlever.proofs.phrase.put_expression.Statement.{statement}
 use Rattle.boxlever.proofs.phrase.put_expression.Tie as tie
 
 abbrev Inv-loop : tie.InvT-loop
-Inv-loop t₀ at unit parts e es h₀ from₀ left₀ t h from left = length t ≡ length t₀
+Inv-loop unit parts e es h₀ from₀ left₀ h from left = Unit {0}
 
 abbrev μ-loop : tie.MeasureT-loop
-μ-loop t₀ at unit parts e es h₀ from₀ left₀ t h from left = left
+μ-loop unit parts e es h₀ from₀ left₀ h from left = left
 
 expressions-of-requires : tie.Need-expressions-of-requires Inv-loop μ-loop
 expressions-of-requires c κs = search needs
@@ -24,26 +22,8 @@ loop-holds c = search needs
 item-at-requires : tie.Need-item-at-requires Inv-loop μ-loop
 item-at-requires c κs = search needs
 
-is-end-requires : tie.Need-is-end-requires Inv-loop μ-loop
-is-end-requires c κs = search needs
-
-text-end-requires : tie.Need-text-end-requires Inv-loop μ-loop
-text-end-requires c κs = search needs
-
-same-length : tie.Need-same-length Inv-loop μ-loop
-same-length c = search needs
-
-returns : tie.Need-returns Inv-loop μ-loop
-returns c = search needs
-
-text-end-requires-2 : tie.Need-text-end-requires-2 Inv-loop μ-loop
-text-end-requires-2 c κs = search needs
-
-same-length-2 : tie.Need-same-length-2 Inv-loop μ-loop
-same-length-2 c = search needs
-
-returns-2 : tie.Need-returns-2 Inv-loop μ-loop
-returns-2 c = search needs
+is-done-requires : tie.Need-is-done-requires Inv-loop μ-loop
+is-done-requires c κs = search needs
 
 hold-item-requires : tie.Need-hold-item-requires Inv-loop μ-loop
 hold-item-requires c κs = search needs
@@ -63,14 +43,11 @@ loop-less c = search needs
 loop-again : tie.Need-loop-again Inv-loop μ-loop
 loop-again c = search needs
 
-text-end-requires-3 : tie.Need-text-end-requires-3 Inv-loop μ-loop
-text-end-requires-3 c κs = search needs
+line-of-requires : tie.Need-line-of-requires Inv-loop μ-loop
+line-of-requires c κs = search needs
 
-same-length-3 : tie.Need-same-length-3 Inv-loop μ-loop
-same-length-3 c = search needs
-
-returns-3 : tie.Need-returns-3 Inv-loop μ-loop
-returns-3 c = search needs
+returns : tie.Need-returns Inv-loop μ-loop
+returns c = search needs
 
 pub put-expression-spec : {M : Type 1} → statement M
 put-expression-spec =
@@ -82,19 +59,12 @@ put-expression-spec =
     none-held-requires
     loop-holds
     item-at-requires
-    is-end-requires
-    text-end-requires
-    same-length
-    returns
-    text-end-requires-2
-    same-length-2
-    returns-2
+    is-done-requires
     hold-item-requires
     width-of-requires
     sum-requires
     sub-left
     loop-less
     loop-again
-    text-end-requires-3
-    same-length-3
-    returns-3)
+    line-of-requires
+    returns)

@@ -1,17 +1,15 @@
 -- `boxlever::say::fill_to` ends: each turn comes one column nearer.
--- The invariant: the line keeps its length. The measure: the columns that are left. Assumes nothing.
-use mathlib.Core.Path.{_≡_}
+-- The invariant: nothing is kept. The measure: the columns that are left. Assumes nothing.
 use Prim.Native.Nat.{_-_}
 use borrow.Author.Needs.{needs}
-use lib.ListN.{length}
 use Rattle.boxlever.proofs.say.fill_to.Statement.{statement}
 use Rattle.boxlever.proofs.say.fill_to.Tie as tie
 
 abbrev Inv-loop : tie.InvT-loop
-Inv-loop t₀ at column next₀ i₀ t next i = length t ≡ length t₀
+Inv-loop column next₀ i₀ next i = Unit {0}
 
 abbrev μ-loop : tie.MeasureT-loop
-μ-loop t₀ at column next₀ i₀ t next i = column - i
+μ-loop column next₀ i₀ next i = column - i
 
 loop-holds : tie.Need-loop-holds Inv-loop μ-loop
 loop-holds c = search needs
@@ -28,22 +26,9 @@ loop-less c = search needs
 loop-again : tie.Need-loop-again Inv-loop μ-loop
 loop-again c = search needs
 
-same-length : tie.Need-same-length Inv-loop μ-loop
-same-length c = search needs
-
 returns : tie.Need-returns Inv-loop μ-loop
 returns c = search needs
 
 pub fill-to-spec : {M : Type 1} → statement M
 fill-to-spec =
-    tie.close
-    (tie.spec
-    Inv-loop
-    μ-loop
-    loop-holds
-    put-requires
-    add-i
-    loop-less
-    loop-again
-    same-length
-    returns)
+    tie.close (tie.spec Inv-loop μ-loop loop-holds put-requires add-i loop-less loop-again returns)

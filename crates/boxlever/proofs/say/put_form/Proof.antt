@@ -1,6 +1,5 @@
 -- `boxlever::say::put_form` ends: each turn puts one byte of the form, or a number.
--- The invariant: the line keeps its length. The measure: the bytes of the form that are left. Assumes nothing.
-use mathlib.Core.Path.{_≡_}
+-- The invariant: nothing is kept. The measure: the bytes of the form that are left. Assumes nothing.
 use Prim.Native.Nat.{_-_}
 use borrow.Author.Needs.{needs}
 use lib.ListN.{length}
@@ -8,10 +7,10 @@ use Rattle.boxlever.proofs.say.put_form.Statement.{statement}
 use Rattle.boxlever.proofs.say.put_form.Tie as tie
 
 abbrev Inv-loop : tie.InvT-loop
-Inv-loop t₀ at form x y next₀ n₀ i₀ t next n i = length t ≡ length t₀
+Inv-loop form x y next₀ n₀ i₀ next n i = Unit {0}
 
 abbrev μ-loop : tie.MeasureT-loop
-μ-loop t₀ at form x y next₀ n₀ i₀ t next n i = length form - i
+μ-loop form x y next₀ n₀ i₀ next n i = length form - i
 
 loop-holds : tie.Need-loop-holds Inv-loop μ-loop
 loop-holds c = search needs
@@ -37,9 +36,6 @@ loop-less c = search needs
 loop-again : tie.Need-loop-again Inv-loop μ-loop
 loop-again c = search needs
 
-same-length : tie.Need-same-length Inv-loop μ-loop
-same-length c = search needs
-
 returns : tie.Need-returns Inv-loop μ-loop
 returns c = search needs
 
@@ -57,5 +53,4 @@ put-form-spec =
     add-i
     loop-less
     loop-again
-    same-length
     returns)

@@ -1,6 +1,5 @@
 -- `boxlever::say::put_text` ends: each turn puts one byte.
--- The invariant: the line keeps its length. The measure: the bytes that are left. Assumes nothing.
-use mathlib.Core.Path.{_≡_}
+-- The invariant: nothing is kept. The measure: the bytes that are left. Assumes nothing.
 use Prim.Native.Nat.{_-_}
 use borrow.Author.Needs.{needs}
 use lib.ListN.{length}
@@ -8,10 +7,10 @@ use Rattle.boxlever.proofs.say.put_text.Statement.{statement}
 use Rattle.boxlever.proofs.say.put_text.Tie as tie
 
 abbrev Inv-loop : tie.InvT-loop
-Inv-loop t₀ at s next₀ i₀ t next i = length t ≡ length t₀
+Inv-loop s next₀ i₀ next i = Unit {0}
 
 abbrev μ-loop : tie.MeasureT-loop
-μ-loop t₀ at s next₀ i₀ t next i = length s - i
+μ-loop s next₀ i₀ next i = length s - i
 
 loop-holds : tie.Need-loop-holds Inv-loop μ-loop
 loop-holds c = search needs
@@ -31,9 +30,6 @@ loop-less c = search needs
 loop-again : tie.Need-loop-again Inv-loop μ-loop
 loop-again c = search needs
 
-same-length : tie.Need-same-length Inv-loop μ-loop
-same-length c = search needs
-
 returns : tie.Need-returns Inv-loop μ-loop
 returns c = search needs
 
@@ -49,5 +45,4 @@ put-text-spec =
     add-i
     loop-less
     loop-again
-    same-length
     returns)

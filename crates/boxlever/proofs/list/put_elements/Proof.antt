@@ -1,16 +1,20 @@
--- `boxlever::list::put_values` ends: each turn puts one value.
--- The invariant: the line keeps its length. The measure: the elements that are left. Assumes nothing.
-use mathlib.Core.Path.{_≡_}
+-- `boxlever::list::put_elements` ends: each turn puts one element.
+-- The invariant: nothing is kept. The measure: the elements that are left. Assumes nothing.
 use borrow.Author.Needs.{needs}
-use lib.ListN.{length}
-use Rattle.boxlever.proofs.list.put_values.Statement.{statement}
-use Rattle.boxlever.proofs.list.put_values.Tie as tie
+use Rattle.boxlever.proofs.list.put_elements.Statement.{statement}
+use Rattle.boxlever.proofs.list.put_elements.Tie as tie
 
 abbrev Inv-loop : tie.InvT-loop
-Inv-loop t₀ at «data» from size k next₀ place₀ left₀ t next place left = length t ≡ length t₀
+Inv-loop «data» k figures size next₀ place₀ left₀ next place left = Unit {0}
 
 abbrev μ-loop : tie.MeasureT-loop
-μ-loop t₀ at «data» from size k next₀ place₀ left₀ t next place left = left
+μ-loop «data» k figures size next₀ place₀ left₀ next place left = left
+
+cast-size : tie.Need-cast-size Inv-loop μ-loop
+cast-size c = search needs
+
+cast-place : tie.Need-cast-place Inv-loop μ-loop
+cast-place c = search needs
 
 loop-holds : tie.Need-loop-holds Inv-loop μ-loop
 loop-holds c = search needs
@@ -18,8 +22,8 @@ loop-holds c = search needs
 part-requires : tie.Need-part-requires Inv-loop μ-loop
 part-requires c κs = search needs
 
-put-figures-requires : tie.Need-put-figures-requires Inv-loop μ-loop
-put-figures-requires c κs = search needs
+put-either-requires : tie.Need-put-either-requires Inv-loop μ-loop
+put-either-requires c κs = search needs
 
 put-requires : tie.Need-put-requires Inv-loop μ-loop
 put-requires c κs = search needs
@@ -39,26 +43,28 @@ loop-again c = search needs
 less-requires : tie.Need-less-requires Inv-loop μ-loop
 less-requires c κs = search needs
 
-same-length : tie.Need-same-length Inv-loop μ-loop
-same-length c = search needs
+cut-requires : tie.Need-cut-requires Inv-loop μ-loop
+cut-requires c κs = search needs
 
 returns : tie.Need-returns Inv-loop μ-loop
 returns c = search needs
 
-pub put-values-spec : {M : Type 1} → statement M
-put-values-spec =
+pub put-elements-spec : {M : Type 1} → statement M
+put-elements-spec =
     tie.close
     (tie.spec
     Inv-loop
     μ-loop
+    cast-size
+    cast-place
     loop-holds
     part-requires
-    put-figures-requires
+    put-either-requires
     put-requires
     sum-requires
     sub-left
     loop-less
     loop-again
     less-requires
-    same-length
+    cut-requires
     returns)
