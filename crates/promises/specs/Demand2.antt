@@ -10,6 +10,7 @@
 --   runs                the call is the run
 --   ends, spent, errs, goes    one step of it: the end, the allowance spent, a run error, a completed statement
 --   errs-only-then, errs-whenever    a run error is given exactly when the statement that the run has come to gives it
+--   start-is-sound      the state before the first statement is sound for every unit, so a run from it is never refused 7
 --   state-stays-sound   a call hands back a sound state where it was given one
 --   never-4             a passed check never lets 4 arise in a run
 -- Assumes nothing.
@@ -27,8 +28,9 @@ use Rattle.rules_unit.specs.Checks.{checkOf}
 use Rattle.rules_run.specs.declared.State.{State}
 use Rattle.rules_run.specs.declared.Stop.the-variants as stop
 use Rattle.rules_run.specs.Turns.{applied, turnOf}
-use Rattle.rules_run.specs.States.{Sound}
+use Rattle.rules_run.specs.States.{Sound, started}
 use Rattle.rules_run.specs.Runs.{to, stuck, movedBy, ended, runFrom, runOf}
+use Rattle.rules_run.proofs.States.{started-sound}
 use Rattle.rules_run.proofs.Calls.{call-runs}
 use Rattle.rules_run.proofs.Steps.{run-ends, run-spent, run-fails, run-goes}
 use Rattle.rules_run.proofs.Stopped.{Stopped, run-stopped, stopped-run}
@@ -67,6 +69,9 @@ pub errs-whenever : (c : Code) (f : Fault) (m : ℕ) (s : State) (d : List ℕ) 
 errs-whenever = stopped-run
 
 -- ---- what a call hands back
+
+pub start-is-sound : (n : ℕ) → Sound n started
+start-is-sound = started-sound
 
 pub state-stays-sound : (u : List ℕ) (p : Parts) → checkOf u ≡ Passed p → (d : List ℕ) (s : State) (m : ℕ) → Sound (p .n) s → Sound (p .n) (runOf u d s m .outcome .state)
 state-stays-sound = call-sound

@@ -10,8 +10,10 @@
 --
 --   yes-exactly, no-exactly, refused-exactly    each answer of the fence check is given exactly when what it says is so
 --   no-breach-exactly, breach-of-no             a statement has no breach exactly when it keeps the rules; that of a no has one
+--   breach-exactly                              a breach is named exactly when that rule is the one that the statement breaks first
 --   cannot-slip                                 what holds of every run of a unit with a yes, and its five parts in the letter's words
---   says-yes-exactly, run-cannot-slip           both of the contracts themselves: of whatever `dibol::fence` and `dibol::run` are permitted to answer and leave
+--   says-exactly, names-exactly, run-cannot-slip   the same of the contracts themselves: of whatever `dibol::fence`, `dibol::breach` and `dibol::run` are
+--                                               permitted to answer and leave
 -- Assumes nothing.
 use Prim.Native.Nat.{ℕ, _<_}
 use mathlib.Core.Path.{_≡_}
@@ -32,15 +34,19 @@ use Rattle.rules_run.specs.declared.Outcome.{Outcome}
 use Rattle.rules_run.specs.States.{Sound}
 use Rattle.rules_run.specs.Stops.{stopNumber}
 use Rattle.rules_run.specs.Runs.{runOf}
+use Rattle.rules_fence.specs.declared.Breach.{Breach}
 use Rattle.rules_fence.specs.declared.Breach.the-variants as breach
 use Rattle.rules_fence.specs.declared.Verdict.{Verdict}
 use Rattle.rules_fence.specs.declared.Verdict.the-variants.{Refused, Yes, No}
 use Rattle.rules_fence.specs.Fence.{StatementFenced, Fenced, Breaks}
 use Rattle.rules_fence.specs.Breaches.{fenceOf, breachIn}
+use Rattle.rules_fence.specs.Reasons.{StatementBreaks}
+use Rattle.rules_fence.specs.Answers.{FenceSays}
 use Rattle.rules_fence.specs.Destinations.{Destination, AllValid, BadText}
 use Rattle.rules_fence.specs.Safety.{Safe}
-use Rattle.rules_fence.proofs.Verdicts.{fence-exactly, breach-in, breach-exactly, breach-named}
+use Rattle.rules_fence.proofs.Verdicts.{fence-exactly, breach-in, keeps-exactly, reason-exactly, breach-named}
 use Rattle.rules_fence.proofs.Demand.{call-safe}
+use Rattle.dibol.proofs.breach.Reads as said
 use Rattle.dibol.proofs.fence.Reads as fence
 use Rattle.dibol.proofs.run.Reads as run
 
@@ -65,10 +71,15 @@ module _ (u : List ℕ) where
 
   -- The breach of a statement of a sound unit.
   pub no-breach-exactly : SoundUnit u (partsOf u) → (i : ℕ) → i < partsOf u .n → (breachIn u i ≡ breach.None) ↔ StatementFenced (decoded u) (decoded u .statement i)
-  no-breach-exactly t i h = rw (breach-in u (partsOf u) i (sound-passed u (partsOf u) t) h) (breach-exactly (decoded u) (t .code) i h)
+  no-breach-exactly t i h = rw (breach-in u (partsOf u) i (sound-passed u (partsOf u) t) h) (keeps-exactly (decoded u) (t .code) i h)
 
   pub breach-of-no : (i : ℕ) → fenceOf u ≡ No i → breachIn u i ≡ breach.None → ⊥
   breach-of-no = breach-named u
+
+  -- Why: of a statement's references the first that breaks a rule breaks this one (`Reasons` has a sentence for each).
+  pub breach-exactly : SoundUnit u (partsOf u) → (i : ℕ) → i < partsOf u .n → (b : Breach) → (b ≡ breach.None → ⊥)
+      → (breachIn u i ≡ b) ↔ StatementBreaks (decoded u) (decoded u .statement i) b
+  breach-exactly t i h b z = rw (breach-in u (partsOf u) i (sound-passed u (partsOf u) t) h) (reason-exactly (decoded u) (t .code) i h b z)
 
 -- ---- a unit with a yes
 
@@ -102,11 +113,18 @@ module _ (u : List ℕ) (yes : fenceOf u ≡ Yes) (d : List ℕ) (size : length 
 
 -- ---- the functions themselves
 
--- `Post` is what a function's `ensures` says of its arguments a, its result r and what it leaves, s. The arguments of `fence` are the unit; those of `run` the
--- unit, the data, the state and the allowance.
-pub says-yes-exactly : (κs : Lifetimes.Lfts 1) (a : _) (r : Verdict) (s : _) → fence.Post κs a r s
-    → (r ≡ Yes) ↔ SoundUnit (now (a .0)) (partsOf (now (a .0))) × Fenced (decoded (now (a .0)))
-says-yes-exactly κs a r s p = rw p (yes-exactly (now (a .0)))
+-- `Post` is what a function's `ensures` says of its arguments a, its result r and what it leaves, s. The argument of `fence` is the unit; those of `breach` are
+-- the unit and the statement, and those of `run` the unit, the data, the state and the allowance.
+pub says-exactly : (κs : Lifetimes.Lfts 1) (a : _) (r : Verdict) (s : _) → fence.Post κs a r s → (v : Verdict) → (r ≡ v) ↔ FenceSays (now (a .0)) v
+says-exactly κs a r s p v = rw p (fence-exactly (now (a .0)) v)
+
+pub names-exactly : (κs : Lifetimes.Lfts 1) (a : _) (r : Breach) (s : _) → said.Post κs a r s
+    → SoundUnit (now (a .0)) (partsOf (now (a .0)))
+    → a .1 .0 < partsOf (now (a .0)) .n
+    → (b : Breach)
+    → (b ≡ breach.None → ⊥)
+    → (r ≡ b) ↔ StatementBreaks (decoded (now (a .0))) (decoded (now (a .0)) .statement (a .1 .0)) b
+names-exactly κs a r s p sound low b z = rw p (breach-exactly (now (a .0)) sound (a .1 .0) low b z)
 
 pub run-cannot-slip : (κs : Lifetimes.Lfts 2) (a : _) (r : Outcome) (s : _) → run.Post κs a r s
     → fenceOf (now (a .0)) ≡ Yes

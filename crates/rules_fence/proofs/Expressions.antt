@@ -3,7 +3,7 @@
 -- Assumes nothing.
 use Prim.Native.Nat.{ℕ}
 use mathlib.Core.Path.{_≡_, refl, sym, ap, subst}
-use mathlib.Core.Bool.{Bool, true, false, cond, false≢true}
+use mathlib.Core.Bool.{Bool, true, false, cond}
 use mathlib.Core.List.{List, [], _∷_}
 use lib.IntN.{ℤ, negℤ}
 use lib.ListN.{length}
@@ -26,6 +26,7 @@ use Rattle.rules_fence.specs.declared.Seen.{Seen}
 use Rattle.rules_fence.specs.declared.Seen.the-variants as seen
 use Rattle.rules_fence.specs.Bounds.{isNegate, seenNumber, seenNegate, seenAfter}
 use Rattle.rules_fence.specs.Destinations.{spanFrom, placeSpan, lastSpan, AllValid}
+use Rattle.rules_fence.proofs.Bounded.{negate-is}
 use Rattle.rules_fence.proofs.Exact.{ItemFenced, AllFenced}
 use Rattle.rules_fence.proofs.Mild.{mildb, mild-literal, Mild, on-room, step-any}
 use Rattle.rules_fence.proofs.Places.{Held, WorkedOk, place-ok}
@@ -48,24 +49,6 @@ held-negate (seen.One y false) x st h = tt
 held-negate (seen.Two w y plain) x [] h = absurd h
 held-negate (seen.Two w y true) x (z ∷ st) h = (ap negℤ (h .0), h .1)
 held-negate (seen.Two w y false) x (z ∷ st) h = tt
-
-negate-is : (o : Op) → isNegate o ≡ true → o ≡ op.Negate
-negate-is op.Add e = absurd (false≢true e)
-negate-is op.Subtract e = absurd (false≢true e)
-negate-is op.Multiply e = absurd (false≢true e)
-negate-is op.Divide e = absurd (false≢true e)
-negate-is op.Round e = absurd (false≢true e)
-negate-is op.Negate e = refl
-negate-is op.Eq e = absurd (false≢true e)
-negate-is op.Ne e = absurd (false≢true e)
-negate-is op.Gt e = absurd (false≢true e)
-negate-is op.Lt e = absurd (false≢true e)
-negate-is op.Ge e = absurd (false≢true e)
-negate-is op.Le e = absurd (false≢true e)
-negate-is op.Not e = absurd (false≢true e)
-negate-is op.And e = absurd (false≢true e)
-negate-is op.Or e = absurd (false≢true e)
-negate-is op.Xor e = absurd (false≢true e)
 
 module _ (c : Code) (d : List ℕ) where
   -- ---- one item, for any property of what an expression comes to

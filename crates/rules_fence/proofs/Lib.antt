@@ -1,6 +1,7 @@
 pub mod Parts
 pub mod Elements
 pub mod Sorts
+pub mod Bounded
 pub mod Exact
 pub mod Mild
 pub mod Places
@@ -14,5 +15,7 @@ pub mod Safe
 pub mod Kept
 pub mod Spans
 pub mod Tests
+pub mod Reasons
+pub mod First
 pub mod Verdicts
 pub mod Demand

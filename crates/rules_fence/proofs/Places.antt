@@ -26,7 +26,7 @@ use Rattle.rules_run.proofs.Windows.{span-some}
 use Rattle.rules_fence.specs.declared.Seen.{Seen}
 use Rattle.rules_fence.specs.declared.Seen.the-variants as seen
 use Rattle.rules_fence.specs.Bounds.{fixedSpan}
-use Rattle.rules_fence.specs.Fence.{SpanFenced, RefFenced}
+use Rattle.rules_fence.specs.Fence.{SpanFenced, SpanKept}
 use Rattle.rules_fence.proofs.Mild.{mildb}
 
 abbrev pub Held : Seen → List ℤ → Type 0
@@ -59,7 +59,7 @@ module _ (c : Code) (s : SoundCode c) (d : List ℕ) (e : length d ≡ c .size) 
   fixed-whole f b = rw e
 
   module _ (dest : Bool) (f : ℕ) where
-    pub fixed-element : (b : Seen) (x : ℤ) (st : List ℤ) → RefFenced c dest f (fixedSpan c how.Element f b) → Held b (x ∷ st)
+    pub fixed-element : (b : Seen) (x : ℤ) (st : List ℤ) → SpanKept c dest f (fixedSpan c how.Element f b) → Held b (x ∷ st)
         → fixedSpan c how.Element f b ≡ spanIn 0 (length d) (c .field f) how.Element x (pos 0)
     unfolding fixedSpan
     fixed-element seen.Nothing x st r q = absurd r
@@ -67,14 +67,14 @@ module _ (c : Code) (s : SoundCode c) (d : List ℕ) (e : length d ≡ c .size) 
     fixed-element (seen.Two w y plain) x [] r q = absurd q
     fixed-element (seen.Two w y plain) x (z ∷ st) r q = rw (e, q .0)
 
-    pub fixed-range : (b : Seen) (y x : ℤ) (st : List ℤ) → RefFenced c dest f (fixedSpan c how.Range f b) → Held b (y ∷ (x ∷ st))
+    pub fixed-range : (b : Seen) (y x : ℤ) (st : List ℤ) → SpanKept c dest f (fixedSpan c how.Range f b) → Held b (y ∷ (x ∷ st))
         → fixedSpan c how.Range f b ≡ spanIn 0 (length d) (c .field f) how.Range x y
     unfolding fixedSpan
     fixed-range seen.Nothing y x st r q = absurd r
     fixed-range (seen.One z plain) y x st r q = absurd r
     fixed-range (seen.Two w z plain) y x st r q = rw (e, q .0, q .1)
 
-    pub fixed-length : (b : Seen) (y x : ℤ) (st : List ℤ) → RefFenced c dest f (fixedSpan c how.Length f b) → Held b (y ∷ (x ∷ st))
+    pub fixed-length : (b : Seen) (y x : ℤ) (st : List ℤ) → SpanKept c dest f (fixedSpan c how.Length f b) → Held b (y ∷ (x ∷ st))
         → fixedSpan c how.Length f b ≡ spanIn 0 (length d) (c .field f) how.Length x y
     unfolding fixedSpan
     fixed-length seen.Nothing y x st r q = absurd r
@@ -84,7 +84,7 @@ module _ (c : Code) (s : SoundCode c) (d : List ℕ) (e : length d ≡ c .size) 
     -- ---- a last reference
 
     module _ (h : How) (x y : ℤ) where
-      as-place : (span : Span) → f < c .fields → span ≡ spanIn 0 (length d) (c .field f) h x y → RefFenced c dest f span → WorkedOk c dest span (asPlace c f span)
+      as-place : (span : Span) → f < c .fields → span ≡ spanIn 0 (length d) (c .field f) h x y → SpanKept c dest f span → WorkedOk c dest span (asPlace c f span)
       as-place Outside k q r = absurd r
       as-place (At a n) k q r = by (decimalb c f) refl (ltb (c .limit) n)
         where
@@ -96,7 +96,7 @@ module _ (c : Code) (s : SoundCode c) (d : List ℕ) (e : length d ≡ c .size) 
           by true z false = ok true z
           by false z u = ok false z
 
-      place-by : (span : Span) → span ≡ spanIn 0 (length d) (c .field f) h x y → RefFenced c dest f span → WorkedOk c dest span (placeBy c d h f x y)
+      place-by : (span : Span) → span ≡ spanIn 0 (length d) (c .field f) h x y → SpanKept c dest f span → WorkedOk c dest span (placeBy c d h f x y)
       unfolding placeBy
       place-by span q r = by (ltb f (c .fields)) refl
         where
@@ -104,7 +104,7 @@ module _ (c : Code) (s : SoundCode c) (d : List ℕ) (e : length d ≡ c .size) 
           by true p = rw (← q) (as-place span (ltb-true f (c .fields) p) q r)
           by false p = refl
 
-    pub place-ok : (h : How) (b : Seen) (st : List ℤ) → RefFenced c dest f (fixedSpan c h f b) → Held b st → WorkedOk c dest (fixedSpan c h f b) (place c d h f st)
+    pub place-ok : (h : How) (b : Seen) (st : List ℤ) → SpanKept c dest f (fixedSpan c h f b) → Held b st → WorkedOk c dest (fixedSpan c h f b) (place c d h f st)
     unfolding place
     place-ok how.Whole b [] r t = place-by how.Whole (pos 0) (pos 0) (fixedSpan c how.Whole f b) (fixed-whole f b) r
     place-ok how.Whole b (x ∷ st) r t = refl

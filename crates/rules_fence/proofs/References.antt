@@ -24,18 +24,18 @@ use Rattle.rules_run.specs.Evaluation.{readSpan, reference, apply, stepBy, onHe
 use Rattle.rules_run.proofs.Windows.{span-some}
 use Rattle.rules_fence.specs.declared.Seen.{Seen}
 use Rattle.rules_fence.specs.Bounds.{fixedSpan}
-use Rattle.rules_fence.specs.Fence.{RefFenced}
+use Rattle.rules_fence.specs.Fence.{SpanKept}
 use Rattle.rules_fence.specs.Destinations.{AllValid}
 use Rattle.rules_fence.proofs.Elements.{span-reads}
 use Rattle.rules_fence.proofs.Mild.{mildNum, mild-value, Mild, on-room}
 use Rattle.rules_fence.proofs.Places.{Held, fixed-whole, fixed-element, fixed-range, fixed-length}
 
 module _ (c : Code) (s : SoundCode c) (d : List ℕ) (e : length d ≡ c .size) (v : AllValid c d) (f : ℕ) where
-  ref-mild : (h : How) (x y : ℤ) (span : Span) → span ≡ spanIn 0 (length d) (c .field f) h x y → RefFenced c false f span → mildNum false (reference c d h f x y) ≡ true
+  ref-mild : (h : How) (x y : ℤ) (span : Span) → span ≡ spanIn 0 (length d) (c .field f) h x y → SpanKept c false f span → mildNum false (reference c d h f x y) ≡ true
   unfolding reference
   ref-mild h x y span q r = by (ltb f (c .fields)) (decimalb c f) refl refl
     where
-      read : f < c .fields → decimalb c f ≡ true → (span : Span) → span ≡ spanIn 0 (length d) (c .field f) h x y → RefFenced c false f span → mildNum false (readSpan c d span) ≡ true
+      read : f < c .fields → decimalb c f ≡ true → (span : Span) → span ≡ spanIn 0 (length d) (c .field f) h x y → SpanKept c false f span → mildNum false (readSpan c d span) ≡ true
       read k t (At a n) q r = mild-value false (span-reads c s d e v k t (span-some 0 (length d) (c .field f) h x y (s .entries f k .own .some) (sym q)) r)
       read k t Outside q r = absurd r
 
@@ -45,7 +45,7 @@ module _ (c : Code) (s : SoundCode c) (d : List ℕ) (e : length d ≡ c .size) 
       by true false p o = refl
       by false u p o = refl
 
-  pub ref-step : (P : Worked → Type 0) → Mild P → (h : How) (b : Seen) (st : List ℤ) (k : List ℤ → Worked) → RefFenced c false f (fixedSpan c h f b) → Held b st
+  pub ref-step : (P : Worked → Type 0) → Mild P → (h : How) (b : Seen) (st : List ℤ) (k : List ℤ → Worked) → SpanKept c false f (fixedSpan c h f b) → Held b st
       → ((st′ : List ℤ) → P (k st′)) → P (onHeld (stepBy (howTakes h) (apply c d (item.Reference h f)) st) k)
   unfolding stepBy
   ref-step P w how.Whole b st k r t g =

@@ -1,4 +1,4 @@
--- The tests of one span (document 01, "Fence rules"): each breach is given exactly when its rule does not hold.
+-- The tests of one span (document 01, "Fence rules"): there is no breach exactly when the rules hold.
 -- Assumes nothing.
 use Prim.Native.Nat.{ℕ, zero, suc, _+_, _-_, _/_, _<_, _≤_, max}
 use native.Mathlib.Omega.{arith}
@@ -19,40 +19,43 @@ use Rattle.rules_fence.proofs.Kept.{Kept, kept-none, kept-as, kept-then
 
 -- ---- one element
 
+-- The element of the field f that the byte a lies in, and that element's end.
+abbrev pub elementOf : Code → ℕ → ℕ → ℕ
+elementOf c f a = (a - offsetOf c f) / sizeOf c f
+
+abbrev pub lastOf : Code → ℕ → ℕ → ℕ
+lastOf c f a = elementAt c f (elementOf c f a) + sizeOf c f
+
 end-tells : (dest : Bool) (e last : ℕ) → Kept (endBreach dest e last) ((last ≤ e) × (dest ≡ true → last ≡ e))
 end-tells true e last =
     kept-as (λ r. (r .0, λ z. r .1 .0)) (λ r. (r .0, (r .1 refl, tt))) (kept-then breach.OverElements refl (tells-le last e) (λ h. kept-then breach.StopsMidElement refl (tells-eq last e) (λ g. kept-none)))
 end-tells false e last = kept-as (λ r. (r .0, λ z. absurd (false≢true z))) (λ r. (r .0, tt)) (kept-then breach.OverElements refl (tells-le last e) (λ h. kept-none))
 
 module _ (c : Code) (s : SoundCode c) (a n : ℕ) (o : 1 ≤ n) where
-  module _ (dest : Bool) (f : ℕ) (h : f < c .fields) (from : offsetOf c f ≤ a) (to : a + n ≤ endOf c f) where
+  module _ (f : ℕ) (h : f < c .fields) (from : offsetOf c f ≤ a) (to : a + n ≤ endOf c f) (dest : Bool) where
+    pub element-in : a + n ≤ lastOf c f a → (dest ≡ true → a + n ≡ lastOf c f a) → InElement c dest f a n (elementOf c f a)
+    element-in below ends =
+        record {
+          low = div-lt-iff-lt-mul {x = a - offsetOf c f} {y = countOf c f} (s .entries f h .own .some) .1 (omega arith);
+          from = omega (arith, div-mul-le-self (a - offsetOf c f) (sizeOf c f));
+          to = below;
+          ends = ends;
+        }
+
+    pub element-last : (k : ℕ) → InElement c dest f a n k → lastOf c f a ≡ elementAt c f k + sizeOf c f
+    element-last k i =
+        ap (λ (j : ℕ). elementAt c f j + sizeOf c f)
+        (div-eq-of-lt-le {k = k} (sizeOf c f) {m = a - offsetOf c f} (omega (arith, i .from)) (omega (arith, i .from, i .to)))
+
     element-tells : Kept (elementBreach c dest f a n) ((k : ℕ) × InElement c dest f a n k)
     unfolding elementBreach
-    element-tells = kept-as gives asks (end-tells dest (elementAt c f ((a - offsetOf c f) / sizeOf c f) + sizeOf c f) (a + n))
-      where
-        gives : (a + n ≤ elementAt c f ((a - offsetOf c f) / sizeOf c f) + sizeOf c f) × (dest ≡ true → a + n ≡ elementAt c f ((a - offsetOf c f) / sizeOf c f) + sizeOf c f)
-            → (k : ℕ) × InElement c dest f a n k
-        gives r = (
-          (a - offsetOf c f) / sizeOf c f,
-          record {
-            low = div-lt-iff-lt-mul {x = a - offsetOf c f} {y = countOf c f} (s .entries f h .own .some) .1 (omega arith);
-            from = omega (arith, div-mul-le-self (a - offsetOf c f) (sizeOf c f));
-            to = r .0;
-            ends = r .1;
-          },
-        )
-
-        asks : (k : ℕ) × InElement c dest f a n k
-            → (a + n ≤ elementAt c f ((a - offsetOf c f) / sizeOf c f) + sizeOf c f) × (dest ≡ true → a + n ≡ elementAt c f ((a - offsetOf c f) / sizeOf c f) + sizeOf c f)
-        asks r =
-            let i = r .1 in
-            let is : (a - offsetOf c f) / sizeOf c f ≡ r .0 = div-eq-of-lt-le {k = r .0} (sizeOf c f) {m = a - offsetOf c f} (omega (arith, i .from)) (omega (arith, i .from, i .to)) in
-            (rw is (i .to), λ t. i .ends t ∙ ap (λ (k : ℕ). elementAt c f k + sizeOf c f) (sym is))
+    element-tells =
+        kept-as (λ r. (elementOf c f a, element-in (r .0) (r .1))) (λ r. let e = element-last (r .0) (r .1) in (rw e (r .1 .to), λ t. r .1 .ends t ∙ sym e)) (end-tells dest (lastOf c f a) (a + n))
 
   -- ---- decimal fields
 
   -- The field g is no decimal one, or shares no byte.
-  abbrev Apart : ℕ → Type 0
+  abbrev pub Apart : ℕ → Type 0
   Apart g = decimalb c g ≡ true → (b : ℕ) → a ≤ b → b < a + n → offsetOf c g ≤ b → b < endOf c g → ⊥
 
   apart-tells : (g : ℕ) → g < c .fields → Tells (apartOf (c .field g) a n) (Apart g)
@@ -71,7 +74,7 @@ module _ (c : Code) (s : SoundCode c) (a n : ℕ) (o : 1 ≤ n) where
           record { to = λ e. absurd (false≢true e); of = λ r. absurd (r q (max a (offsetOf c g)) (omega arith) (omega arith) (omega arith) (omega (arith, full))) }
 
   -- The k fields from g on, which are the last ones.
-  apart-from : (k g : ℕ) → g + k ≡ c .fields → Tells (apartFrom c a n k g) ((j : ℕ) → g ≤ j → j < c .fields → Apart j)
+  pub apart-from : (k g : ℕ) → g + k ≡ c .fields → Tells (apartFrom c a n k g) ((j : ℕ) → g ≤ j → j < c .fields → Apart j)
   unfolding apartFrom
   apart-from zero g q = record { to = λ e j l h. absurd (omega arith); of = λ r. refl }
   apart-from (suc k) g q = tells-as gives asks (tells-and (apart-tells g (omega arith)) (apart-from k (g + 1) (omega arith)))
@@ -100,4 +103,4 @@ module _ (c : Code) (s : SoundCode c) (a n : ℕ) (o : 1 ≤ n) where
       (λ r. record { from = r .0; to = r .1 .0; element = r .1 .1 .0; apart = λ t q g b hg tg. r .1 .1 .1 t q g hg tg b })
       (λ r. (r .from, (r .to, (r .element, λ t q g hg tg b. r .apart t q g b hg tg))))
       (kept-then breach.LeavesField refl (tells-le (offsetOf c f) a)
-      (λ x. kept-then breach.LeavesField refl (tells-le (a + n) (endOf c f)) (λ y. kept-either (decimalb c f) (λ t. element-tells dest f h x y) (λ t. alpha-tells dest))))
+      (λ x. kept-then breach.LeavesField refl (tells-le (a + n) (endOf c f)) (λ y. kept-either (decimalb c f) (λ t. element-tells f h x y dest) (λ t. alpha-tells dest))))

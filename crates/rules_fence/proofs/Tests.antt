@@ -21,11 +21,10 @@ use Rattle.rules_run.specs.declared.Span.{Span}
 use Rattle.rules_run.specs.declared.Span.the-variants.{At, Outside}
 use Rattle.rules_run.specs.Spans.{spanIn}
 use Rattle.rules_run.proofs.Windows.{span-some}
-use Rattle.rules_fence.specs.declared.Breach.the-variants as breach
 use Rattle.rules_fence.specs.declared.Seen.{Seen}
 use Rattle.rules_fence.specs.declared.Seen.the-variants as seen
 use Rattle.rules_fence.specs.Bounds.{seenAfter, fixedSpan}
-use Rattle.rules_fence.specs.Fence.{RefFenced, destb, ExprFenced, UseFenced, StatementFenced}
+use Rattle.rules_fence.specs.Fence.{SpanKept, destb, ExprFenced, UseFenced, StatementFenced}
 use Rattle.rules_fence.specs.Breaches.{spanBreach, referenceBreach, itemBreach, breachFrom, useBreach, usesBreach, breachOf}
 use Rattle.rules_fence.proofs.Exact.{ItemFenced, AllFenced, expr-to, expr-of}
 use Rattle.rules_fence.proofs.Kept.{Kept, kept-none, kept-never, kept-as, kept-first}
@@ -36,30 +35,30 @@ module _ (c : Code) (s : SoundCode c) where
   -- ---- references
 
   module _ (dest : Bool) (f : ℕ) (k : f < c .fields) where
-    by-span : (h : How) (x y : ℤ) (span : Span) → span ≡ spanIn 0 (c .size) (c .field f) h x y → Kept (spanBreach c dest f span) (RefFenced c dest f span)
+    by-span : (h : How) (x y : ℤ) (span : Span) → span ≡ spanIn 0 (c .size) (c .field f) h x y → Kept (spanBreach c dest f span) (SpanKept c dest f span)
     by-span h x y (At a n) q = span-tells c s a n (span-some 0 (c .size) (c .field f) h x y (s .entries f k .own .some) (sym q)) dest f k
-    by-span h x y Outside q = kept-never breach.BoundsWrong refl
+    by-span h x y Outside q = kept-never _ refl
 
-    found : (h : How) (x y : ℤ) → Kept (spanBreach c dest f (spanIn 0 (c .size) (c .field f) h x y)) (RefFenced c dest f (spanIn 0 (c .size) (c .field f) h x y))
+    found : (h : How) (x y : ℤ) → Kept (spanBreach c dest f (spanIn 0 (c .size) (c .field f) h x y)) (SpanKept c dest f (spanIn 0 (c .size) (c .field f) h x y))
     found h x y = by-span h x y (spanIn 0 (c .size) (c .field f) h x y) refl
 
-    reference-tells : (h : How) (b : Seen) → Kept (referenceBreach c dest h f b) (RefFenced c dest f (fixedSpan c h f b))
+    reference-tells : (h : How) (b : Seen) → Kept (referenceBreach c dest h f b) (SpanKept c dest f (fixedSpan c h f b))
     unfolding referenceBreach fixedSpan
     reference-tells how.Whole b = found how.Whole (pos 0) (pos 0)
-    reference-tells how.Element seen.Nothing = kept-never breach.BoundNotLiteral refl
+    reference-tells how.Element seen.Nothing = kept-never _ refl
     reference-tells how.Element (seen.One y plain) = found how.Element y (pos 0)
     reference-tells how.Element (seen.Two x y plain) = found how.Element y (pos 0)
-    reference-tells how.Range seen.Nothing = kept-never breach.BoundNotLiteral refl
-    reference-tells how.Range (seen.One y plain) = kept-never breach.BoundNotLiteral refl
+    reference-tells how.Range seen.Nothing = kept-never _ refl
+    reference-tells how.Range (seen.One y plain) = kept-never _ refl
     reference-tells how.Range (seen.Two x y plain) = found how.Range x y
-    reference-tells how.Length seen.Nothing = kept-never breach.BoundNotLiteral refl
-    reference-tells how.Length (seen.One y plain) = kept-never breach.BoundNotLiteral refl
+    reference-tells how.Length seen.Nothing = kept-never _ refl
+    reference-tells how.Length (seen.One y plain) = kept-never _ refl
     reference-tells how.Length (seen.Two x y plain) = found how.Length x y
 
   -- ---- expressions
 
   module _ (dest : Bool) where
-    item-tells : (b : Seen) (i : Item) (is : List Item) → itemb c i ≡ true → Kept (itemBreach c dest b i is) (ItemFenced c dest b i is)
+    pub item-tells : (b : Seen) (i : Item) (is : List Item) → itemb c i ≡ true → Kept (itemBreach c dest b i is) (ItemFenced c dest b i is)
     item-tells b (item.Number p l) is e = kept-none
     item-tells b (item.Reference h f) is e = reference-tells (destb dest is) f (ltb-true f (c .fields) e) h b
     item-tells b (item.Text p l) is e = kept-none
@@ -77,7 +76,7 @@ module _ (c : Code) (s : SoundCode c) where
 
   -- ---- statements
 
-  use-tells : (x : Use) → useb c x ≡ true → Kept (useBreach c x) (UseFenced c x)
+  pub use-tells : (x : Use) → useb c x ≡ true → Kept (useBreach c x) (UseFenced c x)
   use-tells use-of.Nothing e = kept-none
   use-tells (use-of.Of w at written) e = expr-tells written (c .items at) (known-of c w at e)
 

@@ -19,14 +19,17 @@ use Rattle.rules_unit.specs.Checks.{checkOf}
 use Rattle.rules_unit.specs.Sound.{SoundCode, SoundUnit}
 use Rattle.rules_unit.proofs.Sound.{passed-sound, sound-passed, passed-parts}
 use Rattle.rules_unit.proofs.Tells.{one-more}
+use Rattle.rules_fence.specs.declared.Breach.{Breach}
 use Rattle.rules_fence.specs.declared.Breach.the-variants as breach
 use Rattle.rules_fence.specs.declared.Verdict.{Verdict}
 use Rattle.rules_fence.specs.declared.Verdict.the-variants as verdict
 use Rattle.rules_fence.specs.Fence.{StatementFenced, Fenced, Breaks}
 use Rattle.rules_fence.specs.Breaches.{keepsb, breachOf, verdictFrom, fenceBy, fenceOf, breachIn}
+use Rattle.rules_fence.specs.Reasons.{StatementBreaks}
 use Rattle.rules_fence.specs.Answers.{FenceSays}
 use Rattle.rules_fence.proofs.Kept.{none-kept}
 use Rattle.rules_fence.proofs.Tests.{statement-tells}
+use Rattle.rules_fence.proofs.First.{statement-breaks, statement-named}
 
 -- ---- the statements
 
@@ -49,8 +52,12 @@ module _ (c : Code) (s : SoundCode c) where
           record { low = omega arith; breaks = λ r. false≢true (sym e ∙ statement-tells c s i (omega arith) .of r); before = h }
 
   -- A statement has no breach exactly when it keeps the rules.
-  pub breach-exactly : (i : ℕ) → i < c .statements → (breachOf c i ≡ breach.None) ↔ StatementFenced c (c .statement i)
-  breach-exactly i h = (λ e. statement-tells c s i h .to (ap keepsb e), λ r. none-kept (breachOf c i) (statement-tells c s i h .of r))
+  pub keeps-exactly : (i : ℕ) → i < c .statements → (breachOf c i ≡ breach.None) ↔ StatementFenced c (c .statement i)
+  keeps-exactly i h = (λ e. statement-tells c s i h .to (ap keepsb e), λ r. none-kept (breachOf c i) (statement-tells c s i h .of r))
+
+  -- A statement has a breach exactly when that rule is the one that it breaks first.
+  pub reason-exactly : (i : ℕ) → i < c .statements → (b : Breach) → (b ≡ breach.None → ⊥) → (breachOf c i ≡ b) ↔ StatementBreaks c (c .statement i) b
+  reason-exactly i h b z = (λ e. subst (StatementBreaks c (c .statement i)) e (statement-breaks c s i h (λ q. z (sym e ∙ q))), statement-named c s i h b z)
 
   same-first : (i j : ℕ) → Breaks c i → Breaks c j → i ≡ j
   same-first i j a b = by (ltb i j) (ltb j i) refl refl
@@ -112,4 +119,4 @@ module _ (u : List ℕ) where
   breach-named i e q =
       let t = fence-exactly (verdict.No i) .0 e in
       let z = breach-in (partsOf u) i (sound-passed u (partsOf u) (t .0)) (t .1 .low) in
-      t .1 .breaks (breach-exactly (codeOf u (partsOf u)) (t .0 .code) i (t .1 .low) .0 (sym z ∙ q))
+      t .1 .breaks (keeps-exactly (codeOf u (partsOf u)) (t .0 .code) i (t .1 .low) .0 (sym z ∙ q))

@@ -1,7 +1,10 @@
 -- The fence rules (document 01, "Fence rules"), as statements. Breaches has the same rules as tests.
+--   Bound c is v                 the items is are a bound with the value v
+--   Bounds c how before x y      the bounds x and y that a reference takes end the items before it
 --   InElement c dest f a n k     n bytes from a on lie in the element k of the field f, and end with it where they are a destination
 --   SpanFenced c dest f a n      the rules of the span of a reference to the field f
---   RefFenced c dest f span      the same, where the span may be none
+--   SpanKept c dest f span       the same, where the span may be none
+--   RefFenced c dest how f before  the rules of a reference behind the items before it
 --   ExprFenced c dest is         every reference of the expression is
 --   UseFenced, StatementFenced   every expression of a statement
 --   Fenced c                     every statement
@@ -11,8 +14,13 @@ use Prim.Native.Nat.{ℕ, _+_, _<_, _≤_}
 use mathlib.Core.Path.{_≡_}
 use mathlib.Core.Bool.{Bool, true, false}
 use mathlib.Core.List.{List, [], _∷_, _++_}
+use mathlib.Core.Logic.{_⊎_}
+use lib.IntN.{ℤ, pos, negℤ}
 use lib.ListN.{length, getD}
+use Rattle.rules.specs.declared.Num.the-variants.{Value}
 use Rattle.rules_unit.specs.declared.How.{How}
+use Rattle.rules_unit.specs.declared.How.the-variants as how
+use Rattle.rules_unit.specs.declared.Op.the-variants as op
 use Rattle.rules_unit.specs.declared.Item.{Item}
 use Rattle.rules_unit.specs.declared.Item.the-variants as item
 use Rattle.rules_unit.specs.declared.Statement.{Statement}
@@ -22,8 +30,49 @@ use Rattle.rules_unit.specs.Codes.{Code, decimalb, offsetOf, sizeOf, countOf, e
 use Rattle.rules_unit.specs.Expressions.{usesOf}
 use Rattle.rules_run.specs.declared.Span.{Span}
 use Rattle.rules_run.specs.declared.Span.the-variants.{At, Outside}
-use Rattle.rules_fence.specs.declared.Seen.the-variants as seen
-use Rattle.rules_fence.specs.Bounds.{seenIn, fixedSpan}
+use Rattle.rules_run.specs.Spans.{spanIn}
+use Rattle.rules_run.specs.Evaluation.{literalNumber}
+
+-- ---- "Each bound of 03, 04 and 05 is a number literal, or one followed by negate, standing directly before"
+
+pub record Literal (c : Code) (is : List Item) (v : ℤ) : Type 0 where
+  pub place : ℕ
+  pub len : ℕ
+  pub items : is ≡ item.Number place len ∷ []
+  pub value : literalNumber c place len ≡ Value v
+
+pub record Negated (c : Code) (is : List Item) (v : ℤ) : Type 0 where
+  pub place : ℕ
+  pub len : ℕ
+  pub magnitude : ℤ
+  pub items : is ≡ item.Number place len ∷ (item.Operator op.Negate ∷ [])
+  pub value : literalNumber c place len ≡ Value magnitude
+  pub sign : negℤ magnitude ≡ v
+
+abbrev pub Bound : Code → List Item → ℤ → Type 0
+Bound c is v = Literal c is v ⊎ Negated c is v
+
+-- One bound, and two, that end the items before.
+pub record OneBound (c : Code) (before : List Item) (x : ℤ) : Type 0 where
+  pub rest : List Item
+  pub bound : List Item
+  pub items : before ≡ rest ++ bound
+  pub is-bound : Bound c bound x
+
+pub record TwoBounds (c : Code) (before : List Item) (x y : ℤ) : Type 0 where
+  pub rest : List Item
+  pub first : List Item
+  pub last : List Item
+  pub items : before ≡ rest ++ (first ++ last)
+  pub is-first : Bound c first x
+  pub is-last : Bound c last y
+
+-- 02 takes no bound, 03 one, 04 and 05 two. What is not taken is 0.
+abbrev pub Bounds : Code → How → List Item → ℤ → ℤ → Type 0
+Bounds c how.Whole before x y = (x ≡ pos 0) × (y ≡ pos 0)
+Bounds c how.Element before x y = OneBound c before x × (y ≡ pos 0)
+Bounds c how.Range before x y = TwoBounds c before x y
+Bounds c how.Length before x y = TwoBounds c before x y
 
 -- ---- one span
 
@@ -43,13 +92,19 @@ pub record SpanFenced (c : Code) (dest : Bool) (f a n : ℕ) : Type 0 where
   -- "An alpha destination shares no byte with a decimal field."
   pub apart : decimalb c f ≡ false → dest ≡ true → (g b : ℕ) → g < c .fields → decimalb c g ≡ true → a ≤ b → b < a + n → offsetOf c g ≤ b → b < endOf c g → ⊥
 
--- "Each bound of 03, 04 and 05 is a number literal, or one followed by negate, standing directly before; the bounds are ones that 21 isn't
--- given for": a fixed span that is Outside breaks a rule.
-abbrev pub RefFenced : Code → Bool → ℕ → Span → Type 0
-RefFenced c dest f (At a n) = SpanFenced c dest f a n
-RefFenced c dest f Outside = ⊥
+-- "the bounds are ones that 21 isn't given for": they name a span.
+abbrev pub SpanKept : Code → Bool → ℕ → Span → Type 0
+SpanKept c dest f (At a n) = SpanFenced c dest f a n
+SpanKept c dest f Outside = ⊥
 
--- ---- expressions and statements
+-- ---- references, expressions and statements
+
+-- The span by the rules of a run. Bounds that are written in the unit are the same in every run, so the span is fixed.
+pub record RefFenced (c : Code) (dest : Bool) (h : How) (f : ℕ) (before : List Item) : Type 0 where
+  pub x : ℤ
+  pub y : ℤ
+  pub bounds : Bounds c h before x y
+  pub kept : SpanKept c dest f (spanIn 0 (c .size) (c .field f) h x y)
 
 -- Of a place only the last reference names a destination; those before it are read.
 abbrev pub destb : Bool → List Item → Bool
@@ -59,7 +114,7 @@ destb dest (i ∷ is) = false
 -- Every reference, wherever it stands between the items before it and those after it.
 pub record ExprFenced (c : Code) (dest : Bool) (is : List Item) : Type 0 where
   pub refs : (before after : List Item) (h : How) (f : ℕ) → is ≡ before ++ (item.Reference h f ∷ after)
-      → RefFenced c (destb dest after) f (fixedSpan c h f (seenIn c seen.Nothing before))
+      → RefFenced c (destb dest after) h f before
 
 -- "A destination is the span named by place a of codes 1 to 6": the uses that are written.
 abbrev pub UseFenced : Code → Use → Type 0
