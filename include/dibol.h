@@ -130,9 +130,11 @@ uint64_t dibol_check(const uint8_t *unit, size_t unit_len,
    breaks a rule and the breach, for DIBOL_REFUSED the stop (1 to 5) and its
    place, for DIBOL_YES 0 and 0.
 
-   Take a unit with a yes and data whose decimals are all valid. However a run of
-   it stops, they are all valid again, no byte outside the unit's destinations
-   has changed, and the stop was not 21. A unit with a no can still be run. */
+   Take a unit with a yes, data whose decimals are all valid, a sound state and
+   any allowance. However that run stops, they are all valid again, no byte
+   outside the unit's destinations has changed, the stop was not 21, and it was
+   22 only where alpha text was moved to a decimal place. A unit with a no can
+   still be run. */
 uint64_t dibol_fence(const uint8_t *unit, size_t unit_len,
                      uint64_t *answer, size_t answer_len);
 
