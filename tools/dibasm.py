@@ -561,6 +561,14 @@ def lengths_of(unit):
     return lengths
 
 
+def figures(data):
+    """A decimal as a number in figures: p to y at its end are 0 to 9 with a minus. Nothing where it is no number."""
+    if not re.fullmatch(rb"[0-9]*[0-9p-y]", data):
+        return ""
+    last = data[-1]
+    return str(int(data)) if last < 58 else str(-int(data[:-1] + bytes([last - 64])))
+
+
 def changed(**parts):
     changes = [f"{name}={value}" for name, value in parts.items() if value]
     return " ".join([" with", *changes]) if changes else ""
