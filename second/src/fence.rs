@@ -27,18 +27,18 @@ pub enum Fence {
 #[derive(Clone, Copy, Debug, PartialEq, Eq)]
 pub enum Breach {
     /// A bound is neither a number literal nor one followed by negate, standing directly before.
-    Bound = 1,
+    BoundNotLiteral = 1,
     /// The bounds are ones that 21 is given for. It is also given where the span does not stay
     /// inside the D bytes.
-    Bounds = 2,
+    BoundsWrong = 2,
     /// The span lies inside the D bytes, but not inside the field's size x count bytes.
-    Outside = 3,
+    LeavesField = 3,
     /// A decimal span does not lie in one element.
-    Elements = 4,
+    OverElements = 4,
     /// A decimal destination does not end at its element's last character.
-    MidField = 5,
+    StopsMidElement = 5,
     /// An alpha destination shares a byte with a decimal field.
-    OverDecimal = 6,
+    OnDecimal = 6,
 }
 
 impl Breach {
@@ -48,12 +48,12 @@ impl Breach {
 
     pub fn words(self) -> &'static str {
         match self {
-            Breach::Bound => "a bound is not a literal",
-            Breach::Bounds => "the bounds give 21",
-            Breach::Outside => "a span leaves its field",
-            Breach::Elements => "a decimal span is not in one element",
-            Breach::MidField => "a decimal destination ends inside its element",
-            Breach::OverDecimal => "an alpha destination shares a byte with a decimal field",
+            Breach::BoundNotLiteral => "a bound is not a literal",
+            Breach::BoundsWrong => "the bounds give 21",
+            Breach::LeavesField => "a span leaves its field",
+            Breach::OverElements => "a decimal span is not in one element",
+            Breach::StopsMidElement => "a decimal destination ends inside its element",
+            Breach::OnDecimal => "an alpha destination shares a byte with a decimal field",
         }
     }
 }
@@ -168,22 +168,22 @@ fn reference_breach(
     for (value, known) in values.iter_mut().zip(bounds) {
         match known.bound() {
             Some(bound) => *value = bound,
-            None => return Some(Breach::Bound),
+            None => return Some(Breach::BoundNotLiteral),
         }
     }
     // "the bounds are ones that 21 isn't given for, and the span lies inside the field's size x
     // count bytes": a span "must stay inside the D bytes. Otherwise 21."
     let Some(span) = named(field, form, values, parts.image.len()) else {
-        return Some(Breach::Bounds);
+        return Some(Breach::BoundsWrong);
     };
     if span.start < field.offset || field.end() < span.end {
-        return Some(Breach::Outside);
+        return Some(Breach::LeavesField);
     }
     if field.is_decimal() {
         let inside = span.start - field.offset..span.end - field.offset;
         decimal_breach(field.size, inside, is_destination)
     } else if is_destination {
-        shares_decimal(parts, span).then_some(Breach::OverDecimal)
+        shares_decimal(parts, span).then_some(Breach::OnDecimal)
     } else {
         None
     }
@@ -192,9 +192,9 @@ fn reference_breach(
 /// The rules of a decimal span that lies inside its field of elements of `size` characters.
 fn decimal_breach(size: usize, inside: Range<usize>, is_destination: bool) -> Option<Breach> {
     if inside.start / size != (inside.end - 1) / size {
-        Some(Breach::Elements)
+        Some(Breach::OverElements)
     } else if is_destination && !inside.end.is_multiple_of(size) {
-        Some(Breach::MidField)
+        Some(Breach::StopsMidElement)
     } else {
         None
     }

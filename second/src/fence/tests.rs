@@ -243,12 +243,12 @@ fn refused_units_are_refused() {
 #[test]
 fn rules_are_numbered_in_order() {
     let rules = [
-        Breach::Bound,
-        Breach::Bounds,
-        Breach::Outside,
-        Breach::Elements,
-        Breach::MidField,
-        Breach::OverDecimal,
+        Breach::BoundNotLiteral,
+        Breach::BoundsWrong,
+        Breach::LeavesField,
+        Breach::OverElements,
+        Breach::StopsMidElement,
+        Breach::OnDecimal,
     ];
     assert_eq!(rules.map(Breach::number), [1, 2, 3, 4, 5, 6]);
 }

@@ -44,8 +44,11 @@ fn run_in_slices(unit: &Unit, data: &mut [u8], slice: u64) -> Outcome {
         let outcome = unit.run(data, state, allowance);
         left -= outcome.count;
         slices += 1;
-        if outcome.stop != Stop::Allowance || allowance == 0 || left == 0 {
-            println!("statements: {} completed, in slices: {slices}", STATEMENTS_MOST - left);
+        if outcome.stop != Stop::Spent || allowance == 0 || left == 0 {
+            println!(
+                "statements: {} completed, in slices: {slices}",
+                STATEMENTS_MOST - left
+            );
             return outcome;
         }
         // The host does its own work here; data and state stay as they are until it goes on.

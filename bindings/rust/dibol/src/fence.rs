@@ -36,24 +36,24 @@ impl fmt::Display for Verdict {
 ///
 /// ```
 /// use dibol::Breach;
-/// assert_eq!(Breach::Outside.number(), 3);
-/// assert_eq!(Breach::Outside.to_string(), "a span leaves its field");
+/// assert_eq!(Breach::LeavesField.number(), 3);
+/// assert_eq!(Breach::LeavesField.to_string(), "a span leaves its field");
 /// ```
 #[derive(Clone, Copy, Debug, PartialEq, Eq, Hash)]
 #[non_exhaustive]
 pub enum Breach {
     /// 1: a bound is neither a number literal nor one followed by negate, standing directly before.
-    Bound,
+    BoundNotLiteral,
     /// 2: the bounds are ones that 21 is given for.
-    Bounds,
+    BoundsWrong,
     /// 3: the span does not lie inside the field's size x count bytes.
-    Outside,
+    LeavesField,
     /// 4: a decimal span does not lie in one element.
-    Elements,
+    OverElements,
     /// 5: a decimal destination does not end at its element's last character.
-    MidField,
+    StopsMidElement,
     /// 6: an alpha destination shares a byte with a decimal field.
-    OverDecimal,
+    OnDecimal,
     /// A number that this version of the crate has no name for.
     Other(u64),
 }
@@ -63,12 +63,12 @@ impl Breach {
     pub fn from_number(number: u64) -> Option<Breach> {
         Some(match number {
             0 => return None,
-            1 => Breach::Bound,
-            2 => Breach::Bounds,
-            3 => Breach::Outside,
-            4 => Breach::Elements,
-            5 => Breach::MidField,
-            6 => Breach::OverDecimal,
+            1 => Breach::BoundNotLiteral,
+            2 => Breach::BoundsWrong,
+            3 => Breach::LeavesField,
+            4 => Breach::OverElements,
+            5 => Breach::StopsMidElement,
+            6 => Breach::OnDecimal,
             _ => Breach::Other(number),
         })
     }
@@ -76,12 +76,12 @@ impl Breach {
     /// The number of the rule, in the order in which document 01 lists them.
     pub fn number(self) -> u64 {
         match self {
-            Breach::Bound => 1,
-            Breach::Bounds => 2,
-            Breach::Outside => 3,
-            Breach::Elements => 4,
-            Breach::MidField => 5,
-            Breach::OverDecimal => 6,
+            Breach::BoundNotLiteral => 1,
+            Breach::BoundsWrong => 2,
+            Breach::LeavesField => 3,
+            Breach::OverElements => 4,
+            Breach::StopsMidElement => 5,
+            Breach::OnDecimal => 6,
             Breach::Other(number) => number,
         }
     }
@@ -90,12 +90,12 @@ impl Breach {
 impl fmt::Display for Breach {
     fn fmt(&self, f: &mut fmt::Formatter<'_>) -> fmt::Result {
         f.write_str(match self {
-            Breach::Bound => "a bound is not a literal",
-            Breach::Bounds => "the bounds give 21",
-            Breach::Outside => "a span leaves its field",
-            Breach::Elements => "a decimal span is not in one element",
-            Breach::MidField => "a decimal destination ends inside its element",
-            Breach::OverDecimal => "an alpha destination shares a byte with a decimal field",
+            Breach::BoundNotLiteral => "a bound is not a literal",
+            Breach::BoundsWrong => "the bounds give 21",
+            Breach::LeavesField => "a span leaves its field",
+            Breach::OverElements => "a decimal span is not in one element",
+            Breach::StopsMidElement => "a decimal destination ends inside its element",
+            Breach::OnDecimal => "an alpha destination shares a byte with a decimal field",
             Breach::Other(number) => return write!(f, "breach {number}"),
         })
     }

@@ -20,35 +20,35 @@ pub enum Stop {
     /// 0: the end is reached.
     End,
     /// 1: the length, the mark or the filling of the unit is wrong.
-    Form,
+    NotFilled,
     /// 2: the length of a part is outside its range.
-    Range,
+    BadRange,
     /// 3: a field entry breaks its rule.
-    Field,
+    BadField,
     /// 4: an expression is badly formed, or of the wrong sort for its use.
-    Expression,
+    BadExpression,
     /// 5: a statement's code, zero part, count or target is wrong.
-    Statement,
+    BadStatement,
     /// 6: the data buffer is not as long as the unit's image.
-    DataLength,
+    WrongSize,
     /// 7: the resume state is unsound.
-    State,
+    Unsound,
     /// 20: more than 18 digits.
-    Digits,
+    TooLong,
     /// 21: a subscript or substring.
-    Subscript,
+    Outside,
     /// 22: a bad digit.
     BadDigit,
     /// 23: a zero divisor.
     ZeroDivisor,
     /// 24: a CALL with 50 calls open.
-    Call,
+    CallsFull,
     /// 25: a RETURN with none open.
-    Return,
+    NoCall,
     /// 26: a rounding count outside 0 to 18.
-    Rounding,
+    RoundCount,
     /// 30: the allowance is spent before the end; the run can go on.
-    Allowance,
+    Spent,
     /// A number that this version of the crate has no name for.
     Other(u64),
 }
@@ -56,21 +56,21 @@ pub enum Stop {
 /// The stops that have a name, each with its number.
 const NAMED: [(u64, Stop); 16] = [
     (0, Stop::End),
-    (1, Stop::Form),
-    (2, Stop::Range),
-    (3, Stop::Field),
-    (4, Stop::Expression),
-    (5, Stop::Statement),
-    (6, Stop::DataLength),
-    (7, Stop::State),
-    (20, Stop::Digits),
-    (21, Stop::Subscript),
+    (1, Stop::NotFilled),
+    (2, Stop::BadRange),
+    (3, Stop::BadField),
+    (4, Stop::BadExpression),
+    (5, Stop::BadStatement),
+    (6, Stop::WrongSize),
+    (7, Stop::Unsound),
+    (20, Stop::TooLong),
+    (21, Stop::Outside),
     (22, Stop::BadDigit),
     (23, Stop::ZeroDivisor),
-    (24, Stop::Call),
-    (25, Stop::Return),
-    (26, Stop::Rounding),
-    (30, Stop::Allowance),
+    (24, Stop::CallsFull),
+    (25, Stop::NoCall),
+    (26, Stop::RoundCount),
+    (30, Stop::Spent),
 ];
 
 impl Stop {
@@ -130,7 +130,7 @@ fn words_into(stop: u64, text: &mut [u8]) -> usize {
 /// ```
 /// use dibol::{Stop, Unit};
 /// let refusal = Unit::check(b"no unit at all").unwrap_err();
-/// assert_eq!((refusal.stop, refusal.place), (Stop::Form, 0));
+/// assert_eq!((refusal.stop, refusal.place), (Stop::NotFilled, 0));
 /// ```
 #[derive(Clone, Copy, Debug, PartialEq, Eq, Hash)]
 pub struct Refusal {

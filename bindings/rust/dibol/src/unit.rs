@@ -76,7 +76,7 @@ impl<'a> Unit<'a> {
     /// let unit = Unit::check(&bytes)?;
     /// let mut data = unit.image().to_vec();
     /// let mut outcome = unit.run(&mut data, State::START, 1);
-    /// while outcome.stop == Stop::Allowance {
+    /// while outcome.stop == Stop::Spent {
     ///     outcome = unit.run(&mut data, outcome.state, 1);
     /// }
     /// assert_eq!((outcome.stop, outcome.place), (Stop::End, 2));

@@ -90,7 +90,7 @@ fn a_refused_run_changes_nothing() {
     let unit = Unit::check(&EXAMPLE).unwrap();
     let mut long = *b"411";
     let outcome = unit.run(&mut long, State::START, 9);
-    assert_eq!((outcome.stop, outcome.count), (Stop::DataLength, 0));
+    assert_eq!((outcome.stop, outcome.count), (Stop::WrongSize, 0));
     assert_eq!((long, outcome.state), (*b"411", State::START));
     for (entry, number) in [(0, 3), (1, 51), (2, 1), (51, 1), (0, 65_536), (1, u64::MAX)] {
         let mut numbers = [0; 52];
@@ -98,7 +98,7 @@ fn a_refused_run_changes_nothing() {
         let state = State::from(numbers);
         let mut data = *b"41";
         let outcome = unit.run(&mut data, state, 9);
-        assert_eq!((outcome.stop, outcome.place), (Stop::State, 0));
+        assert_eq!((outcome.stop, outcome.place), (Stop::Unsound, 0));
         assert_eq!(
             (data, outcome.state),
             (*b"41", state),
@@ -118,13 +118,16 @@ fn a_paused_run_is_one_run() {
     let unit = Unit::check(&bytes).unwrap();
     let mut data = *b"x";
     let whole = unit.run(&mut data, State::START, 1_000);
-    assert_eq!((whole.stop, whole.place, whole.count), (Stop::Call, 0, 50));
+    assert_eq!(
+        (whole.stop, whole.place, whole.count),
+        (Stop::CallsFull, 0, 50)
+    );
     assert_eq!(whole.state.open_calls(), 50);
     assert_eq!(whole.state.returns(), [1; 50]);
     for slice in 1..=51 {
         let mut count = 0;
         let mut outcome = unit.run(&mut data, State::START, slice);
-        while outcome.stop == Stop::Allowance {
+        while outcome.stop == Stop::Spent {
             assert_eq!(outcome.count, slice);
             count += outcome.count;
             outcome = unit.run(&mut data, outcome.state, slice);
@@ -151,7 +154,7 @@ fn an_allowance_of_0_is_30_and_at_the_end_0() {
     let unit = Unit::check(&EXAMPLE).unwrap();
     let mut data = *b"41";
     let before = unit.run(&mut data, State::START, 0);
-    assert_eq!((before.stop, before.place), (Stop::Allowance, 0));
+    assert_eq!((before.stop, before.place), (Stop::Spent, 0));
     let end = unit.run(&mut data, State::START, u64::MAX);
     let after = unit.run(&mut data, end.state, 0);
     assert_eq!((after.stop, after.place, after.count), (Stop::End, 2, 0));
@@ -162,7 +165,7 @@ fn the_fence_names_statement_and_rule() {
     // UPCASE of the record, which covers the decimals.
     let bytes = one((5, 0, 0, 0), b"\x02\0\x02\0");
     let unit = Unit::check(&bytes).unwrap();
-    let breach = Breach::OverDecimal;
+    let breach = Breach::OnDecimal;
     let verdict = Verdict::No {
         statement: 0,
         breach,
