@@ -80,11 +80,7 @@ fn step(parts: &Parts, data: &mut [u8], state: &mut State) -> Result<(), Fault> 
     let Statement { code, a, b, c, .. } = parts.statement(i).expect(SOUND);
     match code {
         code::SET => set(parts, data, a, b)?,
-        code::CLEAR => {
-            let place = place(parts, data, a)?;
-            let filling = if place.is_decimal { b'0' } else { b' ' };
-            data[place.range()].fill(filling);
-        }
+        code::CLEAR => clear(parts, data, a)?,
         code::INCR => add_to(parts, data, a, 1)?,
         code::DECR => add_to(parts, data, a, -1)?,
         code::UPCASE => {
@@ -112,15 +108,20 @@ fn step(parts: &Parts, data: &mut [u8], state: &mut State) -> Result<(), Fault> 
             return Ok(());
         }
         code::COMPUTED_GOTO => {
-            let value = number(parts, data, b)?;
-            let chosen = usize::try_from(value).ok().filter(|v| (1..=a).contains(v));
-            state.go_to(i + chosen.unwrap_or(a + 1));
+            state.go_to(i + chosen(number(parts, data, b)?, a));
             return Ok(());
         }
         _ => unreachable!("a sound unit has no statement {code}"),
     }
     state.advance();
     Ok(())
+}
+
+/// How far a computed GOTO goes on: to the one of its `n` GOTOs that a value from 1 to n chooses,
+/// and past them all for any other.
+fn chosen(value: i64, n: usize) -> usize {
+    let label = usize::try_from(value).ok().filter(|v| (1..=n).contains(v));
+    label.unwrap_or(n + 1)
 }
 
 /// SET: a is worked out before b, and storing comes last.
@@ -145,6 +146,14 @@ fn set(parts: &Parts, data: &mut [u8], a: usize, b: usize) -> Result<(), Fault> 
             text::write_text(&mut data[place.range()], &parts.literals[range]);
         }
     }
+    Ok(())
+}
+
+/// CLEAR: zeros for decimal, spaces for alpha.
+fn clear(parts: &Parts, data: &mut [u8], a: usize) -> Result<(), Fault> {
+    let place = place(parts, data, a)?;
+    let filling = if place.is_decimal { b'0' } else { b' ' };
+    data[place.range()].fill(filling);
     Ok(())
 }
 

@@ -28,6 +28,13 @@ struct Values {
 }
 
 impl Values {
+    fn none() -> Values {
+        Values {
+            values: [0; HELD_MOST],
+            held: 0,
+        }
+    }
+
     fn hold(&mut self, value: i64) {
         self.values[self.held] = value;
         self.held += 1;
@@ -57,20 +64,14 @@ impl Values {
 /// stand.
 pub fn work(parts: &Parts, data: &[u8], offset: usize) -> Result<Worked, Fault> {
     let expressions = parts.expressions;
-    let mut values = Values {
-        values: [0; HELD_MOST],
-        held: 0,
-    };
+    let mut values = Values::none();
     let mut at = offset;
     loop {
         let code = expressions[at];
         match code {
             CLOSE => return Ok(Worked::Number(values.take())),
             0x01 => {
-                let place = number_at(expressions, at + 1);
-                let length = usize::from(expressions[at + 3]);
-                let digits = &parts.literals[place..place + length];
-                values.hold(decimal::read_literal(digits));
+                values.hold(literal_number(parts, at));
                 at += 4;
             }
             0x02..=0x05 => {
@@ -100,6 +101,13 @@ pub fn work(parts: &Parts, data: &[u8], offset: usize) -> Result<Worked, Fault> 
             }
         }
     }
+}
+
+/// The number of the literal whose item stands at `at`.
+fn literal_number(parts: &Parts, at: usize) -> i64 {
+    let place = number_at(parts.expressions, at + 1);
+    let length = usize::from(parts.expressions[at + 3]);
+    decimal::read_literal(&parts.literals[place..place + length])
 }
 
 /// The place that the expression at `offset` names.
