@@ -60,18 +60,21 @@ static uint64_t run_in_slices(const uint8_t *unit, size_t unit_len, uint8_t *dat
     return stop;
 }
 
-/* Reads at most UNIT_MOST + 1 bytes of a file, and gives their number, or -1 for no file. */
+/* Reads at most UNIT_MOST + 1 bytes of a file, and gives their number, or -1 where it cannot be
+ * read, as a folder cannot. */
 static long read_file(const char *name, uint8_t *bytes)
 {
     FILE *file = fopen(name, "rb");
-    long length;
+    long length = -1;
 
-    if (!file) {
+    if (file)
+        length = (long)fread(bytes, 1, UNIT_MOST + 1, file);
+    if (!file || ferror(file)) {
         perror(name);
-        return -1;
+        length = -1;
     }
-    length = (long)fread(bytes, 1, UNIT_MOST + 1, file);
-    fclose(file);
+    if (file)
+        fclose(file);
     return length;
 }
 
