@@ -88,17 +88,19 @@ lib:
 	@mkdir -p build/lib
 ifeq ($(LIB),target/staticlib)
 	@rt check dibol_c > build/lib.log || { tail -n 20 build/lib.log; exit 1; }
-	@test $(LIB)/libdibol_c.a -nt target/rlib/dibol_c.rlib || rt staticlib dibol_c > build/lib.log || { tail -n 20 build/lib.log; exit 1; }
+	@test "$(LIB)/libdibol_c.a" -nt target/rlib/dibol_c.rlib || rt staticlib dibol_c > build/lib.log || { tail -n 20 build/lib.log; exit 1; }
 endif
-	@cmp -s $(LIB)/libdibol_c.a build/lib/libdibol.a || install -m 644 $(LIB)/libdibol_c.a build/lib/libdibol.a
+	@cmp -s "$(LIB)/libdibol_c.a" build/lib/libdibol.a || install -m 644 "$(LIB)/libdibol_c.a" build/lib/libdibol.a
 
-# The library installed, tested as C hosts take it, and taken out again; then the Rust binding with its documentation's examples.
+# The library installed, in a folder whose name has a space, tested as C hosts take it, and taken out again; then the Rust binding with
+# its documentation's examples.
+prefix := build/a prefix
 hosts: lib stored
-	@rm -rf build/prefix
-	@$(MAKE) --no-print-directory install PREFIX=$(CURDIR)/build/prefix DESTDIR=
-	tools/test-hosts build/prefix
-	@$(MAKE) --no-print-directory uninstall PREFIX=$(CURDIR)/build/prefix DESTDIR=
-	@test -z "$$(find build/prefix -type f)"
+	@rm -rf "$(prefix)"
+	@$(MAKE) --no-print-directory install PREFIX="$(CURDIR)/$(prefix)" DESTDIR=
+	tools/test-hosts "$(prefix)"
+	@$(MAKE) --no-print-directory uninstall PREFIX="$(CURDIR)/$(prefix)" DESTDIR=
+	@test -z "$$(find "$(prefix)" -type f)"
 	$(cargo) test --offline --quiet --manifest-path bindings/rust/Cargo.toml
 
 # The library against the second interpreter: some cases that reach everything, in the gate; as many as you like.
@@ -109,24 +111,28 @@ differential: lib
 fuzz: lib
 	@$(cargo) run --release --offline --quiet --manifest-path tests/differential/Cargo.toml -- $(N) $(SEED)
 
-# What stands below PREFIX: the library for C, the manual pages, and the programs: the owner's program with the wrapper that gives it an
-# exit status before it, and the bench program by a longer name.
+# What stands below PREFIX: the library for C, the manual pages, the pages of docs/, and the programs: the owner's program with the
+# wrapper that gives it an exit status before it, and the bench program by a longer name.
 to := $(DESTDIR)$(PREFIX)
 manual := $(notdir $(wildcard man/*.[1-8]))
+documents := $(notdir $(wildcard docs/*.md))
 
 install: lib
 	@rt check bench boxlever > build/install.log || { tail -n 20 build/install.log; exit 1; }
-	@install -d $(to)/lib/pkgconfig $(to)/include $(to)/bin
-	install -m 644 build/lib/libdibol.a $(to)/lib/libdibol.a
-	install -m 644 $(INCLUDE)/dibol.h $(to)/include/dibol.h
-	@version=$$(sed -n 's/^.define DIBOL_VERSION "\(.*\)"/\1/p' $(INCLUDE)/dibol.h); \
-	sed "s|@PREFIX@|$(PREFIX)|; s|@VERSION@|$$version|" include/dibol.pc.in > $(to)/lib/pkgconfig/dibol.pc
-	@for page in $(manual); do install -D -m 644 man/$$page $(to)/share/man/man$${page##*.}/$$page; done
-	install -m 755 tools/boxlever $(to)/bin/boxlever
-	install -m 755 target/bin/boxlever $(to)/bin/boxlever-program
-	install -m 755 target/bin/bench $(to)/bin/boxlever-bench
+	@install -d "$(to)/lib/pkgconfig" "$(to)/include" "$(to)/bin"
+	install -m 644 build/lib/libdibol.a "$(to)/lib/libdibol.a"
+	install -m 644 "$(INCLUDE)/dibol.h" "$(to)/include/dibol.h"
+	@version=$$(sed -n 's/^.define DIBOL_VERSION "\(.*\)"/\1/p' "$(INCLUDE)/dibol.h"); \
+	sed "s|@PREFIX@|$(PREFIX)|; s|@VERSION@|$$version|" include/dibol.pc.in > "$(to)/lib/pkgconfig/dibol.pc"
+	@for page in $(manual); do install -D -m 644 man/$$page "$(to)/share/man/man$${page##*.}/$$page"; done
+	@for page in $(documents); do install -D -m 644 docs/$$page "$(to)/share/doc/boxlever/$$page"; done
+	install -m 755 tools/boxlever "$(to)/bin/boxlever"
+	install -m 755 target/bin/boxlever "$(to)/bin/boxlever-program"
+	install -m 755 target/bin/bench "$(to)/bin/boxlever-bench"
 
 uninstall:
-	rm -f $(to)/lib/libdibol.a $(to)/include/dibol.h $(to)/lib/pkgconfig/dibol.pc
-	@rm -f $(foreach page,$(manual),$(to)/share/man/man$(subst .,,$(suffix $(page)))/$(page))
-	@rm -f $(addprefix $(to)/bin/,boxlever boxlever-program boxlever-bench)
+	rm -f "$(to)/lib/libdibol.a" "$(to)/include/dibol.h" "$(to)/lib/pkgconfig/dibol.pc"
+	@for page in $(manual); do rm -f "$(to)/share/man/man$${page##*.}/$$page"; done
+	@for page in $(documents); do rm -f "$(to)/share/doc/boxlever/$$page"; done
+	@for program in boxlever boxlever-program boxlever-bench; do rm -f "$(to)/bin/$$program"; done
+	@rmdir "$(to)/share/doc/boxlever" 2> /dev/null || true
