@@ -33,6 +33,8 @@ pub struct Case {
     pub room: usize,
     /// Whether the case is also run one statement at a time.
     pub is_stepped: bool,
+    /// An allowance that no run spends, which some cases are given once it is known that they end.
+    pub great: Option<u64>,
 }
 
 impl Case {
@@ -59,6 +61,7 @@ impl Case {
             absent: absent(random),
             room: random.weighed(&[(20, 3), (1, 0), (1, 1), (1, 2), (1, 4)]),
             is_stepped: random.chance(15),
+            great: great(random),
         }
     }
 }
@@ -101,6 +104,12 @@ fn absent(random: &mut Random) -> usize {
 fn allowance(random: &mut Random) -> u64 {
     let most = random.weighed(&[(1, 0), (3, 1), (5, 4), (12, 30), (3, 120)]);
     random.within(0..=most) as u64
+}
+
+/// An allowance that would be a small or a negative one if bits of it were lost.
+fn great(random: &mut Random) -> Option<u64> {
+    let allowance = random.pick(&[1 << 32, 1 << 63, u64::MAX]);
+    random.chance(10).then_some(allowance)
 }
 
 /// A resume state for a unit of `count` statements: the start, another that is sound, or one that

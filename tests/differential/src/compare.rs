@@ -51,8 +51,12 @@ pub fn compare(case: &Case, reached: &mut Reached) -> Result<(), Difference> {
     }
     let (data, state) = (Lent::bytes(&case.data), Lent::numbers(&case.state));
     let ran = run(case, (data, state), case.allowances[0], reached)?;
-    if ran.given.result == 30 {
-        resume(case, &ran, reached)?;
+    let last = match ran.given.result {
+        30 => &resume(case, &ran, reached)?,
+        _ => &ran,
+    };
+    if last.given.result != 30 {
+        allow_more(case, last, reached)?;
     }
     if has_passed && case.is_stepped {
         step(case, reached)?;
@@ -208,8 +212,8 @@ pub fn library_run(case: &Case, from: (Lent<u8>, Lent<u64>), allowance: u64, cou
 }
 
 /// Goes on where a run ended in 30, on both sides, and holds the library to the law of pausing: the
-/// two runs come to what one run with both allowances comes to.
-fn resume(case: &Case, first: &Ran, reached: &mut Reached) -> Result<(), Difference> {
+/// two runs come to what one run with both allowances comes to, which is given.
+fn resume(case: &Case, first: &Ran, reached: &mut Reached) -> Result<Ran, Difference> {
     reached.resumed();
     let [before, more] = case.allowances;
     let from = (first.data.clone(), first.state.clone());
@@ -221,7 +225,21 @@ fn resume(case: &Case, first: &Ran, reached: &mut Reached) -> Result<(), Differe
     let start = (Lent::bytes(&case.data), Lent::numbers(&case.state));
     let whole = library_run(case, start, before + more, joined.count);
     let what = || format!("pausing: one run with {before} + {more}, and two");
-    same(what, whole, joined)
+    same(what, &whole, &joined)?;
+    Ok(whole)
+}
+
+/// Gives a run that has ended a great allowance, on both sides, where the case has one: it comes to
+/// the same.
+fn allow_more(case: &Case, ended: &Ran, reached: &mut Reached) -> Result<(), Difference> {
+    let Some(great) = case.great else {
+        return Ok(());
+    };
+    reached.allowed_more();
+    let start = (Lent::bytes(&case.data), Lent::numbers(&case.state));
+    let ran = run(case, start, great, reached)?;
+    let what = || format!("a run that has ended, and one with allowance {great}");
+    same(what, &ran, ended)
 }
 
 /// The most statements of a run that is stepped.

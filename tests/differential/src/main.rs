@@ -34,22 +34,37 @@ fn main() -> ExitCode {
     let words: Vec<String> = env::args().skip(1).collect();
     let words: Vec<&str> = words.iter().map(String::as_str).collect();
     let number = |word: &str| word.parse::<u64>().ok();
+    let threads = env::var("THREADS").ok();
     let done = match words[..] {
         ["case", seed, case] => number(seed)
             .zip(number(case))
-            .map(|(seed, case)| one_case(seed, case)),
+            .map(|(seed, case)| Ok(one_case(seed, case))),
         [count, seed, ref rest @ ..] if rest.is_empty() || rest == ["--reached"] => number(count)
             .zip(number(seed))
-            .map(|(count, seed)| threads::all_cases(count, seed, !rest.is_empty())),
+            .map(|(count, seed)| all_cases(count, seed, threads.as_deref(), !rest.is_empty())),
         _ => None,
     };
-    match done {
-        Some(true) => ExitCode::SUCCESS,
-        Some(false) => ExitCode::FAILURE,
-        None => {
-            eprintln!("{USAGE}");
+    match done.unwrap_or(Err(USAGE)) {
+        Ok(true) => ExitCode::SUCCESS,
+        Ok(false) => ExitCode::FAILURE,
+        Err(words) => {
+            eprintln!("{words}");
             ExitCode::from(2)
         }
+    }
+}
+
+/// Tries the cases of a seed, unless none would be tried, and tells whether all went well.
+fn all_cases(
+    count: u64,
+    seed: u64,
+    threads: Option<&str>,
+    wants_all: bool,
+) -> Result<bool, &'static str> {
+    match (count, threads::thread_count(threads)) {
+        (0, _) => Err("differential: N is 0, so nothing is tried"),
+        (_, 0) => Err("differential: THREADS is no number over 0, so nothing is tried"),
+        (_, threads) => Ok(threads::all_cases(count, seed, threads, wants_all)),
     }
 }
 
@@ -62,4 +77,16 @@ fn one_case(seed: u64, case: u64) -> bool {
         Err(difference) => println!("{}", report::difference(difference)),
     }
     found.is_ok()
+}
+
+#[cfg(test)]
+mod tests {
+    use super::all_cases;
+
+    #[test]
+    fn nothing_tried_is_no_success() {
+        assert!(all_cases(0, 1, None, false).is_err());
+        assert!(all_cases(1, 1, Some("0"), false).is_err());
+        assert_eq!(all_cases(1, 1, Some("1"), false), Ok(true));
+    }
 }

@@ -32,6 +32,8 @@ pub struct Reached {
     literals: u64,
     /// Runs that went on after a 30.
     resumed: u64,
+    /// Runs that were given a great allowance.
+    allowed_more: u64,
     /// Runs that demand 3 speaks of: a yes, valid data and a sound state.
     fenced_runs: u64,
     /// Statements completed by all runs.
@@ -79,6 +81,10 @@ impl Reached {
         self.resumed += 1;
     }
 
+    pub fn allowed_more(&mut self) {
+        self.allowed_more += 1;
+    }
+
     pub fn fenced_run(&mut self) {
         self.fenced_runs += 1;
     }
@@ -95,6 +101,7 @@ impl Reached {
         add_all(&mut self.breaches, &other.breaches);
         self.literals += other.literals;
         self.resumed += other.resumed;
+        self.allowed_more += other.allowed_more;
         self.fenced_runs += other.fenced_runs;
         self.completed += other.completed;
     }
@@ -112,11 +119,16 @@ impl Reached {
         look("item", &self.items, &ITEMS);
         look("fence answer", &self.verdicts, &range::<3>(0));
         look("breach", &self.breaches, &range::<7>(0));
-        let others = [self.literals, self.resumed, self.fenced_runs];
+        let others = [
+            self.literals,
+            self.resumed,
+            self.allowed_more,
+            self.fenced_runs,
+        ];
         look(
-            "of literals, resumed runs, fenced runs number",
+            "of literals, resumed runs, great allowances, fenced runs number",
             &others,
-            &range::<3>(0),
+            &range::<4>(0),
         );
         missing
     }
@@ -149,11 +161,13 @@ impl fmt::Display for Reached {
         let Reached {
             literals,
             resumed,
+            allowed_more,
             fenced_runs,
             completed,
             ..
         } = self;
         write!(f, "\nalso  {literals} literals, {resumed} runs resumed, ")?;
+        write!(f, "{allowed_more} with a great allowance, ")?;
         write!(
             f,
             "{fenced_runs} runs inside the fence, {completed} statements completed"

@@ -23,6 +23,9 @@ pub fn told(seed: u64, number: u64) -> String {
             case.room
         ),
     ];
+    if let Some(great) = case.great {
+        lines.push(format!("allowance {great} where these do not end in 30"));
+    }
     if let [at, depth, returns @ ..] = &case.state[..] {
         let returns: Vec<String> = returns.iter().map(u64::to_string).collect();
         let returns = returns.join(",");

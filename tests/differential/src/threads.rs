@@ -4,7 +4,6 @@ use crate::cases::Case;
 use crate::compare::{compare, Difference};
 use crate::reached::Reached;
 use crate::report;
-use std::env;
 use std::panic::{catch_unwind, AssertUnwindSafe};
 use std::sync::atomic::{AtomicU64, Ordering::Relaxed};
 use std::thread;
@@ -44,7 +43,7 @@ pub fn attempt(seed: u64, number: u64, reached: &mut Reached) -> Result<(), Diff
 }
 
 /// Tries the cases 0 to `count` - 1, prints what was reached, and tells whether all went well.
-pub fn all_cases(count: u64, seed: u64, wants_all: bool) -> bool {
+pub fn all_cases(count: u64, seed: u64, threads: usize, wants_all: bool) -> bool {
     let shared = Shared {
         seed,
         count,
@@ -53,7 +52,7 @@ pub fn all_cases(count: u64, seed: u64, wants_all: bool) -> bool {
         differences: AtomicU64::new(0),
     };
     let start = Instant::now();
-    let reached = share_out(&shared);
+    let reached = share_out(&shared, threads);
     let done = shared.done.into_inner();
     let differences = shared.differences.into_inner();
     println!("{reached}");
@@ -66,15 +65,16 @@ pub fn all_cases(count: u64, seed: u64, wants_all: bool) -> bool {
     differences == 0 && missing.is_empty()
 }
 
-/// As many threads as THREADS says, or as the machine has processors.
-fn thread_count() -> usize {
-    let told = env::var("THREADS").ok().and_then(|told| told.parse().ok());
-    told.unwrap_or_else(|| thread::available_parallelism().map_or(1, usize::from))
+/// As many threads as are told, none where that is no number; or as the machine has processors.
+pub fn thread_count(told: Option<&str>) -> usize {
+    match told {
+        Some(told) => told.parse().unwrap_or(0),
+        None => thread::available_parallelism().map_or(1, usize::from),
+    }
 }
 
 /// Runs the threads and tells of their progress; gives what they have reached together.
-fn share_out(shared: &Shared) -> Reached {
-    let threads = thread_count();
+fn share_out(shared: &Shared, threads: usize) -> Reached {
     let mut sum = Reached::default();
     thread::scope(|scope| {
         let workers: Vec<_> = (0..threads).map(|_| scope.spawn(|| work(shared))).collect();
@@ -113,5 +113,18 @@ fn work(shared: &Shared) -> Reached {
             }
         }
         shared.done.fetch_add(behind - first, Relaxed);
+    }
+}
+
+#[cfg(test)]
+mod tests {
+    use super::thread_count;
+
+    #[test]
+    fn what_is_no_number_is_no_thread() {
+        assert_eq!(thread_count(Some("3")), 3);
+        assert_eq!(thread_count(Some("0")), 0);
+        assert_eq!(thread_count(Some("two")), 0);
+        assert!(thread_count(None) > 0);
     }
 }
