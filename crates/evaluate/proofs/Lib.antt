@@ -2,3 +2,4 @@ pub mod Numbers
 pub mod Held
 pub mod Coded
 pub mod Steps
+pub mod Alone

@@ -3,15 +3,16 @@
 --   restOf c d is st     what the items that are left come to, with the values st held
 --   heldOn kept next v   what an item comes to that makes v of the values that it takes
 --   howOf code           the bounds of a reference by its code, 03 to 05
+--   loneb es i           the expression at i is a reference without bounds alone: 02, the field, 00
 --   Ready                what every step asks
 --   Leads                what every step keeps: what is left, with the values held, comes to the same
 -- The rule itself is `workedOf` of rules_run, over the list of items.
 -- Assumes nothing.
-use Prim.Native.Nat.{ℕ, zero, suc, _^_, _<_}
+use Prim.Native.Nat.{ℕ, zero, suc, _+_, _^_, _<_}
 use mathlib.Core.Path.{_≡_}
-use mathlib.Core.Bool.{cond}
+use mathlib.Core.Bool.{Bool, false, cond}
 use mathlib.Core.List.{List, [], _∷_}
-use lib.Dec.{eqb}
+use lib.Dec.{ltb, eqb}
 use lib.IntN.{ℤ, pos}
 use lib.ListN.{length, getD}
 use Rattle.rules.specs.declared.Num.{Num}
@@ -43,6 +44,10 @@ heldOn kept next (Failed e) = Done (worked.Failed e)
 
 abbrev pub howOf : ℕ → How
 howOf code = cond (eqb code 0x03) how.Element (cond (eqb code 0x04) how.Range how.Length)
+
+abbrev pub loneb : List ℕ → ℕ → Bool
+loneb es i =
+    cond (ltb i (length es)) (cond (eqb (getD es i 0) 0x02) (cond (ltb (i + 3) (length es)) (eqb (getD es (i + 3) 0) 0) false) false) false
 
 -- Every value of the array is in the range.
 abbrev pub Vals : List ℤ → Type 0

@@ -16,7 +16,7 @@ ghost use Rattle.rules_unit.specs.Decode.{Fills, Dialect, referenceAt, numberAt
 ghost use Rattle.rules_run.specs.declared.Worked.the-variants as worked;
 ghost use Rattle.rules_run.specs.Evaluation.{workedOf, numberOf, Within};
 ghost use Rattle.evaluate.specs.declared.Step.the-variants as step;
-ghost use Rattle.evaluate.specs.Steps.{heldOn, howOf, Ready, Leads};
+ghost use Rattle.evaluate.specs.Steps.{heldOn, howOf, loneb, Ready, Leads};
 
 // ---- one item
 
@@ -318,6 +318,36 @@ pub fn worked(unit: &[u8], parts: Parts, bytes: &[u8], e: u16) -> Worked
     let start = decode::expressions_offset(parts);
     let end = decode::literals_offset(parts);
     worked_in(unit, parts, bytes, &unit[start..end], decode::long(e))
+}
+
+// Whether an expression is a reference without bounds alone.
+fn lone(es: &[u8], at: usize) -> bool
+    ensures { λ r. ⌜ r ≡ loneb (now (es .entry)) at ⌝ }
+{
+    if es.len() <= at {
+        return false;
+    }
+    if es[at] == 2 {
+        return items::ends(es, at + 3);
+    }
+    false
+}
+
+// What the expression of a place comes to. Most places are a field alone, which takes no loop.
+pub fn place(unit: &[u8], parts: Parts, bytes: &[u8], e: u16) -> Worked
+    requires { ⌜ Fills (now unit) parts ⌝ }
+    requires { ⌜ Dialect parts ⌝ }
+    requires { ⌜ length (now bytes) < 65536 ⌝ }
+    ensures { λ r. ⌜ r ≡ workedOf (codeOf (now (unit .entry)) parts) (now (bytes .entry)) (codeOf (now (unit .entry)) parts .items e) ⌝ }
+{
+    let start = decode::expressions_offset(parts);
+    let end = decode::literals_offset(parts);
+    let at = decode::long(e);
+    if lone(&unit[start..end], at) {
+        let field = decode::word(&unit[start..end], at + 1);
+        return items::place_first(unit, parts, bytes, field);
+    }
+    worked(unit, parts, bytes, e)
 }
 
 // The number that an expression comes to: a decimal place is read. The unit is named for the contract alone.

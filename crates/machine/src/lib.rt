@@ -8,98 +8,101 @@ use rules_run::Write;
 use rules_unit::Parts;
 use rules_unit::Statement;
 ghost use mathlib.Core.Path.{_≡_};
-ghost use Prim.Native.Nat.{_+_, _^_, _<_};
+ghost use Prim.Native.Nat.{_+_, _^_, _≤_, _<_};
 ghost use lib.ListN.{length};
 ghost use Rattle.rules.specs.Values.{Val};
 ghost use Rattle.rules_unit.specs.declared.Statement.the-variants as statement;
 ghost use Rattle.rules_unit.specs.Decode.{Fills, Dialect, codeOf};
 ghost use Rattle.rules_unit.specs.Sound.{ShapeSound};
 ghost use Rattle.rules_run.specs.Evaluation.{workedOf};
-ghost use Rattle.rules_run.specs.Turns.{onPlace, countAt, caseAt, ifZero, choose, turnBy, turnOf};
-ghost use Rattle.machine.specs.Upward.{upwardb};
+ghost use Rattle.rules_run.specs.Turns.{onPlace, ifZero, choose, turnBy, turnOf};
+ghost use Rattle.machine.specs.Acts.{actOf, atPlace};
 
-// ---- SET
+// ---- SET, CLEAR, INCR, DECR, UPCASE, LOCASE
 
-// SET: the place is worked out before the source. Only a computed GOTO looks at its own number, so the contracts of the others name 0.
-fn set_place(unit: &[u8], parts: Parts, bytes: &[u8], place: u16, source: u16) -> Turn
-    requires { ⌜ Fills (now unit) parts ⌝ }
-    requires { ⌜ Dialect parts ⌝ }
-    requires { ⌜ length (now bytes) < 65536 ⌝ }
-    ensures { λ r. ⌜ r ≡ turnBy (codeOf (now (unit .entry)) parts) 0 (now (bytes .entry)) (statement.Set place source) ⌝ }
+// What is done at a place. Up is one more and not one less, and upper is upper case and not lower.
+pub enum Act {
+    Move { source: u16 },
+    Clear,
+    Count { up: bool },
+    Case { upper: bool },
+    // The statement has no place.
+    Nothing,
+}
+
+// What a statement does at its place, once it is found.
+fn act_of(s: Statement) -> Act
+    ensures { λ r. ⌜ r ≡ actOf s ⌝ }
 {
-    match evaluate::worked(unit, parts, bytes, place) {
-        Worked::Number(_) => moves::fails(Fault::Malformed),
-        Worked::Place {
-            decimal,
-            start,
-            len,
-        } => {
-            let w = evaluate::worked(unit, parts, bytes, source);
-            moves::move_worked(unit, parts, bytes, decimal, start, len, w)
-        }
-        Worked::Text { place: _, len: _ } => moves::fails(Fault::Malformed),
-        Worked::Failed(e) => moves::fails(e),
+    match s {
+        Statement::Set { place: _, source } => Act::Move { source: source },
+        Statement::Clear { place: _ } => Act::Clear,
+        Statement::Incr { place: _ } => Act::Count { up: true },
+        Statement::Decr { place: _ } => Act::Count { up: false },
+        Statement::Upcase { place: _ } => Act::Case { upper: true },
+        Statement::Locase { place: _ } => Act::Case { upper: false },
+        Statement::Goto { target: _ } => Act::Nothing,
+        Statement::IfZero {
+            number: _,
+            target: _,
+        } => Act::Nothing,
+        Statement::Call { target: _ } => Act::Nothing,
+        Statement::Return => Act::Nothing,
+        Statement::Stop => Act::Nothing,
+        Statement::Computed {
+            count: _,
+            number: _,
+        } => Act::Nothing,
+        Statement::Bad => Act::Nothing,
     }
 }
 
-// ---- CLEAR, INCR, DECR, UPCASE, LOCASE
-
-// CLEAR.
-fn clear_place(unit: &[u8], parts: Parts, bytes: &[u8], place: u16) -> Turn
+// What a statement answers once its place is found. The source of a SET is worked out here, and so after its place.
+fn at_place(
+    unit: &[u8],
+    parts: Parts,
+    bytes: &[u8],
+    act: Act,
+    decimal: bool,
+    start: usize,
+    len: usize,
+) -> Turn
     requires { ⌜ Fills (now unit) parts ⌝ }
     requires { ⌜ Dialect parts ⌝ }
     requires { ⌜ length (now bytes) < 65536 ⌝ }
-    ensures { λ r. ⌜ r ≡ turnBy (codeOf (now (unit .entry)) parts) 0 (now (bytes .entry)) (statement.Clear place) ⌝ }
+    requires { ⌜ start + len ≤ length (now bytes) ⌝ }
+    ensures { λ r. ⌜ r ≡ atPlace (codeOf (now (unit .entry)) parts) (now (bytes .entry)) act decimal start len ⌝ }
 {
-    match evaluate::worked(unit, parts, bytes, place) {
-        Worked::Number(_) => moves::fails(Fault::Malformed),
-        Worked::Place {
-            decimal,
-            start,
-            len,
-        } => moves::put(Write::Clear {
+    match act {
+        Act::Move { source } => {
+            let w = evaluate::worked(unit, parts, bytes, source);
+            moves::move_worked(unit, parts, bytes, decimal, start, len, w)
+        }
+        Act::Clear => moves::put(Write::Clear {
             start: start,
             len: len,
             decimal: decimal,
         }),
-        Worked::Text { place: _, len: _ } => moves::fails(Fault::Malformed),
-        Worked::Failed(e) => moves::fails(e),
+        Act::Count { up } => moves::count_at(unit, parts, bytes, up, decimal, start, len),
+        Act::Case { upper } => moves::case_at(upper, decimal, start, len),
+        Act::Nothing => moves::fails(Fault::Malformed),
     }
 }
 
-// INCR and DECR.
-fn count_place(unit: &[u8], parts: Parts, bytes: &[u8], up: bool, place: u16) -> Turn
+// What a statement with a place answers.
+fn on_place(unit: &[u8], parts: Parts, bytes: &[u8], place: u16, act: Act) -> Turn
     requires { ⌜ Fills (now unit) parts ⌝ }
     requires { ⌜ Dialect parts ⌝ }
     requires { ⌜ length (now bytes) < 65536 ⌝ }
-    ensures { λ r. ⌜ r ≡ onPlace (workedOf (codeOf (now (unit .entry)) parts) (now (bytes .entry)) (codeOf (now (unit .entry)) parts .items place)) (countAt (codeOf (now (unit .entry)) parts) (now (bytes .entry)) up) ⌝ }
+    ensures { λ r. ⌜ r ≡ onPlace (workedOf (codeOf (now (unit .entry)) parts) (now (bytes .entry)) (codeOf (now (unit .entry)) parts .items place)) (atPlace (codeOf (now (unit .entry)) parts) (now (bytes .entry)) act) ⌝ }
 {
-    match evaluate::worked(unit, parts, bytes, place) {
+    match evaluate::place(unit, parts, bytes, place) {
         Worked::Number(_) => moves::fails(Fault::Malformed),
         Worked::Place {
             decimal,
             start,
             len,
-        } => moves::count_at(unit, parts, bytes, up, decimal, start, len),
-        Worked::Text { place: _, len: _ } => moves::fails(Fault::Malformed),
-        Worked::Failed(e) => moves::fails(e),
-    }
-}
-
-// UPCASE and LOCASE.
-fn case_place(unit: &[u8], parts: Parts, bytes: &[u8], upper: bool, place: u16) -> Turn
-    requires { ⌜ Fills (now unit) parts ⌝ }
-    requires { ⌜ Dialect parts ⌝ }
-    requires { ⌜ length (now bytes) < 65536 ⌝ }
-    ensures { λ r. ⌜ r ≡ onPlace (workedOf (codeOf (now (unit .entry)) parts) (now (bytes .entry)) (codeOf (now (unit .entry)) parts .items place)) (caseAt upper) ⌝ }
-{
-    match evaluate::worked(unit, parts, bytes, place) {
-        Worked::Number(_) => moves::fails(Fault::Malformed),
-        Worked::Place {
-            decimal,
-            start,
-            len,
-        } => moves::case_at(upper, decimal, start, len),
+        } => at_place(unit, parts, bytes, act, decimal, start, len),
         Worked::Text { place: _, len: _ } => moves::fails(Fault::Malformed),
         Worked::Failed(e) => moves::fails(e),
     }
@@ -117,7 +120,7 @@ fn zero_flow(target: u16, v: i64) -> Flow
     Flow::Next
 }
 
-// Go to the target if a number is zero.
+// Go to the target if a number is zero. Only a computed GOTO looks at its own number, so the contract of this one names 0.
 fn if_zero(unit: &[u8], parts: Parts, bytes: &[u8], number: u16, target: u16) -> Turn
     requires { ⌜ Fills (now unit) parts ⌝ }
     requires { ⌜ Dialect parts ⌝ }
@@ -168,39 +171,9 @@ fn computed(unit: &[u8], parts: Parts, bytes: &[u8], at: u16, n: u16, number: u1
 
 // ---- a statement
 
-// Which of its two ways a statement goes: INCR and UPCASE up, DECR and LOCASE down. So the two of a pair have one call between them, and the compiler
-// puts what is called at one place only right there.
-fn upward(s: Statement) -> bool
-    ensures { λ r. ⌜ r ≡ upwardb s ⌝ }
-{
-    match s {
-        Statement::Set {
-            place: _,
-            source: _,
-        } => false,
-        Statement::Clear { place: _ } => false,
-        Statement::Incr { place: _ } => true,
-        Statement::Decr { place: _ } => false,
-        Statement::Upcase { place: _ } => true,
-        Statement::Locase { place: _ } => false,
-        Statement::Goto { target: _ } => false,
-        Statement::IfZero {
-            number: _,
-            target: _,
-        } => false,
-        Statement::Call { target: _ } => false,
-        Statement::Return => false,
-        Statement::Stop => false,
-        Statement::Computed {
-            count: _,
-            number: _,
-        } => false,
-        Statement::Bad => false,
-    }
-}
-
 // What a statement answers over the data: what it stores, and where the run goes on. Nothing is changed here. Of the check it needs what 5 is about: the
-// statements behind a computed GOTO lie inside the unit, so their numbers are words.
+// statements behind a computed GOTO lie inside the unit, so their numbers are words. The statements with a place have one call between them, and the
+// compiler puts what is called at one place only right there.
 pub fn work(unit: &[u8], parts: Parts, bytes: &[u8], at: u16) -> Turn
     requires { ⌜ Fills (now unit) parts ⌝ }
     requires { ⌜ Dialect parts ⌝ }
@@ -210,24 +183,14 @@ pub fn work(unit: &[u8], parts: Parts, bytes: &[u8], at: u16) -> Turn
     ensures { λ r. ⌜ r ≡ turnOf (codeOf (now (unit .entry)) parts) at (now (bytes .entry)) ⌝ }
 {
     let s = decode::statement(unit, parts, at);
-    let up = upward(s);
+    let act = act_of(s);
     match s {
-        Statement::Set { place, source } => set_place(unit, parts, bytes, place, source),
-        Statement::Clear { place } => clear_place(unit, parts, bytes, place),
-        Statement::Incr { place } | Statement::Decr { place } => count_place(
-            unit,
-            parts,
-            bytes,
-            up,
-            place,
-        ),
-        Statement::Upcase { place } | Statement::Locase { place } => case_place(
-            unit,
-            parts,
-            bytes,
-            up,
-            place,
-        ),
+        Statement::Set { place, source: _ }
+        | Statement::Clear { place }
+        | Statement::Incr { place }
+        | Statement::Decr { place }
+        | Statement::Upcase { place }
+        | Statement::Locase { place } => on_place(unit, parts, bytes, place, act),
         Statement::Goto { target } => moves::go(Flow::Goto(target)),
         Statement::IfZero { number, target } => if_zero(unit, parts, bytes, number, target),
         Statement::Call { target } => moves::go(Flow::Call(target)),

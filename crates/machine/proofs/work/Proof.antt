@@ -1,29 +1,23 @@
--- `machine::work` meets its contract: each arm knows the statement that is decoded, or the two that it may be, and its callee answers what the rule has
+-- `machine::work` meets its contract: each arm knows the statement that is decoded, or the six that it may be, and its callee answers what the rule has
 -- for that statement.
 -- Assumes nothing.
 use borrow.Author.Needs.{needs}
 use mathlib.Core.Logic.{⊎-elim}
-use Rattle.machine.proofs.Statements.{statements, table-fits}
+use Rattle.machine.proofs.Statements.{turn-set, turn-clear, turn-incr, turn-decr, turn-upcase, turn-locase, statements, table-fits}
 use Rattle.machine.proofs.work.Statement.{statement}
 use Rattle.machine.proofs.work.Tie as tie
 
 statement-requires : tie.Need-statement-requires
 statement-requires c κs = search needs
 
-upward-requires : tie.Need-upward-requires
-upward-requires c κs = search needs
+act-of-requires : tie.Need-act-of-requires
+act-of-requires c κs = search needs
 
 enum-known-s : tie.Need-enum-known-s
 enum-known-s c = search needs
 
-set-place-requires : tie.Need-set-place-requires
-set-place-requires c κs = search needs
-
 enum-known-s-2 : tie.Need-enum-known-s-2
 enum-known-s-2 c = search needs
-
-clear-place-requires : tie.Need-clear-place-requires
-clear-place-requires c κs = search needs
 
 enum-known-s-3 : tie.Need-enum-known-s-3
 enum-known-s-3 c = search needs
@@ -79,11 +73,8 @@ enum-told-3 c = search needs
 fails-requires : tie.Need-fails-requires
 fails-requires c κs = search needs
 
-case-place-requires : tie.Need-case-place-requires
-case-place-requires c κs = search needs
-
-count-place-requires : tie.Need-count-place-requires
-count-place-requires c κs = search needs
+on-place-requires : tie.Need-on-place-requires
+on-place-requires c κs = search needs
 
 returns : tie.Need-returns
 returns c = search statements depth 3
@@ -106,28 +97,25 @@ returns-6 c = search statements depth 3
 returns-7 : tie.Need-returns-7
 returns-7 c = search statements depth 3
 
+-- each of the six in its turn
 returns-8 : tie.Need-returns-8
-returns-8 c = search statements depth 3
-
-returns-9 : tie.Need-returns-9
-returns-9 c = search statements depth 3
-
-returns-10 : tie.Need-returns-10
-returns-10 c = ⊎-elim (λ w. search statements depth 3) (λ w. search statements depth 3) (c .before .match .came)
-
-returns-11 : tie.Need-returns-11
-returns-11 c = ⊎-elim (λ w. search statements depth 3) (λ w. search statements depth 3) (c .before .match .came)
+returns-8 c =
+    ⊎-elim (λ w. search turn-set depth 3)
+    (⊎-elim (λ w. search turn-clear depth 3)
+    (⊎-elim (λ w. search turn-incr depth 3)
+    (⊎-elim (λ w. search turn-decr depth 3)
+    (⊎-elim (λ w. search turn-upcase depth 3)
+    (λ w. search turn-locase depth 3)))))
+    (c .before .match .came)
 
 pub work-spec : {M : Type 1} → statement M
 work-spec =
     tie.close
     (tie.spec
     statement-requires
-    upward-requires
+    act-of-requires
     enum-known-s
-    set-place-requires
     enum-known-s-2
-    clear-place-requires
     enum-known-s-3
     enum-known-s-4
     enum-known-s-5
@@ -146,8 +134,7 @@ work-spec =
     computed-requires
     enum-told-3
     fails-requires
-    case-place-requires
-    count-place-requires
+    on-place-requires
     returns
     returns-2
     returns-3
@@ -155,7 +142,4 @@ work-spec =
     returns-5
     returns-6
     returns-7
-    returns-8
-    returns-9
-    returns-10
-    returns-11)
+    returns-8)

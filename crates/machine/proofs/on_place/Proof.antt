@@ -1,13 +1,12 @@
--- `machine::clear_place` meets its contract: a place that is found is cleared, and each other arm fails as the rule does.
+-- `machine::on_place` meets its contract: a place that is found lies inside the data, and each other arm fails as the rule does.
 -- Assumes nothing.
 use borrow.Author.Needs.{needs}
-use Rattle.rules_run.specs.Turns.{turnBy}
-use Rattle.machine.proofs.Places.{at-place}
-use Rattle.machine.proofs.clear_place.Statement.{statement}
-use Rattle.machine.proofs.clear_place.Tie as tie
+use Rattle.machine.proofs.Places.{found-inside, on-places}
+use Rattle.machine.proofs.on_place.Statement.{statement}
+use Rattle.machine.proofs.on_place.Tie as tie
 
-worked-requires : tie.Need-worked-requires
-worked-requires c κs = search needs
+place-requires : tie.Need-place-requires
+place-requires c κs = search needs
 
 enum-told : tie.Need-enum-told
 enum-told c = search needs
@@ -18,8 +17,8 @@ fails-requires c κs = search needs
 enum-known-decimal : tie.Need-enum-known-decimal
 enum-known-decimal c = search needs
 
-put-requires : tie.Need-put-requires
-put-requires c κs = search needs
+at-place-requires : tie.Need-at-place-requires
+at-place-requires c κs = (search needs, (search needs, (search needs, search found-inside depth 3)))
 
 enum-told-2 : tie.Need-enum-told-2
 enum-told-2 c = search needs
@@ -34,30 +33,26 @@ fails-requires-3 : tie.Need-fails-requires-3
 fails-requires-3 c κs = search needs
 
 returns : tie.Need-returns
-unfolding turnBy
-returns c = search at-place depth 3
+returns c = search on-places depth 3
 
 returns-2 : tie.Need-returns-2
-unfolding turnBy
-returns-2 c = search at-place depth 3
+returns-2 c = search on-places depth 3
 
 returns-3 : tie.Need-returns-3
-unfolding turnBy
-returns-3 c = search at-place depth 3
+returns-3 c = search on-places depth 3
 
 returns-4 : tie.Need-returns-4
-unfolding turnBy
-returns-4 c = search at-place depth 3
+returns-4 c = search on-places depth 3
 
-pub clear-place-spec : {M : Type 1} → statement M
-clear-place-spec =
+pub on-place-spec : {M : Type 1} → statement M
+on-place-spec =
     tie.close
     (tie.spec
-    worked-requires
+    place-requires
     enum-told
     fails-requires
     enum-known-decimal
-    put-requires
+    at-place-requires
     enum-told-2
     fails-requires-2
     enum-known-e
