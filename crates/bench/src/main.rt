@@ -40,11 +40,7 @@ fn run_unit(unit: &[u8], d: u16) {
 // After 1 to 5 the second line is absent.
 fn bench(unit: &[u8]) {
     match dibol::check(unit) {
-        Checked::Refused(r) => say_stop(
-            rules_unit::refusal_number(r),
-            rules_unit::refusal_place(r),
-            0,
-        ),
+        Checked::Refused(r) => say_stop(dibol::refusal_number(r), dibol::refusal_place(r), 0),
         Checked::Passed(p) => run_unit(unit, p.d),
     }
 }

@@ -5,9 +5,10 @@ use rules_run::Outcome;
 use rules_run::State;
 use rules_run::Stop;
 use rules_unit::Checked;
+use rules_unit::Refusal;
 use rules_unit::Stretch;
 ghost use mathlib.Core.Path.{_≡_};
-ghost use Rattle.rules_unit.specs.Checks.{checkOf};
+ghost use Rattle.rules_unit.specs.Checks.{refusalNumber, refusalPlace, checkOf};
 ghost use Rattle.rules_unit.specs.Literals.{stretchOf, literalOf};
 ghost use Rattle.rules_run.specs.States.{started};
 ghost use Rattle.rules_run.specs.Stops.{stopNumber};
@@ -24,10 +25,25 @@ pub fn check(unit: &[u8]) -> Checked
     unit::check(unit)
 }
 
+// Document 01's number for a refusal: 1 to 5.
+pub fn refusal_number(r: Refusal) -> u8
+    ensures { λ n. ⌜ n ≡ refusalNumber r ⌝ }
+{
+    rules_unit::refusal_number(r)
+}
+
+// The place that a refusal names: the field entry or the statement that is refused, counted from 0, and 0 for the unit as a whole.
+pub fn refusal_place(r: Refusal) -> u16
+    ensures { λ n. ⌜ n ≡ refusalPlace r ⌝ }
+{
+    rules_unit::refusal_place(r)
+}
+
 // Checks a unit, and then holds each of its statements to the fence rules of document 01. The answer is Refused with what `check` refuses
 // the unit for, Yes where every statement keeps the rules, or No with the first statement that breaks one, counted from 0; `breach` tells
-// which rule that is. A run of a unit with a yes, over data whose decimal fields are all valid, never ends in 21, leaves them all valid,
-// and changes no byte but those of the unit's destinations. A unit with a no can still be run.
+// which rule that is. A run of a unit with a yes, over data whose decimal fields are all valid and from a sound state, never ends in 21, ends
+// in 22 only at a SET of a decimal place from alpha text, leaves every decimal field valid, and changes no byte but those of the unit's
+// destinations. A unit with a no can still be run.
 pub fn fence(unit: &[u8]) -> Verdict
     ensures { λ r. ⌜ r ≡ fenceOf (now (unit .entry)) ⌝ }
 {

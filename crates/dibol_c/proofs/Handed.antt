@@ -11,7 +11,7 @@ use Rattle.rules_run.specs.Runs.{Ran, runOf}
 use Rattle.rules_run.specs.Stops.{stopNumber}
 use Rattle.words.specs.Laid.{laid}
 use Rattle.states.specs.Numbers.{numbersOf, stateOf}
-use Rattle.dibol_c.specs.Calls.{Handed, refusedb, handed, handedOf}
+use Rattle.dibol_c.specs.Calls.{Handed, refusedb, handedOf}
 
 module _ (u d w : List ℕ) (k : ℕ) (a : List ℕ) (s : State) (is : s ≡ stateOf w) where
   module _ (q : Outcome) (d′ : List ℕ) (ran : _≡_ {A = Ran} (record { outcome = q; bytes = d′ }) (runOf u d s k)) where

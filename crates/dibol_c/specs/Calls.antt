@@ -4,7 +4,7 @@
 --   untouched n place d w a              .. where it is refused by n: nothing is changed, and the count is 0
 -- Assumes nothing.
 use Prim.Native.Nat.{ℕ}
-use mathlib.Core.Bool.{Bool, true, false, cond}
+use mathlib.Core.Bool.{Bool, false, cond}
 use mathlib.Core.List.{List, [], _∷_}
 use lib.Dec.{ltb, leb}
 use Rattle.rules_unit.specs.declared.Checked.{Checked}

@@ -54,6 +54,8 @@ fn held_on(kept: usize, next: usize, v: Num) -> Step
     }
 }
 
+// The steps below are lent the same, since their contract is one: what an item has no use for is named for the contract alone.
+
 // 00: one value is left.
 fn end_step(
     unit: &[u8],

@@ -120,7 +120,7 @@ fn move_place(
     })
 }
 
-// An alpha literal that moves: it is read as a number for a decimal destination.
+// An alpha literal that moves: it is read as a number for a decimal destination. The data is named for the contract alone.
 fn move_literal(
     unit: &[u8],
     parts: Parts,

@@ -10,11 +10,13 @@
 --   runs                the call is the run
 --   ends, spent, errs, goes    one step of it: the end, the allowance spent, a run error, a completed statement
 --   errs-only-then, errs-whenever    a run error is given exactly when the statement that the run has come to gives it
+--   counts-within       no more statements are completed than are allowed
 --   start-is-sound      the state before the first statement is sound for every unit, so a run from it is never refused 7
 --   state-stays-sound   a call hands back a sound state where it was given one
 --   never-4             a passed check never lets 4 arise in a run
 -- Assumes nothing.
 use Prim.Native.Nat.{ℕ, zero, suc, _≤_, _<_}
+use native.Mathlib.Omega.{arith}
 use mathlib.Core.Path.{_≡_}
 use mathlib.Core.List.{List}
 use lib.ListN.{length}
@@ -32,6 +34,7 @@ use Rattle.rules_run.specs.States.{Sound, started}
 use Rattle.rules_run.specs.Runs.{to, stuck, movedBy, ended, runFrom, runOf}
 use Rattle.rules_run.proofs.States.{started-sound}
 use Rattle.rules_run.proofs.Calls.{call-runs}
+use Rattle.rules_run.proofs.Runs.{run-counts}
 use Rattle.rules_run.proofs.Steps.{run-ends, run-spent, run-fails, run-goes}
 use Rattle.rules_run.proofs.Stopped.{Stopped, run-stopped, stopped-run}
 use Rattle.rules_run.proofs.SoundRuns.{call-sound}
@@ -69,6 +72,9 @@ pub errs-whenever : (c : Code) (f : Fault) (m : ℕ) (s : State) (d : List ℕ) 
 errs-whenever = stopped-run
 
 -- ---- what a call hands back
+
+pub counts-within : (u d : List ℕ) (s : State) (m : ℕ) (p : Parts) → checkOf u ≡ Passed p → length d ≡ p .d → Sound (p .n) s → runOf u d s m .outcome .count ≤ m
+counts-within u d s m p e l t = rw (runs u d s m p e l t) (omega (arith, run-counts (codeOf u p) m s d 0 .most))
 
 pub start-is-sound : (n : ℕ) → Sound n started
 start-is-sound = started-sound

@@ -9,6 +9,7 @@
 --   start-settled      the state that `dibol::start` answers
 --   run-settled        the outcome of `dibol::run` (stop, place, count and next state), and each byte of the data buffer
 --   number-settled     the number that `dibol::stop_number` answers
+--   refusal-number-settled, refusal-place-settled    the answers of `dibol::refusal_number` and `dibol::refusal_place`
 --   breach-number-settled, stretch-settled    the answers of `dibol::breach_number` and `dibol::stretch`
 --   words-settled      the length that `dibol::words` answers, and each byte of the text
 --   c-run-settled      the stop that `dibol_run` answers, each byte of the data, and each number of the state and of the answer
@@ -36,6 +37,8 @@ use Rattle.dibol.proofs.literal.Reads as literal
 use Rattle.dibol.proofs.start.Reads as start
 use Rattle.dibol.proofs.run.Reads as run
 use Rattle.dibol.proofs.stop_number.Reads as stop-number
+use Rattle.dibol.proofs.refusal_number.Reads as refusal-number
+use Rattle.dibol.proofs.refusal_place.Reads as refusal-place
 use Rattle.dibol.proofs.breach_number.Reads as breach-number
 use Rattle.dibol.proofs.stretch.Reads as stretch
 use Rattle.dibol.proofs.words.Reads as words
@@ -68,6 +71,12 @@ run-settled κs a r r′ s s′ p q = (ap (λ (x : Ran). x .outcome) (p ∙ sym 
 
 pub number-settled : (κs : Lifetimes.Lfts 0) (a : _) (r r′ : ℕ) (s s′ : _) → stop-number.Post κs a r s → stop-number.Post κs a r′ s′ → r ≡ r′
 number-settled κs a r r′ s s′ p q = p ∙ sym q
+
+pub refusal-number-settled : (κs : Lifetimes.Lfts 0) (a : _) (r r′ : ℕ) (s s′ : _) → refusal-number.Post κs a r s → refusal-number.Post κs a r′ s′ → r ≡ r′
+refusal-number-settled κs a r r′ s s′ p q = p ∙ sym q
+
+pub refusal-place-settled : (κs : Lifetimes.Lfts 0) (a : _) (r r′ : ℕ) (s s′ : _) → refusal-place.Post κs a r s → refusal-place.Post κs a r′ s′ → r ≡ r′
+refusal-place-settled κs a r r′ s s′ p q = p ∙ sym q
 
 pub breach-number-settled : (κs : Lifetimes.Lfts 0) (a : _) (r r′ : ℕ) (s s′ : _) → breach-number.Post κs a r s → breach-number.Post κs a r′ s′ → r ≡ r′
 breach-number-settled κs a r r′ s s′ p q = p ∙ sym q

@@ -54,7 +54,7 @@ fn element_breach(unit: &[u8], parts: Parts, dest: bool, field: u16, a: usize, n
     end_breach(dest, offset + k * size + size, a + n)
 }
 
-// What the n bytes from a on of an alpha or record field break.
+// What the n bytes from a on of an alpha or record field break. The unit and its parts are named for the contract alone.
 fn alpha_breach(unit: &[u8], parts: Parts, ahead: &[u16], dest: bool, a: usize, n: usize) -> Breach
     requires { ⌜ Ahead (codeOf (now unit) parts) (now ahead) ⌝ }
     requires { ⌜ a + n ≤ parts .d ⌝ }

@@ -118,9 +118,6 @@ val-fits v = abs-fits (omega (arith, v .small))
 pub again : {z : ℤ} → Val (10 ^ 18) z → Val (10 ^ 18) (toZ w64 (ofZ w64 z))
 again {z} v = rw (toZ-ofZ w64 z (val-fits v)) v
 
-pub neg-fits : {z : ℤ} → Val (10 ^ 18) z → SFits w64 (pos 0 -ℤ z)
-neg-fits {z} v = abs-fits (omega (arith, v .small, abs-sub (pos 0) z))
-
 pub add-fits : {a b : ℤ} → Val (10 ^ 18) a → Val (10 ^ 18) b → SFits w64 (a +ℤ b)
 add-fits {a} {b} va vb = abs-fits (omega (arith, va .small, vb .small, abs-add a b))
 

@@ -38,14 +38,8 @@ pub ruleset walk-match = (cond-no, cond-yes, eq-eqb, ne-eqb, key-no)
 -- where numbers are compared
 pub ruleset walk = (cond-no, cond-yes, lt-ltb, le-ltb, le-leb, lt-leb, eq-eqb, ne-eqb)
 
--- where the tests are `!f(..)`
-pub ruleset walk-not = (cond-no, cond-yes, seen-no, seen-yes)
-
 -- where the tests are `f(..)`
 pub ruleset walk-if = (cond-no, cond-yes, told-yes, told-no)
-
--- where both numbers and `!f(..)` are tested
-pub ruleset walk-both = (cond-no, cond-yes, seen-no, seen-yes, lt-ltb, le-ltb, le-leb, lt-leb, eq-eqb, ne-eqb)
 
 -- a fact of both arms, each with what the test said
 pub cond-case : {A : Type 0} (P : A → Type 0) (b : Bool) (x y : A) → (b ≡ true → P x) → (b ≡ false → P y) → P (cond b x y)

@@ -27,7 +27,7 @@ use Rattle.rules_fence.specs.Fence.{Bounds, InElement}
 use Rattle.rules_fence.specs.Breaches.{keepsb, elementBreach, apartOf, apartFrom, alphaBreach, spanBreach, referenceBreach}
 use Rattle.rules_fence.specs.Reasons.{Inside, Shares, SpanBreaks, Names, NamedBreaks, RefBreaks}
 use Rattle.rules_fence.proofs.Bounded.{bounds-seen, seen-bounds}
-use Rattle.rules_fence.proofs.Spans.{elementOf, lastOf, element-in, element-last, apart-from}
+use Rattle.rules_fence.proofs.Spans.{elementOf, elementEnd, element-in, element-last, apart-from}
 
 module _ (c : Code) (s : SoundCode c) (a n : ℕ) (o : 1 ≤ n) where
   -- ---- one element
@@ -35,33 +35,33 @@ module _ (c : Code) (s : SoundCode c) (a n : ℕ) (o : 1 ≤ n) where
   module _ (f : ℕ) (h : f < c .fields) (inside : Inside c f a n) (t : decimalb c f ≡ true) where
     element-breaks : (dest : Bool) → keepsb (elementBreach c dest f a n) ≡ false → SpanBreaks c dest f a n (elementBreach c dest f a n)
     unfolding elementBreach
-    element-breaks dest = by dest (leb (a + n) (lastOf c f a)) (eqb (a + n) (lastOf c f a)) refl refl
+    element-breaks dest = by dest (leb (a + n) (elementEnd c f a)) (eqb (a + n) (elementEnd c f a)) refl refl
       where
-        by : (dest x y : Bool) → leb (a + n) (lastOf c f a) ≡ x → eqb (a + n) (lastOf c f a) ≡ y → let b = cond x (cond dest (cond y breach.None breach.StopsMidElement) breach.None) breach.OverElements in keepsb b ≡ false → SpanBreaks c dest f a n b
+        by : (dest x y : Bool) → leb (a + n) (elementEnd c f a) ≡ x → eqb (a + n) (elementEnd c f a) ≡ y → let b = cond x (cond dest (cond y breach.None breach.StopsMidElement) breach.None) breach.OverElements in keepsb b ≡ false → SpanBreaks c dest f a n b
         by dest false y p q e =
-            let over = leb-false (a + n) (lastOf c f a) p in
+            let over = leb-false (a + n) (elementEnd c f a) p in
             (inside, t, λ k i. omega (arith, over, element-last c s a n o f h (inside .0) (inside .1) false k i, i .to))
         by true true true p q e = absurd (true≢false e)
         by true true false p q e =
-            let below = leb-true (a + n) (lastOf c f a) p in
-            let other = eqb-false (a + n) (lastOf c f a) q in
+            let below = leb-true (a + n) (elementEnd c f a) p in
+            let other = eqb-false (a + n) (elementEnd c f a) q in
             (inside, t, refl, elementOf c f a, element-in c s a n o f h (inside .0) (inside .1) false below (λ z. absurd (false≢true z)), omega arith)
         by false true y p q e = absurd (true≢false e)
 
     over-named : (dest : Bool) → ((k : ℕ) → InElement c false f a n k → ⊥) → elementBreach c dest f a n ≡ breach.OverElements
     unfolding elementBreach
-    over-named dest none = by (leb (a + n) (lastOf c f a)) refl
+    over-named dest none = by (leb (a + n) (elementEnd c f a)) refl
       where
-        by : (x : Bool) → leb (a + n) (lastOf c f a) ≡ x
-            → cond x (cond dest (cond (eqb (a + n) (lastOf c f a)) breach.None breach.StopsMidElement) breach.None) breach.OverElements ≡ breach.OverElements
-        by true p = absurd (none (elementOf c f a) (element-in c s a n o f h (inside .0) (inside .1) false (leb-true (a + n) (lastOf c f a) p) (λ z. absurd (false≢true z))))
+        by : (x : Bool) → leb (a + n) (elementEnd c f a) ≡ x
+            → cond x (cond dest (cond (eqb (a + n) (elementEnd c f a)) breach.None breach.StopsMidElement) breach.None) breach.OverElements ≡ breach.OverElements
+        by true p = absurd (none (elementOf c f a) (element-in c s a n o f h (inside .0) (inside .1) false (leb-true (a + n) (elementEnd c f a) p) (λ z. absurd (false≢true z))))
         by false p = refl
 
     mid-named : (k : ℕ) → InElement c false f a n k → a + n < elementAt c f k + sizeOf c f → elementBreach c true f a n ≡ breach.StopsMidElement
     unfolding elementBreach
     mid-named k i l =
         let e = element-last c s a n o f h (inside .0) (inside .1) false k i in
-        rw (le-leb (a + n) (lastOf c f a) (omega arith), ne-eqb (a + n) (lastOf c f a) (λ z. omega arith))
+        rw (le-leb (a + n) (elementEnd c f a) (omega arith), ne-eqb (a + n) (elementEnd c f a) (λ z. omega arith))
 
   -- ---- decimal fields
 

@@ -23,8 +23,8 @@ use Rattle.rules_fence.proofs.Kept.{Kept, kept-none, kept-as, kept-then
 abbrev pub elementOf : Code → ℕ → ℕ → ℕ
 elementOf c f a = (a - offsetOf c f) / sizeOf c f
 
-abbrev pub lastOf : Code → ℕ → ℕ → ℕ
-lastOf c f a = elementAt c f (elementOf c f a) + sizeOf c f
+abbrev pub elementEnd : Code → ℕ → ℕ → ℕ
+elementEnd c f a = elementAt c f (elementOf c f a) + sizeOf c f
 
 end-tells : (dest : Bool) (e last : ℕ) → Kept (endBreach dest e last) ((last ≤ e) × (dest ≡ true → last ≡ e))
 end-tells true e last =
@@ -33,7 +33,7 @@ end-tells false e last = kept-as (λ r. (r .0, λ z. absurd (false≢true z))) (
 
 module _ (c : Code) (s : SoundCode c) (a n : ℕ) (o : 1 ≤ n) where
   module _ (f : ℕ) (h : f < c .fields) (from : offsetOf c f ≤ a) (to : a + n ≤ endOf c f) (dest : Bool) where
-    pub element-in : a + n ≤ lastOf c f a → (dest ≡ true → a + n ≡ lastOf c f a) → InElement c dest f a n (elementOf c f a)
+    pub element-in : a + n ≤ elementEnd c f a → (dest ≡ true → a + n ≡ elementEnd c f a) → InElement c dest f a n (elementOf c f a)
     element-in below ends =
         record {
           low = div-lt-iff-lt-mul {x = a - offsetOf c f} {y = countOf c f} (s .entries f h .own .some) .1 (omega arith);
@@ -42,7 +42,7 @@ module _ (c : Code) (s : SoundCode c) (a n : ℕ) (o : 1 ≤ n) where
           ends = ends;
         }
 
-    pub element-last : (k : ℕ) → InElement c dest f a n k → lastOf c f a ≡ elementAt c f k + sizeOf c f
+    pub element-last : (k : ℕ) → InElement c dest f a n k → elementEnd c f a ≡ elementAt c f k + sizeOf c f
     element-last k i =
         ap (λ (j : ℕ). elementAt c f j + sizeOf c f)
         (div-eq-of-lt-le {k = k} (sizeOf c f) {m = a - offsetOf c f} (omega (arith, i .from)) (omega (arith, i .from, i .to)))
@@ -50,7 +50,7 @@ module _ (c : Code) (s : SoundCode c) (a n : ℕ) (o : 1 ≤ n) where
     element-tells : Kept (elementBreach c dest f a n) ((k : ℕ) × InElement c dest f a n k)
     unfolding elementBreach
     element-tells =
-        kept-as (λ r. (elementOf c f a, element-in (r .0) (r .1))) (λ r. let e = element-last (r .0) (r .1) in (rw e (r .1 .to), λ t. r .1 .ends t ∙ sym e)) (end-tells dest (lastOf c f a) (a + n))
+        kept-as (λ r. (elementOf c f a, element-in (r .0) (r .1))) (λ r. let e = element-last (r .0) (r .1) in (rw e (r .1 .to), λ t. r .1 .ends t ∙ sym e)) (end-tells dest (elementEnd c f a) (a + n))
 
   -- ---- decimal fields
 

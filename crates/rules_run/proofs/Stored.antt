@@ -42,16 +42,10 @@ module _ (d : List ℕ) (a : ℕ) (new : List ℕ) where
       length-append (take a d) (new ++ drop (a + length new) d)
       ∙ omega (arith, length-take-le a d (omega arith), length-append new (drop (a + length new) d), length-drop (a + length new) d)
 
--- nothing stored, and what stands there already: the data stays
+-- nothing stored: the data stays
 pub stored-none : (d : List ℕ) (a : ℕ) → stored d a [] ≡ d
 unfolding stored
 stored-none d a = rw (add-zero a) (take-append-drop a d)
-
-pub stored-same : (d : List ℕ) (a n : ℕ) → a + n ≤ length d → stored d a (take n (drop a d)) ≡ d
-unfolding stored
-stored-same d a n h =
-    let e : length (take n (drop a d)) ≡ n = length-take-le n (drop a d) (omega (arith, length-drop a d)) in
-    rw (e, ← drop-drop n a d, take-append-drop n (drop a d)) (take-append-drop a d)
 
 -- a text, then another behind it: both are stored as one
 pub stored-append : (d : List ℕ) (a : ℕ) (x y : List ℕ) → a + length x ≤ length d

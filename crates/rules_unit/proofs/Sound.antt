@@ -2,7 +2,6 @@
 --   check-says       what the answer says is so
 --   check-only       what is so is the answer
 --   passed-sound, sound-passed, passed-fills, passed-parts    of a unit that passes
---   first-field, first-statement, first-expression                       of one that is refused by 3, 5 and 4
 --   one-field        a byte in two decimal fields of a sound unit makes them one
 -- Assumes nothing.
 use Prim.Native.Nat.{ℕ, _-_, _<_, _≤_}
@@ -21,7 +20,7 @@ use Rattle.rules_unit.specs.Codes.{Code, decimalb, offsetOf, endOf}
 use Rattle.rules_unit.specs.Decode.{Fills, partsOf, fullLength, codeOf}
 use Rattle.rules_unit.specs.Checks.{filledb, rangesb, goodFields, statementsFrom, partsCheck, checkOf}
 use Rattle.rules_unit.specs.Sound.{Filled, Ranges, SoundCode, SoundUnit}
-use Rattle.rules_unit.specs.Answers.{FirstField, FirstStatement, FirstExpression, FirstThree, Says}
+use Rattle.rules_unit.specs.Answers.{FirstField, FirstThree, Says}
 use Rattle.rules_unit.proofs.Tells.{Tells, tells-le, tells-eq, tells-as, tells-and, tells-from, tells-no, tells-fails}
 use Rattle.rules_unit.proofs.Fields.{Upto, fields-upto, upto-only, decimal-not}
 use Rattle.rules_unit.proofs.Statements.{Scans, statements-say, statements-pass, statements-shape, statements-use}
@@ -143,16 +142,6 @@ module _ (u : List ℕ) (p : Parts) where
 
   pub passed-fills : checkOf u ≡ checked.Passed p → Fills u p
   passed-fills e = rw (passed-parts e) (passed-sound e .filled .fills)
-
-module _ (u : List ℕ) (i : ℕ) where
-  pub first-field : checkOf u ≡ checked.Refused (refusal.BadField i) → FirstField (codeOf u (partsOf u)) i
-  first-field e = says-of u (checked.Refused (refusal.BadField i)) e .2
-
-  pub first-statement : checkOf u ≡ checked.Refused (refusal.BadStatement i) → FirstStatement (codeOf u (partsOf u)) i
-  first-statement e = says-of u (checked.Refused (refusal.BadStatement i)) e .1
-
-  pub first-expression : checkOf u ≡ checked.Refused (refusal.BadExpression i) → FirstExpression (codeOf u (partsOf u)) i
-  first-expression e = says-of u (checked.Refused (refusal.BadExpression i)) e .1
 
 -- ---- a byte belongs to one decimal field
 

@@ -106,7 +106,7 @@ fn number_good(unit: &[u8], parts: Parts, place: u16, len: u16) -> bool
     digits(&unit[start..end])
 }
 
-// Whether an alpha literal has characters and lies inside the literals.
+// Whether an alpha literal has characters and lies inside the literals. The unit is named for the contract alone.
 pub fn text_good(unit: &[u8], parts: Parts, place: u16, len: u16) -> bool
     requires { ⌜ Fills (now unit) parts ⌝ }
     ensures { λ r. ⌜ r ≡ textb (codeOf (now (unit .entry)) parts) place len ⌝ }
@@ -307,7 +307,8 @@ fn sort_in(unit: &[u8], parts: Parts, s: &[u8], notes: &[u8], at: usize) -> Sort
     Sort::Wrong
 }
 
-// Notes the sort k of the expression at an offset of the expressions s, for each of its items up to one for which it is noted.
+// Notes the sort k of the expression at an offset of the expressions s, for each of its items up to one for which it is noted. The unit is
+// named for the contract alone.
 fn note_in(unit: &[u8], parts: Parts, s: &[u8], notes: &mut [u8], at: usize, k: Sort)
     requires { ⌜ Noted (codeOf (now unit) parts) (now s) (now notes) ⌝ }
     requires { ⌜ isWrong k ≡ false ⌝ }

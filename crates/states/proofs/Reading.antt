@@ -2,18 +2,17 @@
 -- Assumes nothing.
 use Prim.Native.Nat.{ℕ, zero, suc, _+_, _<_, _≤_}
 use native.Mathlib.Nat.{add-comm}
-use native.Mathlib.Numerals.{add-one}
 use native.Mathlib.Omega.{arith}
 use mathlib.Core.Path.{_≡_, refl, sym, ap, _∙_}
 use mathlib.Core.Bool.{Bool, true, false, cond}
 use mathlib.Core.List.{List, [], _∷_}
-use lib.Dec.{leb, eqb}
+use lib.Dec.{leb}
 use lib.ListN.{length, getD, take, drop, set, length-drop, drop-of-length-le}
 use lib.Seq.{drop-cons, getD-drop}
 use borrow.Author.Tests.{le-leb, lt-leb, eq-eqb, ne-eqb}
 use Rattle.rules_run.specs.declared.State.{State}
 use Rattle.words.specs.Laid.{laid}
-use Rattle.words.proofs.Laid.{laid-none, laid-next, laid-all, laid-same}
+use Rattle.words.proofs.Laid.{laid-next, laid-all, laid-same}
 use Rattle.states.specs.Numbers.{smallb, stateb, nowhere, stateOf}
 
 -- ---- numbers that are no state's

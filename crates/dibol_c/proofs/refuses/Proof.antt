@@ -2,7 +2,6 @@
 -- Assumes nothing.
 use Rattle.rules.proofs.Walk.{walk}
 use Rattle.dibol_c.specs.Calls.{refusedb}
-use borrow.Author.Needs.{needs}
 use Rattle.dibol_c.proofs.refuses.Statement.{statement}
 use Rattle.dibol_c.proofs.refuses.Tie as tie
 

@@ -1,7 +1,6 @@
 -- `evaluate::other_step` meets its contract: a code below 6 is that of a reference, and one above it that of an operator or none.
 -- Assumes nothing.
 use borrow.Author.Needs.{needs}
-use mathlib.Core.Path.{_∙_}
 use Rattle.evaluate.proofs.Coded.{bounds-item, code-none}
 use Rattle.evaluate.proofs.Steps.{bad-leads}
 use Rattle.evaluate.proofs.other_step.Statement.{statement}

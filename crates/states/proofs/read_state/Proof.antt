@@ -2,7 +2,7 @@
 -- The invariant: the numbers passed are small, and the return numbers among them are put. The measure: the return numbers left.
 -- Assumes nothing.
 use Prim.Native.Nat.{_+_, _-_, _≤_}
-use mathlib.Core.Path.{_≡_, refl}
+use mathlib.Core.Path.{_≡_}
 use lib.ListN.{length, getD, take, drop}
 use Rattle.words.specs.Laid.{laid}
 use Rattle.words.proofs.Laid.{laid-none}

@@ -1,7 +1,7 @@
 -- `states::write_state` meets its contract: the first two numbers are put, and then the return numbers, until there is no room or they end.
 -- The invariant: i return numbers are put. The measure: the return numbers left.
 -- Assumes nothing.
-use Prim.Native.Nat.{_+_, _-_, _≤_}
+use Prim.Native.Nat.{_-_, _≤_}
 use mathlib.Core.Path.{_≡_}
 use mathlib.Core.List.{_∷_}
 use lib.ListN.{length, take}

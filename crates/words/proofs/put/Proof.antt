@@ -2,7 +2,7 @@
 -- The invariant: the first i bytes are put. The measure: the bytes left.
 -- Assumes nothing.
 use Prim.Native.Nat.{_≤_, _-_}
-use mathlib.Core.Path.{_≡_, refl}
+use mathlib.Core.Path.{_≡_}
 use lib.ListN.{length, take}
 use borrow.Author.Needs.{needs}
 use Rattle.words.specs.Laid.{laid}
