@@ -8,6 +8,7 @@
 docs/DIBASM.md tells the text form.
 """
 
+import functools
 import os
 import re
 import sys
@@ -43,6 +44,9 @@ WIDTHS = {1: 3, 6: 4} | dict.fromkeys(BOUNDS, 2) | dict.fromkeys(SIGNS, 0)
 
 # Longer expressions are written in postfix order, so that none nests too deep to be read back.
 INFIX_MOST = 64
+
+# A longer text is not tried: its statements share long expressions, and each would hold its own.
+TEXT_MOST = 1_000_000
 
 TOKEN = re.compile(r"""\s*(?:
     (?P<comment>;.*) | (?P<string>"(?:[^"\\]|\\.)*") | (?P<hex><[0-9A-Fa-f\s]*>) |
@@ -483,6 +487,7 @@ class Disassembler:
     def target(self, c):
         return f"L{c}" if c < len(self.statements) else str(c)
 
+    @functools.cache
     def place(self, offset):
         items, _, closed = self.items(offset, len(self.expressions))
         if self.inline and items and closed:
@@ -609,7 +614,7 @@ def wrap(word, data):
 def dis(unit):
     for inline in (True, False) if lengths_of(unit) else ():
         text = "\n".join(Disassembler(unit, inline).lines()) + "\n"
-        if gives(text, unit):
+        if len(text) < TEXT_MOST and gives(text, unit):
             return text
     return "\n".join(wrap("raw", unit) if unit else ["raw"]) + "\n"
 

@@ -7,7 +7,7 @@ use crate::parts::literal_of;
 use crate::parts::statement_of;
 use crate::phrase::Held;
 use crate::phrase::hold_item;
-use crate::phrase::is_end;
+use crate::phrase::is_done;
 use crate::phrase::none_held;
 use crate::phrase::put_name;
 use crate::phrase::say_statement;
@@ -300,7 +300,7 @@ fn say_references(unit: &[u8], parts: Parts, e: u16, written: bool) {
     let mut left = es.len();
     while 0 < left {
         let item = decode::item_at(es, from);
-        if is_end(item) {
+        if is_done(h, item) {
             return;
         }
         h = hold_item(h, unit, parts, item);

@@ -138,6 +138,9 @@ fn put_quoted(l: Line, s: &[u8]) -> Line {
     let mut next = l;
     let mut i = 0;
     while i < s.len() {
+        if ROOM <= next.at {
+            break;
+        }
         next = put_quoted_byte(next, s[i]);
         i += 1;
     }
@@ -245,11 +248,18 @@ fn hold_alone(h: Held, op: Op) -> Held {
     hold(h, 1, l, level)
 }
 
+// The line that ends with the first of the last two values, in brackets if it is asked. Without them its text stands there already.
+fn line_after_first(h: Held, asked: bool) -> Line {
+    if asked {
+        return put_value(line_before(h, 2), h, 2, true);
+    }
+    line_before(h, 1)
+}
+
 // An operator of two values: its sign stands between them.
 fn hold_joined(h: Held, op: Op) -> Held {
     let level = level_by(op);
-    let mut l = put_value(line_before(h, 2), h, 2, level_of(h, 2) < level);
-    l = put_sign(l, op);
+    let mut l = put_sign(line_after_first(h, level_of(h, 2) < level), op);
     l = put_value(l, h, 1, level_of(h, 1) <= level);
     hold(h, 2, l, level)
 }
@@ -300,7 +310,7 @@ fn line_of(h: Held) -> Line {
 }
 
 // Whether an expression is not gone on with at an item: it ends, or the line is full.
-fn is_done(h: Held, item: Item) -> bool {
+pub fn is_done(h: Held, item: Item) -> bool {
     if is_end(item) {
         return true;
     }

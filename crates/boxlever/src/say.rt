@@ -159,13 +159,20 @@ pub fn put(l: Line, b: u8) -> Line {
     next
 }
 
+// Puts a text, as much of it as there is room for.
 pub fn put_text(l: Line, s: &[u8]) -> Line {
     let mut next = l;
+    let mut at = l.at;
     let mut i = 0;
     while i < s.len() {
-        next = put(next, s[i]);
+        if ROOM <= at {
+            break;
+        }
+        next.text[at] = s[i];
+        at += 1;
         i += 1;
     }
+    next.at = at;
     next
 }
 

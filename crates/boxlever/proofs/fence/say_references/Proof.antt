@@ -28,8 +28,8 @@ loop-holds c = search needs
 item-at-requires : tie.Need-item-at-requires Inv-loop μ-loop
 item-at-requires c κs = search needs
 
-is-end-requires : tie.Need-is-end-requires Inv-loop μ-loop
-is-end-requires c κs = search needs
+is-done-requires : tie.Need-is-done-requires Inv-loop μ-loop
+is-done-requires c κs = search needs
 
 returns : tie.Need-returns Inv-loop μ-loop
 returns c = search needs
@@ -73,7 +73,7 @@ say-references-spec =
     nothing-known-requires
     loop-holds
     item-at-requires
-    is-end-requires
+    is-done-requires
     returns
     hold-item-requires
     say-item-requires

@@ -33,6 +33,9 @@ loop-again c = search needs
 returns : tie.Need-returns Inv-loop μ-loop
 returns c = search needs
 
+returns-2 : tie.Need-returns-2 Inv-loop μ-loop
+returns-2 c = search needs
+
 pub put-quoted-spec : {M : Type 1} → statement M
 put-quoted-spec =
     tie.close
@@ -45,4 +48,5 @@ put-quoted-spec =
     add-i
     loop-less
     loop-again
-    returns)
+    returns
+    returns-2)
