@@ -399,16 +399,51 @@ fn put_use(l: Line, unit: &[u8], parts: Parts, u: Use) -> Line {
     }
 }
 
-// Puts the statement i: its word, its first expression, what follows that, and its second expression.
+// Puts a target, and a comma where more are left.
+fn put_target(l: Line, target: u16, left: u16) -> Line {
+    let next = put_form(l, b"L#", target as u64, 0);
+    if 1 < left {
+        return put(next, b',');
+    }
+    next
+}
+
+// Puts the targets of the n statements behind the statement i.
+fn put_targets(l: Line, unit: &[u8], parts: Parts, i: u16, n: u16) -> Line {
+    let mut next = l;
+    let mut at = i;
+    let mut left = n;
+    while 0 < left {
+        if parts.n <= at {
+            return next;
+        }
+        at += 1;
+        next = put_target(next, last_number(statement_of(unit, parts, at)), left);
+        left -= 1;
+    }
+    next
+}
+
+// Puts the targets of a computed GOTO.
+fn put_table(l: Line, unit: &[u8], parts: Parts, i: u16, s: Statement) -> Line {
+    if let Statement::Computed { count, number: _ } = s {
+        return put_text(put_targets(l, unit, parts, i, count), b"), ");
+    }
+    l
+}
+
+// Puts the statement i as DIBOL writes it: its word, its targets where it has several, its first expression, what follows that, and its second
+// expression. A test that is false is zero, so what goes on elsewhere at zero goes there where the test does not hold.
 pub fn put_statement(l: Line, unit: &[u8], parts: Parts, i: u16) -> Line {
     let s = statement_of(unit, parts, i);
     let k = statement_number(s);
     let n = last_number(s) as u64;
     let words =
-        b"set |clear |incr |decr |upcase |locase |goto L#|ifzero |call L#|return|stop|computed |none|";
+        b"|CLEAR |INCR |DECR |UPCASE |LOCASE |GOTO L#|IF .NOT. (|CALL L#|RETURN|STOP|GOTO (|none|";
     let mut next = put_form(l, piece(words, k), n, 0);
+    next = put_table(next, unit, parts, i, s);
     next = put_use(next, unit, parts, uses::use_at(s, 0));
-    next = put_form(next, piece(b" = ||||||| goto L#|||| of #||", k), n, 0);
+    next = put_form(next, piece(b" = |||||||) GOTO L#||||||", k), n, 0);
     put_use(next, unit, parts, uses::use_at(s, 1))
 }
 
