@@ -1,9 +1,6 @@
 // `boxlever fence FILE`: the answer of the fence check; then each statement that breaks a rule, with the rule and the bytes that it is about.
-use crate::parts::Figures;
 use crate::parts::expressions_of;
 use crate::parts::field_of;
-use crate::parts::figures_of;
-use crate::parts::literal_of;
 use crate::parts::statement_of;
 use crate::phrase::Held;
 use crate::phrase::hold_item;
@@ -25,120 +22,34 @@ use crate::say::sum;
 use crate::words::put_breach;
 use crate::words::put_refusal;
 use rules_fence::Breach;
+use rules_fence::Seen;
 use rules_fence::Verdict;
 use rules_run::Span;
 use rules_unit::Checked;
 use rules_unit::Field;
 use rules_unit::How;
 use rules_unit::Item;
-use rules_unit::Op;
 use rules_unit::Parts;
 use rules_unit::Refusal;
 use rules_unit::Use;
-ghost use Prim.Native.Nat.{_^_};
-ghost use Rattle.rules.specs.Values.{Val};
-
-// The bounds that stand directly before an item: how many are literals, two at the most, the last ones, and whether the last is not negated.
-struct Known {
-    count: u8,
-    first: Figures,
-    last: Figures,
-    plain: bool,
-}
-
-// ---- the bounds
-
-fn nothing_known() -> Known {
-    let zero = figures_of(b"0");
-    Known {
-        count: 0,
-        first: zero,
-        last: zero,
-        plain: false,
-    }
-}
-
-// The bounds after a literal.
-fn known_number(k: Known, f: Figures) -> Known {
-    let last = k.last;
-    Known {
-        count: if 0 < k.count { 2 } else { 1 },
-        first: last,
-        last: f,
-        plain: true,
-    }
-}
-
-// The bounds after a negate, of which a bound has one at the most.
-fn known_negated(k: Known) -> Known {
-    if !k.plain {
-        return nothing_known();
-    }
-    let mut next = k;
-    let mut f = k.last;
-    f.below = !f.below;
-    next.last = f;
-    next.plain = false;
-    next
-}
-
-fn is_negate(op: Op) -> bool {
-    match op {
-        Op::Negate => true,
-        Op::Add | Op::Subtract | Op::Multiply | Op::Divide | Op::Round => false,
-        Op::Eq | Op::Ne | Op::Gt | Op::Lt | Op::Ge | Op::Le => false,
-        Op::Not | Op::And | Op::Or | Op::Xor => false,
-    }
-}
-
-// The bounds after an operator.
-fn known_by(k: Known, op: Op) -> Known {
-    if is_negate(op) {
-        return known_negated(k);
-    }
-    nothing_known()
-}
-
-// The bounds after an item.
-fn known_after(unit: &[u8], parts: Parts, k: Known, item: Item) -> Known {
-    match item {
-        Item::Number { place, len } => {
-            known_number(k, figures_of(literal_of(unit, parts, place, len)))
-        }
-        Item::Operator(op) => known_by(k, op),
-        Item::Reference { how: _, field: _ }
-        | Item::Text { place: _, len: _ }
-        | Item::End
-        | Item::Bad => nothing_known(),
-    }
-}
+ghost use mathlib.Core.Path.{_≡_};
+ghost use mathlib.Core.Bool.{true};
+ghost use Rattle.rules_unit.specs.Decode.{Fills, Dialect};
+ghost use Rattle.rules_fence.specs.Bounds.{boundedb};
+ghost use Rattle.bounds.specs.Asked.{Small};
 
 // ---- the bytes of a reference
 
-// A bound as a value. None has more digits than a value.
-fn bound_of(f: Figures) -> i64
-    ensures { λ r. ⌜ Val (10 ^ 18) r ⌝ }
+// The span of a reference whose bounds are known; Outside where it gives 21.
+fn span_of(unit: &[u8], parts: Parts, how: How, i: u16, s: Seen) -> Span
+    requires { ⌜ Fills (now unit) parts ⌝ }
+    requires { ⌜ Small s ⌝ }
+    requires { ⌜ boundedb how s ≡ true ⌝ }
 {
-    if 999999999999999999 < f.size {
-        return 0;
+    if parts.f <= i {
+        return Span::Outside; // Never so: the unit passed its check.
     }
-    number::with_sign(f.below, f.size)
-}
-
-// The span of a reference with the bounds x and y; Outside where it gives 21.
-fn span_by(parts: Parts, field: Field, how: How, x: Figures, y: Figures) -> Span {
-    let most = decode::long(parts.d);
-    spans::span_in(0, most, field, how, bound_of(x), bound_of(y))
-}
-
-// The span of a reference whose bounds are known.
-fn span_of(parts: Parts, field: Field, how: How, k: Known) -> Span {
-    let first = k.first;
-    let last = k.last;
-    if sorts::how_takes(how) == 2 {
-        return span_by(parts, field, how, first, last);
-    }
-    span_by(parts, field, how, last, last)
+    bounds::fixed_span(unit, parts, how, i, s)
 }
 
 // Puts ` bytes 3 to 7`, or ` byte 3`.
@@ -249,12 +160,13 @@ fn is_plain(unit: &[u8], parts: Parts, how: How, span: Span, aimed: bool) -> boo
     parts.f <= shared_with(unit, parts, span)
 }
 
-// The line of a reference, begun with its text.
-fn say_reference(l: Line, unit: &[u8], parts: Parts, how: How, i: u16, k: Known, written: bool) {
-    if (k.count as u16) < sorts::how_takes(how) {
-        say_unknown(l, unit, parts, i);
-        return;
-    }
+// The line of a reference whose bounds are known, if there is something to tell of it.
+fn say_bounded(l: Line, unit: &[u8], parts: Parts, how: How, i: u16, s: Seen, written: bool)
+    requires { ⌜ Fills (now unit) parts ⌝ }
+    requires { ⌜ Small s ⌝ }
+    requires { ⌜ boundedb how s ≡ true ⌝ }
+{
+    let span = span_of(unit, parts, how, i, s);
     let field = field_of(unit, parts, i);
     let kind = field.kind;
     let aimed = if sorts::is_decimal(kind) {
@@ -262,17 +174,31 @@ fn say_reference(l: Line, unit: &[u8], parts: Parts, how: How, i: u16, k: Known,
     } else {
         written
     };
-    let span = span_of(parts, field, how, k);
     if is_plain(unit, parts, how, span, aimed) {
         return;
     }
     say_known(l, unit, parts, how, i, span, aimed);
 }
 
+// The line of a reference, begun with its text.
+fn say_reference(l: Line, unit: &[u8], parts: Parts, how: How, i: u16, s: Seen, written: bool)
+    requires { ⌜ Fills (now unit) parts ⌝ }
+    requires { ⌜ Small s ⌝ }
+{
+    if bounds::bounded(how, s) {
+        say_bounded(l, unit, parts, how, i, s, written);
+        return;
+    }
+    say_unknown(l, unit, parts, i);
+}
+
 // ---- the statements
 
 // The line of an item, if it is a reference; its text is that of the value held last, if it has room.
-fn say_item(h: Held, unit: &[u8], parts: Parts, item: Item, k: Known, written: bool) {
+fn say_item(h: Held, unit: &[u8], parts: Parts, item: Item, s: Seen, written: bool)
+    requires { ⌜ Fills (now unit) parts ⌝ }
+    requires { ⌜ Small s ⌝ }
+{
     let end = start_of(h, 0);
     if ROOM <= end {
         return;
@@ -281,7 +207,7 @@ fn say_item(h: Held, unit: &[u8], parts: Parts, item: Item, k: Known, written: b
         Item::Reference { how, field } => {
             let start = put_text(new_line(), b"  ");
             let l = put_between(start, h.line, start_of(h, 1), end);
-            say_reference(l, unit, parts, how, field, k, written);
+            say_reference(l, unit, parts, how, field, s, written);
         }
         Item::Number { place: _, len: _ }
         | Item::Text { place: _, len: _ }
@@ -292,10 +218,13 @@ fn say_item(h: Held, unit: &[u8], parts: Parts, item: Item, k: Known, written: b
 }
 
 // The lines of the references of an expression, as far as its text has room.
-fn say_references(unit: &[u8], parts: Parts, e: u16, written: bool) {
+fn say_references(unit: &[u8], parts: Parts, e: u16, written: bool)
+    requires { ⌜ Fills (now unit) parts ⌝ }
+    requires { ⌜ Dialect parts ⌝ }
+{
     let es = expressions_of(unit, parts);
     let mut h = none_held(new_line());
-    let mut k = nothing_known();
+    let mut s = Seen::Nothing;
     let mut from = e as usize;
     let mut left = es.len();
     while 0 < left {
@@ -304,15 +233,18 @@ fn say_references(unit: &[u8], parts: Parts, e: u16, written: bool) {
             return;
         }
         h = hold_item(h, unit, parts, item);
-        say_item(h, unit, parts, item, k, written);
-        k = known_after(unit, parts, k, item);
+        say_item(h, unit, parts, item, s, written);
         from = sum(from, decode::width_of(item));
+        s = bounds::seen_after(unit, parts, s, item);
         left -= 1;
     }
 }
 
 // The lines of the references of a use.
-fn say_use(unit: &[u8], parts: Parts, u: Use) {
+fn say_use(unit: &[u8], parts: Parts, u: Use)
+    requires { ⌜ Fills (now unit) parts ⌝ }
+    requires { ⌜ Dialect parts ⌝ }
+{
     match u {
         Use::Nothing => (),
         Use::Of {
@@ -330,7 +262,10 @@ fn say_breach(b: Breach) {
 }
 
 // The lines of the statement i, if it breaks a rule: its references in the order in which they are worked out.
-fn say_breaking(unit: &[u8], parts: Parts, i: u16) {
+fn say_breaking(unit: &[u8], parts: Parts, i: u16)
+    requires { ⌜ Fills (now unit) parts ⌝ }
+    requires { ⌜ Dialect parts ⌝ }
+{
     let b = dibol::breach(unit, i as usize);
     if dibol::breach_number(b) == 0 {
         return;
@@ -343,7 +278,10 @@ fn say_breaking(unit: &[u8], parts: Parts, i: u16) {
 }
 
 // The lines of all breaking statements, the first of which is given.
-fn say_all(unit: &[u8], parts: Parts, first: u16) {
+fn say_all(unit: &[u8], parts: Parts, first: u16)
+    requires { ⌜ Fills (now unit) parts ⌝ }
+    requires { ⌜ Dialect parts ⌝ }
+{
     let mut i = first;
     while i < parts.n {
         say_breaking(unit, parts, i);

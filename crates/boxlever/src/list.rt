@@ -128,8 +128,8 @@ fn put_element(l: Line, s: &[u8]) -> Line {
 }
 
 // Puts a decimal in figures.
-fn put_figures(l: Line, s: &[u8]) -> Line {
-    let f = figures_of(s);
+fn put_figures(l: Line, parts: Parts, s: &[u8]) -> Line {
+    let f = figures_of(parts, s);
     if !f.good {
         return put_text(l, b"no number");
     }
@@ -141,21 +141,21 @@ fn put_figures(l: Line, s: &[u8]) -> Line {
 }
 
 // Puts an element as it is stored, or in figures.
-fn put_either(l: Line, s: &[u8], figures: bool) -> Line {
+fn put_either(l: Line, parts: Parts, s: &[u8], figures: bool) -> Line {
     if figures {
-        return put_figures(l, s);
+        return put_figures(l, parts, s);
     }
     put_element(l, s)
 }
 
 // Puts the first k elements of a field, with a space between two.
-fn put_elements(l: Line, data: &[u8], field: Field, k: usize, figures: bool) -> Line {
+fn put_elements(l: Line, parts: Parts, data: &[u8], field: Field, k: usize, figures: bool) -> Line {
     let size = field.size as usize;
     let mut next = l;
     let mut place = field.offset as usize;
     let mut left = k;
     while 0 < left {
-        next = put_either(next, part(data, place, size), figures);
+        next = put_either(next, parts, part(data, place, size), figures);
         next = put(next, b' ');
         place = sum(place, size);
         left -= 1;
@@ -164,13 +164,13 @@ fn put_elements(l: Line, data: &[u8], field: Field, k: usize, figures: bool) -> 
 }
 
 // How many columns the stored characters of a decimal field take.
-fn stored_width(field: Field, data: &[u8]) -> usize {
+fn stored_width(parts: Parts, data: &[u8], field: Field) -> usize {
     let kind = field.kind;
     if !sorts::is_decimal(kind) {
         return 0;
     }
     let k = fitting(field, DECIMAL_ROOM);
-    let l = put_elements(new_line(), data, field, k, false);
+    let l = put_elements(new_line(), parts, data, field, k, false);
     l.at
 }
 
@@ -179,7 +179,7 @@ fn widest(unit: &[u8], parts: Parts, data: &[u8]) -> usize {
     let mut width = 6;
     let mut i: u16 = 0;
     while i < parts.f {
-        width = most(width, stored_width(field_of(unit, parts, i), data));
+        width = most(width, stored_width(parts, data, field_of(unit, parts, i)));
         i += 1;
     }
     width
@@ -195,18 +195,18 @@ fn put_more(l: Line, field: Field, k: usize) -> Line {
 }
 
 // Puts what a decimal field holds: the characters, and in the column given the values.
-fn put_decimal(l: Line, data: &[u8], field: Field, column: usize) -> Line {
+fn put_decimal(l: Line, parts: Parts, data: &[u8], field: Field, column: usize) -> Line {
     let k = fitting(field, DECIMAL_ROOM);
-    let mut next = put_elements(l, data, field, k, false);
+    let mut next = put_elements(l, parts, data, field, k, false);
     next = fill_to(next, column);
-    next = put_elements(next, data, field, k, true);
+    next = put_elements(next, parts, data, field, k, true);
     put_more(next, field, k)
 }
 
 // Puts what an alpha field or a record holds.
-fn put_alpha(l: Line, data: &[u8], field: Field) -> Line {
+fn put_alpha(l: Line, parts: Parts, data: &[u8], field: Field) -> Line {
     let k = fitting(field, ALPHA_ROOM);
-    let next = put_elements(l, data, field, k, false);
+    let next = put_elements(l, parts, data, field, k, false);
     put_more(next, field, k)
 }
 
@@ -238,9 +238,9 @@ fn say_field(unit: &[u8], parts: Parts, data: &[u8], i: u16, column: usize) {
     let mut l = put_entry(new_line(), field, i);
     l = put_sizes(l, field);
     if sorts::is_decimal(kind) {
-        l = put_decimal(l, data, field, column);
+        l = put_decimal(l, parts, data, field, column);
     } else {
-        l = put_alpha(l, data, field);
+        l = put_alpha(l, parts, data, field);
     }
     say_line(l);
 }

@@ -1,12 +1,11 @@
 // The parts of a unit, read without a condition: where the lengths do not fill the unit, or a number is past the last entry, what is
-// answered is an empty entry. Of a unit that passed its check neither is so.
+// answered is an empty entry, and no number where the dialect's are past their limits. Of a unit that passed its check none is so.
 use crate::say::part;
 use rules::Num;
 use rules_unit::Field;
 use rules_unit::Kind;
 use rules_unit::Parts;
 use rules_unit::Statement;
-ghost use Prim.Native.Nat.{_<_, _^_};
 
 // A number in figures: whether it is one, whether it is below 0, and its magnitude.
 pub struct Figures {
@@ -63,9 +62,8 @@ pub fn literal_of(unit: &[u8], parts: Parts, place: u16, len: u16) -> &[u8] {
     part(literals, decode::long(place), decode::long(len))
 }
 
-fn no_figures() -> Figures
-    ensures { λ r. ⌜ r .size < 10 ^ 18 ⌝ }
-{
+// What is no number.
+fn no_figures() -> Figures {
     Figures {
         good: false,
         below: false,
@@ -73,11 +71,20 @@ fn no_figures() -> Figures
     }
 }
 
-// A decimal in figures.
-pub fn figures_of(s: &[u8]) -> Figures
-    ensures { λ r. ⌜ r .size < 10 ^ 18 ⌝ }
-{
-    match text::read(18, 112, s) {
+// A decimal in figures, as the unit's dialect writes it.
+pub fn figures_of(parts: Parts, s: &[u8]) -> Figures {
+    let digits = decode::long(parts.digits);
+    let sign = parts.sign as u64;
+    if 18 < digits {
+        return no_figures();
+    }
+    if sign < 58 {
+        return no_figures();
+    }
+    if 246 < sign {
+        return no_figures();
+    }
+    match text::read(digits, sign, s) {
         Num::Value(v) => Figures {
             good: true,
             below: number::is_neg(v),

@@ -1,14 +1,16 @@
 -- `boxlever::fence::say_references` ends: each turn takes one item.
--- The invariant: nothing is kept. The measure: the items that may be left. Assumes nothing.
+-- The invariant: the bounds are in the range of values. The measure: the items that may be left. Assumes nothing.
 use borrow.Author.Needs.{needs}
+use Rattle.bounds.specs.Asked.{Small}
+use Rattle.bounds.proofs.Seeing.{small-none, small-next}
 use Rattle.boxlever.proofs.fence.say_references.Statement.{statement}
 use Rattle.boxlever.proofs.fence.say_references.Tie as tie
 
 abbrev Inv-loop : tie.InvT-loop
-Inv-loop unit parts e written es h₀ k₀ from₀ left₀ h k from left = Unit {0}
+Inv-loop unit parts e written es h₀ s₀ from₀ left₀ h s from left = Small s
 
 abbrev μ-loop : tie.MeasureT-loop
-μ-loop unit parts e written es h₀ k₀ from₀ left₀ h k from left = left
+μ-loop unit parts e written es h₀ s₀ from₀ left₀ h s from left = left
 
 expressions-of-requires : tie.Need-expressions-of-requires Inv-loop μ-loop
 expressions-of-requires c κs = search needs
@@ -19,11 +21,8 @@ new-line-requires c κs = search needs
 none-held-requires : tie.Need-none-held-requires Inv-loop μ-loop
 none-held-requires c κs = search needs
 
-nothing-known-requires : tie.Need-nothing-known-requires Inv-loop μ-loop
-nothing-known-requires c κs = search needs
-
 loop-holds : tie.Need-loop-holds Inv-loop μ-loop
-loop-holds c = search needs
+loop-holds c = small-none
 
 item-at-requires : tie.Need-item-at-requires Inv-loop μ-loop
 item-at-requires c κs = search needs
@@ -40,14 +39,14 @@ hold-item-requires c κs = search needs
 say-item-requires : tie.Need-say-item-requires Inv-loop μ-loop
 say-item-requires c κs = search needs
 
-known-after-requires : tie.Need-known-after-requires Inv-loop μ-loop
-known-after-requires c κs = search needs
-
 width-of-requires : tie.Need-width-of-requires Inv-loop μ-loop
 width-of-requires c κs = search needs
 
 sum-requires : tie.Need-sum-requires Inv-loop μ-loop
 sum-requires c κs = search needs
+
+seen-after-requires : tie.Need-seen-after-requires Inv-loop μ-loop
+seen-after-requires c κs = search needs
 
 sub-left : tie.Need-sub-left Inv-loop μ-loop
 sub-left c = search needs
@@ -56,7 +55,12 @@ loop-less : tie.Need-loop-less Inv-loop μ-loop
 loop-less c = search needs
 
 loop-again : tie.Need-loop-again Inv-loop μ-loop
-loop-again c = search needs
+loop-again c =
+    let read = c .before .before .before .before .before .before .before in
+    let head = read .before .before in
+    let start = head .before .before .before .before .before in
+    small-next (start .args .unit .now) (start .args .parts) (start .pre .1) (head .loop .s) (c .seen-after .result) (read .item-at .result) (head .loop .inv)
+    (c .seen-after .ensures)
 
 returns-2 : tie.Need-returns-2 Inv-loop μ-loop
 returns-2 c = search needs
@@ -70,16 +74,15 @@ say-references-spec =
     expressions-of-requires
     new-line-requires
     none-held-requires
-    nothing-known-requires
     loop-holds
     item-at-requires
     is-done-requires
     returns
     hold-item-requires
     say-item-requires
-    known-after-requires
     width-of-requires
     sum-requires
+    seen-after-requires
     sub-left
     loop-less
     loop-again

@@ -5,10 +5,10 @@ use Rattle.boxlever.proofs.list.put_elements.Statement.{statement}
 use Rattle.boxlever.proofs.list.put_elements.Tie as tie
 
 abbrev Inv-loop : tie.InvT-loop
-Inv-loop «data» k figures size next₀ place₀ left₀ next place left = Unit {0}
+Inv-loop parts «data» k figures size next₀ place₀ left₀ next place left = Unit {0}
 
 abbrev μ-loop : tie.MeasureT-loop
-μ-loop «data» k figures size next₀ place₀ left₀ next place left = left
+μ-loop parts «data» k figures size next₀ place₀ left₀ next place left = left
 
 cast-size : tie.Need-cast-size Inv-loop μ-loop
 cast-size c = search needs
