@@ -2,10 +2,12 @@
 // writes the stop number, the place and the completed count, then the data.
 use rules_unit::Checked;
 
+// Writes to standard output. A failure to write is not told.
 fn say(s: &[u8]) {
     let done = io::write_all(libc::STDOUT_FILENO, s);
 }
 
+// Writes a number in figures, without leading zeros.
 fn say_number(n: u64) {
     let done = io::print_decimal(libc::STDOUT_FILENO, n);
 }

@@ -45,11 +45,13 @@ fn say_name(path: &[u8]) {
     say(part(path, name_at(path), path.len()));
 }
 
+// Puts the statement that breaks a rule first, and the rule.
 fn put_no(l: Line, unit: &[u8], i: u16) -> Line {
     let next = put_form(l, b"no at #: ", i as u64, 0);
     put_breach(next, dibol::breach(unit, i as usize))
 }
 
+// Puts the answer of the fence check, with the reason where it is not yes.
 fn put_answer(l: Line, unit: &[u8], v: Verdict) -> Line {
     match v {
         Verdict::Yes => put_text(l, b"yes"),
@@ -102,6 +104,7 @@ fn say_file(path: &[u8], tally: Tally) -> Tally {
     counted(tally, verdict)
 }
 
+// Puts how many files could not be read, if there are any.
 fn put_unread(l: Line, n: u32) -> Line {
     if n == 0 {
         return l;
@@ -109,6 +112,7 @@ fn put_unread(l: Line, n: u32) -> Line {
     put_form(l, b", # not read", n as u64, 0)
 }
 
+// The last line: how many units there are of each answer.
 fn say_totals(tally: Tally) {
     let yes = tally.yes as u64;
     let no = tally.no as u64;

@@ -80,6 +80,7 @@ fn put_field(l: Line, unit: &[u8], parts: Parts, i: u16) -> Line {
     put_elements(next, field)
 }
 
+// Puts the bytes that a reference names, or that a run would stop there.
 fn put_span(l: Line, span: Span) -> Line {
     match span {
         Span::At { start, len } => put_bytes(put_text(l, b" is"), start, len),
@@ -125,7 +126,7 @@ fn put_shared(l: Line, unit: &[u8], parts: Parts, span: Span) -> Line {
     l
 }
 
-// Puts the bytes of the field of a reference, unless it is named whole.
+// Puts the bytes of the field of a reference with bounds. Without bounds a reference names its field's first element, and nothing is put.
 fn put_own(l: Line, unit: &[u8], parts: Parts, how: How, i: u16) -> Line {
     if sorts::how_takes(how) == 0 {
         return l;
@@ -289,6 +290,7 @@ fn say_all(unit: &[u8], parts: Parts, first: u16)
     }
 }
 
+// The first statement that breaks a rule, then the lines of all that do.
 fn say_no(unit: &[u8], i: u16) {
     say_line(put_form(new_line(), b"no #", i as u64, 0));
     match dibol::check(unit) {
@@ -305,6 +307,7 @@ fn say_refused(r: Refusal) {
     say_line(put_refusal(l, r));
 }
 
+// The answer of the fence check, with what an owner needs to find each breach.
 pub fn answer(unit: &[u8]) {
     match dibol::fence(unit) {
         Verdict::Yes => say(b"yes\n"),

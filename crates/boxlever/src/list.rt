@@ -380,6 +380,7 @@ fn say_rows(unit: &[u8], parts: Parts, marks: &[u8], first: u16) {
     }
 }
 
+// The statements of a unit, of which the first that breaks a rule is given. A unit has at most 2,048 of them.
 fn say_statements(unit: &[u8], parts: Parts, first: u16) {
     let mut space = [0u8; 2048];
     let marks: &mut [u8] = &mut space;
@@ -413,6 +414,7 @@ fn first_of(v: Verdict, n: u16) -> u16 {
     }
 }
 
+// A unit that passes its check: what the fence says, its parts, its fields over its own data, and its statements.
 fn say_passed(unit: &[u8], parts: Parts) {
     let v = dibol::fence(unit);
     say_head(unit, v);
@@ -444,11 +446,13 @@ fn say_trailer(unit: &[u8]) {
     say_unfilled(end, n);
 }
 
+// A unit that is refused: the refusal, and the parts where the trailer can be read.
 fn say_refused(unit: &[u8], r: Refusal) {
     say_line(put_refused(new_line(), r));
     say_trailer(unit);
 }
 
+// All that a unit holds, as far as its check lets it be read.
 pub fn answer(unit: &[u8]) {
     match dibol::check(unit) {
         Checked::Passed(parts) => say_passed(unit, parts),

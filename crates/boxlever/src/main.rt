@@ -101,6 +101,7 @@ fn answer_check() {
     check::check_files(count);
 }
 
+// Writes all that the program can be called with.
 fn help() {
     say::say(
         b"usage: boxlever run FILE       run the unit, and show its fields after the run\n       boxlever fence FILE     tell whether the unit can slip, and where\n       boxlever list FILE      show its parts, its fields and its statements\n       boxlever check FILES..  a row with the fence's answer for each unit\n\nFILE is a coded DIBOL unit, or - for standard input. A run starts from the\nunit's own data and takes at most 100,000 statements.\n\nexample: boxlever fence fares.unit\n",
@@ -125,6 +126,7 @@ fn number_of(word: &[u8]) -> u8 {
     NONE
 }
 
+// Answers a call by its first word.
 fn answer(word: &[u8]) {
     let k = number_of(word);
     if k < CHECK {
@@ -139,6 +141,7 @@ fn answer(word: &[u8]) {
     }
 }
 
+// A call without a word is told what is missing.
 fn main() {
     if os::arg_count() < 2 {
         usage(b"no word", b" is given");

@@ -14,6 +14,7 @@ pub struct Figures {
     pub size: u64,
 }
 
+// An empty entry: what is answered where there is no such field.
 fn no_field() -> Field {
     Field {
         kind: Kind::Bad,

@@ -110,6 +110,7 @@ fn digit_of(n: u8) -> u8 {
     b'?'
 }
 
+// Puts a byte as two digits in hex.
 pub fn put_hex(l: Line, b: u8) -> Line {
     let next = put(l, digit_of(b / 16));
     put(next, digit_of(b % 16))
@@ -134,6 +135,7 @@ fn put_quoted_byte(l: Line, b: u8) -> Line {
     put(l, b)
 }
 
+// Puts the bytes of a quoted text, as many of them as there is room for.
 fn put_quoted(l: Line, s: &[u8]) -> Line {
     let mut next = l;
     let mut i = 0;
@@ -147,6 +149,7 @@ fn put_quoted(l: Line, s: &[u8]) -> Line {
     next
 }
 
+// Puts an alpha literal, in quotes.
 fn put_literal(l: Line, s: &[u8]) -> Line {
     let next = put_quoted(put(l, b'"'), s);
     put(next, b'"')
@@ -190,6 +193,7 @@ fn put_bounds(l: Line, h: Held, how: How) -> Line {
     put(next, b')')
 }
 
+// A reference takes the values held last as its bounds, as many as its form has.
 fn hold_reference(h: Held, unit: &[u8], parts: Parts, how: How, i: u16) -> Held {
     let taken = sorts::how_takes(how) as usize;
     let mut l = put_name(line_before(h, taken), field_of(unit, parts, i), i);
@@ -264,6 +268,7 @@ fn hold_joined(h: Held, op: Op) -> Held {
     hold(h, 2, l, level)
 }
 
+// An operator takes one or two of the values held last.
 fn hold_operator(h: Held, op: Op) -> Held {
     if sorts::op_takes(op) == 1 {
         return hold_alone(h, op);
@@ -292,7 +297,7 @@ pub fn hold_item(h: Held, unit: &[u8], parts: Parts, item: Item) -> Held {
 }
 
 // Whether an expression ends with an item.
-pub fn is_end(item: Item) -> bool {
+fn is_end(item: Item) -> bool {
     match item {
         Item::Number { place: _, len: _ } | Item::Text { place: _, len: _ } => false,
         Item::Reference { how: _, field: _ } | Item::Operator(_) => false,
@@ -318,7 +323,7 @@ pub fn is_done(h: Held, item: Item) -> bool {
 }
 
 // Puts the expression at an offset of the expressions. It has at most as many items as bytes.
-pub fn put_expression(l: Line, unit: &[u8], parts: Parts, e: u16) -> Line {
+fn put_expression(l: Line, unit: &[u8], parts: Parts, e: u16) -> Line {
     let es = crate::parts::expressions_of(unit, parts);
     let mut h = none_held(l);
     let mut from = e as usize;

@@ -83,6 +83,7 @@ fn say_refused(r: Refusal) {
     say_line(put_stop(l, number));
 }
 
+// Runs a unit from its own data, or tells why it is refused.
 pub fn answer(unit: &[u8]) {
     match dibol::check(unit) {
         Checked::Passed(parts) => run_unit(unit, parts),

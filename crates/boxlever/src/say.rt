@@ -10,6 +10,7 @@ pub struct Line {
     pub text: [u8; 600],
 }
 
+// Writes to standard output.
 pub fn say(s: &[u8]) {
     let done = io::write_all(libc::STDOUT_FILENO, s);
 }
@@ -63,10 +64,12 @@ pub fn less(a: usize, b: usize) -> usize {
     if a < b { 0 } else { a - b }
 }
 
+// The smaller of two numbers.
 pub fn least(a: usize, b: usize) -> usize {
     if a < b { a } else { b }
 }
 
+// The greater of two numbers.
 pub fn most(a: usize, b: usize) -> usize {
     if a < b { b } else { a }
 }
@@ -149,6 +152,7 @@ pub fn cut(l: Line, at: usize) -> Line {
     next
 }
 
+// Puts a byte, if there is room for it.
 pub fn put(l: Line, b: u8) -> Line {
     let mut next = l;
     let at = l.at;
@@ -176,6 +180,7 @@ pub fn put_text(l: Line, s: &[u8]) -> Line {
     next
 }
 
+// Puts a number in figures, without leading zeros.
 pub fn put_number(l: Line, n: u64) -> Line {
     let mut digits = [0u8; 20];
     let k = io::decimal(n, &mut digits);
