@@ -31,4 +31,4 @@ pub use literal::{literal, literal_range};
 pub use run::{run, Outcome};
 pub use state::{State, CALLS_MOST};
 pub use stop::{words, Refusal};
-pub use unit::{Field, Parts, Statement};
+pub use unit::{Field, Parts, Statement, LONGEST};

@@ -1,11 +1,10 @@
 //! Tables: a row for each file and a last line with the sums.
 
-use second::{breach, fence, words, Fence, Refusal};
+use second::{breach, fence, words, Fence, Refusal, LONGEST};
 use std::ffi::OsStr;
 use std::fs;
 use std::io::{self, BufWriter, Write};
 use std::os::unix::ffi::OsStrExt;
-use std::path::Path;
 
 /// What the fence check says of each file, as the owner's program writes it.
 pub fn check_files(files: &[&OsStr]) -> io::Result<()> {
@@ -44,17 +43,17 @@ fn table(
     let mut counts = vec![0; sums.len()];
     let mut unread = 0;
     for file in files {
-        let name = Path::new(file).file_name().unwrap_or(file).as_bytes();
         if let Ok(unit) = fs::read(file) {
             let (sum, words) = answer(&unit);
             counts[sum] += 1;
-            row(&mut out, &format!("{:6}  ", unit.len()), name, &words)?;
+            row(&mut out, &format!("{:>6}  ", length(&unit)), file, &format!(" {words}"))?;
         } else {
             unread += 1;
-            row(&mut out, "     -  ", name, "cannot be read")?;
+            row(&mut out, "unreadable ", file, "")?;
         }
     }
-    write!(out, "{} units:", counts.iter().sum::<usize>())?;
+    let count: usize = counts.iter().sum();
+    write!(out, "{count} unit{}:", if count == 1 { "" } else { "s" })?;
     for (i, (count, sum)) in counts.iter().zip(sums).enumerate() {
         write!(out, "{} {count} {sum}", if i > 0 { "," } else { "" })?;
     }
@@ -65,9 +64,17 @@ fn table(
     out.flush()
 }
 
-/// One row of the table. The name is written as it stands, whatever its bytes are.
-fn row(out: &mut impl Write, length: &str, name: &[u8], words: &str) -> io::Result<()> {
-    write!(out, "{length}")?;
-    out.write_all(name)?;
-    writeln!(out, " {words}")
+/// The length of a unit, or that it is longer than any that passes.
+fn length(unit: &[u8]) -> String {
+    if LONGEST < unit.len() {
+        return format!(">{LONGEST}");
+    }
+    unit.len().to_string()
+}
+
+/// One row of the table. The file is named as it was given, whatever the bytes are.
+fn row(out: &mut impl Write, start: &str, file: &OsStr, end: &str) -> io::Result<()> {
+    write!(out, "{start}")?;
+    out.write_all(file.as_bytes())?;
+    writeln!(out, "{end}")
 }

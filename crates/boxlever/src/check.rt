@@ -1,9 +1,9 @@
 // `boxlever check FILES..`: a row for each unit with the answer of the fence check, and a line of totals.
 use crate::say::Line;
 use crate::say::fill_to;
+use crate::say::is_read;
 use crate::say::new_line;
 use crate::say::open;
-use crate::say::part;
 use crate::say::put;
 use crate::say::put_form;
 use crate::say::put_right;
@@ -11,9 +11,13 @@ use crate::say::put_text;
 use crate::say::say;
 use crate::say::say_line;
 use crate::say::say_text;
+use crate::say::tell_unread;
 use crate::words::put_breach;
 use crate::words::put_refused;
 use rules_fence::Verdict;
+
+// The bytes of the longest unit.
+const LONGEST: usize = 57353;
 
 // How many units the fence says yes and no of, are refused, and could not be read.
 struct Tally {
@@ -26,23 +30,6 @@ struct Tally {
 // One more, up to what is counted at all.
 fn one_more(n: u32) -> u32 {
     if n < 4000000000 { n + 1 } else { n }
-}
-
-// Where the name of a file starts: behind the last slash of its path.
-fn name_at(path: &[u8]) -> usize {
-    let mut i = path.len();
-    while 0 < i {
-        if path[i - 1] == b'/' {
-            return i;
-        }
-        i -= 1;
-    }
-    0
-}
-
-// Writes the name of a file, which may be longer than a line.
-fn say_name(path: &[u8]) {
-    say(part(path, name_at(path), path.len()));
 }
 
 // Puts the statement that breaks a rule first, and the rule.
@@ -71,37 +58,55 @@ fn counted(tally: Tally, v: Verdict) -> Tally {
     next
 }
 
-// The row of a unit that was read.
+// Puts the length of a file, of which more is not read than tells that no unit is so long.
+fn put_length(l: Line, n: usize) -> Line {
+    if LONGEST < n {
+        return put_form(l, b">#", LONGEST as u64, 0);
+    }
+    put_right(l, n as u64, 6)
+}
+
+// The row of a unit that was read. The path may be longer than a line.
 fn say_unit(path: &[u8], unit: &[u8], v: Verdict) {
-    let start = put_right(new_line(), unit.len() as u64, 6);
+    let start = put_length(new_line(), unit.len());
     say_text(fill_to(start, 8));
-    say_name(path);
+    say(path);
     let l = put(new_line(), b' ');
     say_line(put_answer(l, unit, v));
 }
 
-// The row of a file that cannot be read.
-fn say_unread(path: &[u8]) {
-    say(b"     -  ");
-    say_name(path);
-    say(b" cannot be read\n");
+// The row of a file that cannot be read, and the tally with it.
+fn say_unread(path: &[u8], tally: Tally) -> Tally {
+    say(b"unreadable ");
+    say(path);
+    say(b"\n");
+    tell_unread(path);
+    let mut next = tally;
+    next.unread = one_more(tally.unread);
+    next
 }
 
-// The row of a file, and the tally with it. Of one longer than the longest unit the first 65,536 bytes are enough to refuse it.
-fn say_file(path: &[u8], tally: Tally) -> Tally {
-    let fd = open(path);
-    if fd < 0 {
-        say_unread(path);
-        let mut next = tally;
-        next.unread = one_more(tally.unread);
-        return next;
-    }
+// The row of a file that is open, and the tally with it.
+fn say_open(path: &[u8], fd: i32, tally: Tally) -> Tally {
     let mut buf = io::large_buffer();
     let n = io::read_full(fd, &mut buf);
-    let closed = libc::close(fd);
+    if !is_read(fd, n) {
+        return say_unread(path, tally);
+    }
     let verdict = dibol::fence(&buf[..n]);
     say_unit(path, &buf[..n], verdict);
     counted(tally, verdict)
+}
+
+// The row of a file, and the tally with it. Standard input is closed like any other, since it is read once.
+fn say_file(path: &[u8], tally: Tally) -> Tally {
+    let fd = open(path);
+    if fd < 0 {
+        return say_unread(path, tally);
+    }
+    let next = say_open(path, fd, tally);
+    let closed = libc::close(fd);
+    next
 }
 
 // Puts how many files could not be read, if there are any.
@@ -112,12 +117,20 @@ fn put_unread(l: Line, n: u32) -> Line {
     put_form(l, b", # not read", n as u64, 0)
 }
 
+// Puts how many units were read, and how many of them the fence says yes of.
+fn put_units(l: Line, count: u64, yes: u64) -> Line {
+    if count == 1 {
+        return put_form(l, b"# unit: # yes, ", count, yes);
+    }
+    put_form(l, b"# units: # yes, ", count, yes)
+}
+
 // The last line: how many units there are of each answer.
 fn say_totals(tally: Tally) {
     let yes = tally.yes as u64;
     let no = tally.no as u64;
     let refused = tally.refused as u64;
-    let mut l = put_form(new_line(), b"# units: # yes, ", yes + no + refused, yes);
+    let mut l = put_units(new_line(), yes + no + refused, yes);
     l = put_form(l, b"# no, # refused", no, refused);
     say_line(put_unread(l, tally.unread));
 }

@@ -58,6 +58,9 @@ const LABEL: usize = 38;
 
 const READS: usize = 45;
 
+// The column up to which a marked statement is told; the longest mark, of 59 bytes, has room behind it.
+const UNMARKED: usize = 540;
+
 // The most columns that the stored characters of a decimal field take, and those of another.
 const DECIMAL_ROOM: usize = 28;
 
@@ -334,13 +337,21 @@ fn put_label(l: Line, i: u16, mark: u8) -> Line {
     put_form(l, b"L#:", i as u64, 0)
 }
 
+// The line with room for a mark: a text that leaves none is cut, and two dots follow it.
+fn with_room(l: Line) -> Line {
+    if l.at <= UNMARKED {
+        return l;
+    }
+    put_text(cut(l, UNMARKED - 2), b"..")
+}
+
 // Puts the rule that the statement i breaks, if it breaks one.
 fn put_broken(l: Line, unit: &[u8], i: u16) -> Line {
     let b = dibol::breach(unit, i as usize);
     if dibol::breach_number(b) == 0 {
         return l;
     }
-    put_breach(put_text(l, b"  ! "), b)
+    put_breach(put_text(with_room(l), b"  ! "), b)
 }
 
 // Where the statement i stands in the unit.

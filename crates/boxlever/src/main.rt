@@ -8,10 +8,12 @@ mod run;
 mod say;
 mod words;
 
+use say::is_read;
 use say::open;
 use say::piece;
 use say::same;
 use say::tell;
+use say::tell_unread;
 
 // The words by their numbers. The first three take one file.
 const RUN: u8 = 0;
@@ -26,23 +28,19 @@ const VERSION: u8 = 5;
 
 const NONE: u8 = 6;
 
-// A call that cannot be answered: the first word on standard output says so, the line on standard error why.
-fn fail(word: &[u8], what: &[u8], why: &[u8]) {
-    say::say(word);
+// A call whose words are not those that `--help` tells: the word on standard output says so, the line on standard error why.
+fn usage(what: &[u8], why: &[u8]) {
+    say::say(b"usage\n");
     tell(b"boxlever: ");
     tell(what);
     tell(why);
-}
-
-// A call whose words are not those that `--help` tells.
-fn usage(what: &[u8], why: &[u8]) {
-    fail(b"usage\n", what, why);
     tell(b"; try: boxlever --help\n");
 }
 
-// A file that cannot be read.
+// A file that cannot be read, told in the same way.
 fn unreadable(path: &[u8]) {
-    fail(b"unreadable\n", path, b": cannot be read\n");
+    say::say(b"unreadable\n");
+    tell_unread(path);
 }
 
 // What the word k says of a unit.
@@ -59,24 +57,24 @@ fn answer_unit(k: u8, unit: &[u8]) {
 }
 
 // What the word k says of the unit in a file that is open. More bytes than the longest unit has are read, so that a longer file is refused.
-fn answer_open(k: u8, fd: i32) {
+fn answer_open(k: u8, path: &[u8], fd: i32) {
     let mut buf = io::large_buffer();
     let n = io::read_full(fd, &mut buf);
-    answer_unit(k, &buf[..n]);
-}
-
-// What the word k says of the unit in a file; `-` is standard input.
-fn answer_file(k: u8, path: &[u8]) {
-    if same(path, b"-") {
-        answer_open(k, libc::STDIN_FILENO);
+    if is_read(fd, n) {
+        answer_unit(k, &buf[..n]);
         return;
     }
+    unreadable(path);
+}
+
+// What the word k says of the unit in a file.
+fn answer_file(k: u8, path: &[u8]) {
     let fd = open(path);
     if fd < 0 {
         unreadable(path);
         return;
     }
-    answer_open(k, fd);
+    answer_open(k, path, fd);
     let closed = libc::close(fd);
 }
 

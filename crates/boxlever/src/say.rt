@@ -4,6 +4,9 @@
 // The bytes that a line has room for.
 pub const ROOM: usize = 600;
 
+// The bytes that a file is read into, of which the longest unit takes less.
+pub const BUFFER: usize = 65536;
+
 // A line in the making: its bytes up to `at`.
 pub struct Line {
     pub at: usize,
@@ -20,19 +23,30 @@ pub fn tell(s: &[u8]) {
     let done = io::write_all(libc::STDERR_FILENO, s);
 }
 
-// Opens a file for reading, and answers its descriptor; below 0 where it cannot be read, as a folder cannot.
+// Opens a file for reading, and answers its descriptor, or one below 0; `-` is standard input.
 pub fn open(path: &[u8]) -> i32 {
-    let fd = os::open_read(path);
-    if fd < 0 {
-        return fd;
+    if same(path, b"-") {
+        return libc::STDIN_FILENO;
+    }
+    os::open_read(path)
+}
+
+// Whether all of a file was read, or all of a buffer filled, by the n bytes that `io::read_full` gave of it: a read that fails, as that
+// of a folder does, ends it like the end of the file, but one more byte is told as none only there.
+pub fn is_read(fd: i32, n: usize) -> bool {
+    if n == BUFFER {
+        return true;
     }
     let mut space = [0u8; 1];
-    let got = libc::read(fd, &mut space[0..0]);
-    if 0 <= got {
-        return fd;
-    }
-    let closed = libc::close(fd);
-    -1
+    let got = libc::read(fd, &mut space);
+    got == 0
+}
+
+// Says on standard error that a file cannot be read.
+pub fn tell_unread(path: &[u8]) {
+    tell(b"boxlever: ");
+    tell(path);
+    tell(b": cannot be read\n");
 }
 
 // Whether two texts are the same.
