@@ -46,7 +46,8 @@ fn table(
         if let Ok(unit) = fs::read(file) {
             let (sum, words) = answer(&unit);
             counts[sum] += 1;
-            row(&mut out, &format!("{:>6}  ", length(&unit)), file, &format!(" {words}"))?;
+            let start = format!("{:>6}  ", length(&unit));
+            row(&mut out, &start, file, &format!(" {words}"))?;
         } else {
             unread += 1;
             row(&mut out, "unreadable ", file, "")?;

@@ -1,26 +1,20 @@
 // `boxlever list FILE`: the parts of a unit, its fields with what they hold, and its statements as text.
-use crate::parts::field_of;
-use crate::parts::figures_of;
+use crate::fields::put_span;
+use crate::fields::say_fields;
 use crate::parts::statement_of;
-use crate::phrase::kind_number;
 use crate::phrase::put_hex;
-use crate::phrase::put_name;
 use crate::phrase::put_statement;
 use crate::say::Line;
 use crate::say::byte_at;
 use crate::say::cut;
 use crate::say::fill_to;
-use crate::say::least;
 use crate::say::less;
-use crate::say::most;
 use crate::say::new_line;
 use crate::say::part;
 use crate::say::piece;
 use crate::say::put;
 use crate::say::put_form;
-use crate::say::put_number;
 use crate::say::put_right;
-use crate::say::put_shown;
 use crate::say::put_text;
 use crate::say::same;
 use crate::say::say;
@@ -30,7 +24,6 @@ use crate::words::put_breach;
 use crate::words::put_refused;
 use rules_fence::Verdict;
 use rules_unit::Checked;
-use rules_unit::Field;
 use rules_unit::Parts;
 use rules_unit::Refusal;
 use rules_unit::Statement;
@@ -39,16 +32,6 @@ use rules_unit::Statement;
 const BYTES: usize = 13;
 
 const ENTRIES: usize = 33;
-
-const KIND: usize = 7;
-
-const SPAN: usize = 16;
-
-const SIZE: usize = 33;
-
-const COUNT: usize = 40;
-
-const STORED: usize = 42;
 
 const OFFSET: usize = 11;
 
@@ -61,21 +44,7 @@ const READS: usize = 45;
 // The column up to which a marked statement is told; the longest mark, of 59 bytes, has room behind it.
 const UNMARKED: usize = 540;
 
-// The most columns that the stored characters of a decimal field take, and those of another.
-const DECIMAL_ROOM: usize = 28;
-
-const ALPHA_ROOM: usize = 60;
-
 // ---- the parts
-
-// Puts `3-7`, or `3` for one byte.
-fn put_span(l: Line, from: usize, len: usize) -> Line {
-    if len < 2 {
-        return put_number(l, from as u64);
-    }
-    let last = less(sum(from, len), 1);
-    put_form(l, b"#-#", from as u64, last as u64)
-}
 
 // The row of the part k, and where the next one starts. A part of entries has a row with their number.
 fn say_part(k: u8, from: usize, len: usize, entries: u16) -> usize {
@@ -108,169 +77,6 @@ fn say_parts(parts: Parts) -> usize {
     at = say_part(3, at, parts.p as usize, 0);
     at = say_entries(4, at, parts.n);
     say_part(5, at, 12, 0)
-}
-
-// ---- the fields
-
-// How many of a field's elements fit a room, in quotes and with a space between two; one at the least.
-fn fitting(field: Field, room: usize) -> usize {
-    let cell = field.size as usize + 3;
-    let fit = sum(room, 1) / cell;
-    most(1, least(fit, field.count as usize))
-}
-
-// Puts an element in quotes; of a longer one than the room only its first characters, and two dots.
-fn put_element(l: Line, s: &[u8]) -> Line {
-    let mut next = put(l, b'"');
-    next = put_shown(next, part(s, 0, ALPHA_ROOM));
-    next = put(next, b'"');
-    if ALPHA_ROOM < s.len() {
-        return put_text(next, b"..");
-    }
-    next
-}
-
-// Puts a decimal in figures.
-fn put_figures(l: Line, parts: Parts, s: &[u8]) -> Line {
-    let f = figures_of(parts, s);
-    if !f.good {
-        return put_text(l, b"no number");
-    }
-    let mut next = l;
-    if f.below {
-        next = put(l, b'-');
-    }
-    put_number(next, f.size)
-}
-
-// Puts an element as it is stored, or in figures.
-fn put_either(l: Line, parts: Parts, s: &[u8], figures: bool) -> Line {
-    if figures {
-        return put_figures(l, parts, s);
-    }
-    put_element(l, s)
-}
-
-// Puts the first k elements of a field, with a space between two.
-fn put_elements(l: Line, parts: Parts, data: &[u8], field: Field, k: usize, figures: bool) -> Line {
-    let size = field.size as usize;
-    let mut next = l;
-    let mut place = field.offset as usize;
-    let mut left = k;
-    while 0 < left {
-        next = put_either(next, parts, part(data, place, size), figures);
-        next = put(next, b' ');
-        place = sum(place, size);
-        left -= 1;
-    }
-    cut(next, less(next.at, 1))
-}
-
-// How many columns the stored characters of a decimal field take.
-fn stored_width(parts: Parts, data: &[u8], field: Field) -> usize {
-    let kind = field.kind;
-    if !sorts::is_decimal(kind) {
-        return 0;
-    }
-    let k = fitting(field, DECIMAL_ROOM);
-    let l = put_elements(new_line(), parts, data, field, k, false);
-    l.at
-}
-
-// The widest of them, or that of the head.
-fn widest(unit: &[u8], parts: Parts, data: &[u8]) -> usize {
-    let mut width = 6;
-    let mut i: u16 = 0;
-    while i < parts.f {
-        width = most(width, stored_width(parts, data, field_of(unit, parts, i)));
-        i += 1;
-    }
-    width
-}
-
-// Puts how many elements are not told.
-fn put_more(l: Line, field: Field, k: usize) -> Line {
-    let count = field.count as usize;
-    if count <= k {
-        return l;
-    }
-    put_form(l, b" and # more", (count - k) as u64, 0)
-}
-
-// Puts what a decimal field holds: the characters, and in the column given the values.
-fn put_decimal(l: Line, parts: Parts, data: &[u8], field: Field, column: usize) -> Line {
-    let k = fitting(field, DECIMAL_ROOM);
-    let mut next = put_elements(l, parts, data, field, k, false);
-    next = fill_to(next, column);
-    next = put_elements(next, parts, data, field, k, true);
-    put_more(next, field, k)
-}
-
-// Puts what an alpha field or a record holds.
-fn put_alpha(l: Line, parts: Parts, data: &[u8], field: Field) -> Line {
-    let k = fitting(field, ALPHA_ROOM);
-    let next = put_elements(l, parts, data, field, k, false);
-    put_more(next, field, k)
-}
-
-// Puts a field's name and kind.
-fn put_entry(l: Line, field: Field, i: u16) -> Line {
-    let kind = field.kind;
-    let mut next = put_name(l, field, i);
-    next = fill_to(next, KIND);
-    next = put_text(
-        next,
-        piece(b"alpha|decimal|record|none|", kind_number(kind)),
-    );
-    fill_to(next, SPAN)
-}
-
-// Puts a field's bytes, size and count.
-fn put_sizes(l: Line, field: Field) -> Line {
-    let from = field.offset as usize;
-    let mut next = put_span(l, from, less(entries::end_of(field), from));
-    next = put_right(next, field.size as u64, SIZE);
-    next = put_right(next, field.count as u64, COUNT);
-    fill_to(next, STORED)
-}
-
-// The row of the field i over some data.
-fn say_field(unit: &[u8], parts: Parts, data: &[u8], i: u16, column: usize) {
-    let field = field_of(unit, parts, i);
-    let kind = field.kind;
-    let mut l = put_entry(new_line(), field, i);
-    l = put_sizes(l, field);
-    if sorts::is_decimal(kind) {
-        l = put_decimal(l, parts, data, field, column);
-    } else {
-        l = put_alpha(l, parts, data, field);
-    }
-    say_line(l);
-}
-
-// The head of the table of fields, after a line with nothing in it.
-fn say_field_head(column: usize) {
-    say(b"\n");
-    let mut l = put_text(
-        new_line(),
-        b"field  kind     bytes        size  count  stored",
-    );
-    l = fill_to(l, column);
-    say_line(put_text(l, b"value"));
-}
-
-// The fields of a unit, with what they hold in some data. A unit without fields has no table.
-pub fn say_fields(unit: &[u8], parts: Parts, data: &[u8]) {
-    if parts.f < 1 {
-        return;
-    }
-    let column = sum(STORED + 2, widest(unit, parts, data));
-    say_field_head(column);
-    let mut i: u16 = 0;
-    while i < parts.f {
-        say_field(unit, parts, data, i, column);
-        i += 1;
-    }
 }
 
 // ---- the statements
@@ -430,7 +236,7 @@ fn say_passed(unit: &[u8], parts: Parts) {
     let v = dibol::fence(unit);
     say_head(unit, v);
     let end = say_parts(parts);
-    say_fields(unit, parts, part(unit, 0, parts.d as usize));
+    say_fields(unit, parts, part(unit, 0, parts.d as usize), false);
     say_statements(unit, parts, first_of(v, parts.n));
 }
 

@@ -1,6 +1,7 @@
 // The owner's program. Its first argument is a word: `boxlever --help` tells which there are.
 mod check;
 mod fence;
+mod fields;
 mod list;
 mod parts;
 mod phrase;

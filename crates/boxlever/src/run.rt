@@ -1,5 +1,5 @@
 // `boxlever run FILE`: what the bench program writes of the unit; then the stop in words, and what the fields hold after the run.
-use crate::list::say_fields;
+use crate::fields::say_fields;
 use crate::phrase::say_statement;
 use crate::say::Line;
 use crate::say::new_line;
@@ -48,7 +48,7 @@ fn say_run(unit: &[u8], parts: Parts, data: &[u8], number: u8, place: u16, count
     say(b"\n");
     say_stop(number, count);
     say_place(unit, parts, place);
-    say_fields(unit, parts, data);
+    say_fields(unit, parts, data, true);
 }
 
 // Runs a unit over its data, which starts as its image, the first bytes of the unit.

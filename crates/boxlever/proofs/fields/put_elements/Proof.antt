@@ -1,20 +1,14 @@
--- `boxlever::list::put_elements` ends: each turn puts one element.
+-- `boxlever::fields::put_elements` ends: each turn puts one element.
 -- The invariant: nothing is kept. The measure: the elements that are left. Assumes nothing.
 use borrow.Author.Needs.{needs}
-use Rattle.boxlever.proofs.list.put_elements.Statement.{statement}
-use Rattle.boxlever.proofs.list.put_elements.Tie as tie
+use Rattle.boxlever.proofs.fields.put_elements.Statement.{statement}
+use Rattle.boxlever.proofs.fields.put_elements.Tie as tie
 
 abbrev Inv-loop : tie.InvT-loop
-Inv-loop parts «data» k figures size next₀ place₀ left₀ next place left = Unit {0}
+Inv-loop parts «data» start size k figures next₀ place₀ left₀ next place left = Unit {0}
 
 abbrev μ-loop : tie.MeasureT-loop
-μ-loop parts «data» k figures size next₀ place₀ left₀ next place left = left
-
-cast-size : tie.Need-cast-size Inv-loop μ-loop
-cast-size c = search needs
-
-cast-place : tie.Need-cast-place Inv-loop μ-loop
-cast-place c = search needs
+μ-loop parts «data» start size k figures next₀ place₀ left₀ next place left = left
 
 loop-holds : tie.Need-loop-holds Inv-loop μ-loop
 loop-holds c = search needs
@@ -55,8 +49,6 @@ put-elements-spec =
     (tie.spec
     Inv-loop
     μ-loop
-    cast-size
-    cast-place
     loop-holds
     part-requires
     put-either-requires

@@ -1,15 +1,15 @@
--- `boxlever::list::say_fields` ends: each turn takes one field.
+-- `boxlever::fields::say_fields` ends: each turn takes one field.
 -- The invariant: nothing is kept. The measure: the fields that are left. Assumes nothing.
 use Prim.Native.Nat.{_-_}
 use borrow.Author.Needs.{needs}
-use Rattle.boxlever.proofs.list.say_fields.Statement.{statement}
-use Rattle.boxlever.proofs.list.say_fields.Tie as tie
+use Rattle.boxlever.proofs.fields.say_fields.Statement.{statement}
+use Rattle.boxlever.proofs.fields.say_fields.Tie as tie
 
 abbrev Inv-loop : tie.InvT-loop
-Inv-loop unit parts «data» column i₀ i = Unit {0}
+Inv-loop unit parts «data» whole column i₀ i = Unit {0}
 
 abbrev μ-loop : tie.MeasureT-loop
-μ-loop unit parts «data» column i₀ i = parts .f - i
+μ-loop unit parts «data» whole column i₀ i = parts .f - i
 
 returns : tie.Need-returns Inv-loop μ-loop
 returns c = search needs
@@ -23,8 +23,8 @@ widest-requires c κs = search needs
 sum-requires : tie.Need-sum-requires Inv-loop μ-loop
 sum-requires c κs = search needs
 
-say-field-head-requires : tie.Need-say-field-head-requires Inv-loop μ-loop
-say-field-head-requires c κs = search needs
+say-head-requires : tie.Need-say-head-requires Inv-loop μ-loop
+say-head-requires c κs = search needs
 
 loop-holds : tie.Need-loop-holds Inv-loop μ-loop
 loop-holds c = search needs
@@ -54,7 +54,7 @@ say-fields-spec =
     add-sum
     widest-requires
     sum-requires
-    say-field-head-requires
+    say-head-requires
     loop-holds
     say-field-requires
     add-i

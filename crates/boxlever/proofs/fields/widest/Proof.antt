@@ -1,9 +1,9 @@
--- `boxlever::list::widest` ends: each turn takes one field.
+-- `boxlever::fields::widest` ends: each turn takes one field.
 -- The invariant: nothing is kept. The measure: the fields that are left. Assumes nothing.
 use Prim.Native.Nat.{_-_}
 use borrow.Author.Needs.{needs}
-use Rattle.boxlever.proofs.list.widest.Statement.{statement}
-use Rattle.boxlever.proofs.list.widest.Tie as tie
+use Rattle.boxlever.proofs.fields.widest.Statement.{statement}
+use Rattle.boxlever.proofs.fields.widest.Tie as tie
 
 abbrev Inv-loop : tie.InvT-loop
 Inv-loop unit parts «data» width₀ i₀ width i = Unit {0}

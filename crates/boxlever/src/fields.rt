@@ -1,0 +1,320 @@
+// The table of a unit's fields: a row for each with what its first elements hold, and where all is told further rows with the others.
+use crate::parts::field_of;
+use crate::parts::figures_of;
+use crate::phrase::kind_number;
+use crate::phrase::put_name;
+use crate::say::Line;
+use crate::say::cut;
+use crate::say::fill_to;
+use crate::say::least;
+use crate::say::less;
+use crate::say::most;
+use crate::say::new_line;
+use crate::say::part;
+use crate::say::piece;
+use crate::say::put;
+use crate::say::put_form;
+use crate::say::put_number;
+use crate::say::put_right;
+use crate::say::put_shown;
+use crate::say::put_text;
+use crate::say::say;
+use crate::say::say_line;
+use crate::say::sum;
+use rules_unit::Field;
+use rules_unit::Parts;
+
+// The columns of the table.
+const KIND: usize = 7;
+
+const SPAN: usize = 16;
+
+const SIZE: usize = 33;
+
+const COUNT: usize = 40;
+
+const STORED: usize = 42;
+
+// The most columns that the stored characters of a decimal field take in a row, and those of another.
+const DECIMAL_ROOM: usize = 28;
+
+const ALPHA_ROOM: usize = 60;
+
+// The number of the kind of a record.
+const RECORD: u8 = 2;
+
+// ---- elements
+
+// How many of a field's elements fit a room, in quotes and with a space between two; one at the least.
+fn fitting(field: Field, room: usize) -> usize {
+    let cell = field.size as usize + 3;
+    let fit = sum(room, 1) / cell;
+    most(1, least(fit, field.count as usize))
+}
+
+// How many of a field's elements a row has.
+fn on_row(field: Field) -> usize {
+    let kind = field.kind;
+    if sorts::is_decimal(kind) {
+        return fitting(field, DECIMAL_ROOM);
+    }
+    fitting(field, ALPHA_ROOM)
+}
+
+// Puts an element in quotes; of a longer one than the room only its first characters, and two dots.
+fn put_element(l: Line, s: &[u8]) -> Line {
+    let mut next = put(l, b'"');
+    next = put_shown(next, part(s, 0, ALPHA_ROOM));
+    next = put(next, b'"');
+    if ALPHA_ROOM < s.len() {
+        return put_text(next, b"..");
+    }
+    next
+}
+
+// Puts a decimal in figures.
+fn put_figures(l: Line, parts: Parts, s: &[u8]) -> Line {
+    let f = figures_of(parts, s);
+    if !f.good {
+        return put_text(l, b"no number");
+    }
+    let mut next = l;
+    if f.below {
+        next = put(l, b'-');
+    }
+    put_number(next, f.size)
+}
+
+// Puts an element as it is stored, or in figures.
+fn put_either(l: Line, parts: Parts, s: &[u8], figures: bool) -> Line {
+    if figures {
+        return put_figures(l, parts, s);
+    }
+    put_element(l, s)
+}
+
+// Puts k elements of so many bytes each, the first at a place of the data, with a space between two.
+fn put_elements(
+    l: Line,
+    parts: Parts,
+    data: &[u8],
+    start: usize,
+    size: usize,
+    k: usize,
+    figures: bool,
+) -> Line {
+    let mut next = l;
+    let mut place = start;
+    let mut left = k;
+    while 0 < left {
+        next = put_either(next, parts, part(data, place, size), figures);
+        next = put(next, b' ');
+        place = sum(place, size);
+        left -= 1;
+    }
+    cut(next, less(next.at, 1))
+}
+
+// Where the element i of a field starts: where those before it end.
+fn start_of(field: Field, i: u16) -> usize {
+    let mut before = field;
+    before.count = i;
+    entries::end_of(before)
+}
+
+// The element i of a field.
+fn element_of(data: &[u8], field: Field, i: u16) -> &[u8] {
+    part(data, start_of(field, i), field.size as usize)
+}
+
+// Puts the elements of a field that a row has from the element i on: as they are stored, and decimals in the column given in figures.
+fn put_held(l: Line, parts: Parts, data: &[u8], field: Field, i: u16, column: usize) -> Line {
+    let kind = field.kind;
+    let size = field.size as usize;
+    let start = start_of(field, i);
+    let k = least(on_row(field), less(field.count as usize, i as usize));
+    let next = put_elements(l, parts, data, start, size, k, false);
+    if sorts::is_decimal(kind) {
+        return put_elements(fill_to(next, column), parts, data, start, size, k, true);
+    }
+    next
+}
+
+// How many columns the stored characters of a decimal field take.
+fn stored_width(parts: Parts, data: &[u8], field: Field) -> usize {
+    let kind = field.kind;
+    if !sorts::is_decimal(kind) {
+        return 0;
+    }
+    let start = start_of(field, 0);
+    let l = put_elements(
+        new_line(),
+        parts,
+        data,
+        start,
+        field.size as usize,
+        on_row(field),
+        false,
+    );
+    l.at
+}
+
+// The widest of them, or that of the head.
+fn widest(unit: &[u8], parts: Parts, data: &[u8]) -> usize {
+    let mut width = 6;
+    let mut i: u16 = 0;
+    while i < parts.f {
+        width = most(width, stored_width(parts, data, field_of(unit, parts, i)));
+        i += 1;
+    }
+    width
+}
+
+// ---- the first row of a field
+
+// Puts `3-7`, or `3` for one byte.
+pub fn put_span(l: Line, from: usize, len: usize) -> Line {
+    if len < 2 {
+        return put_number(l, from as u64);
+    }
+    let last = less(sum(from, len), 1);
+    put_form(l, b"#-#", from as u64, last as u64)
+}
+
+// Puts a field's name and kind.
+fn put_entry(l: Line, field: Field, i: u16) -> Line {
+    let kind = field.kind;
+    let mut next = put_name(l, field, i);
+    next = fill_to(next, KIND);
+    next = put_text(
+        next,
+        piece(b"alpha|decimal|record|none|", kind_number(kind)),
+    );
+    fill_to(next, SPAN)
+}
+
+// Puts a field's bytes, size and count.
+fn put_sizes(l: Line, field: Field) -> Line {
+    let from = field.offset as usize;
+    let mut next = put_span(l, from, less(entries::end_of(field), from));
+    next = put_right(next, field.size as u64, SIZE);
+    next = put_right(next, field.count as u64, COUNT);
+    fill_to(next, STORED)
+}
+
+// Puts how many elements are not told.
+fn put_more(l: Line, field: Field) -> Line {
+    let k = on_row(field);
+    let count = field.count as usize;
+    if count <= k {
+        return l;
+    }
+    put_form(l, b" and # more", (count - k) as u64, 0)
+}
+
+// ---- further rows
+
+// Whether a row begins at a count, where each has k.
+fn begins(at: usize, k: usize) -> bool {
+    if k == 0 {
+        return false; // Never so: a row has one at the least.
+    }
+    at % k == 0
+}
+
+// The row of an element's characters from a count on, if a row begins there.
+fn say_characters(s: &[u8], at: usize) {
+    if !begins(at, ALPHA_ROOM) {
+        return;
+    }
+    let l = fill_to(new_line(), STORED);
+    say_line(put_element(l, part(s, at, s.len())));
+}
+
+// The rows of an element's characters behind its first row.
+fn say_tail(s: &[u8]) {
+    let mut at = 1;
+    while at < s.len() {
+        say_characters(s, at);
+        at += 1;
+    }
+}
+
+// Puts the subscript of the element i into the column of the counts.
+fn put_subscript(l: Line, i: u16) -> Line {
+    let n = i as u64 + 1;
+    let figures = put_form(new_line(), b"(#)", n, 0);
+    let mut next = fill_to(l, less(COUNT, figures.at));
+    next = put_form(next, b"(#)", n, 0);
+    fill_to(next, STORED)
+}
+
+// The rows from the element i on, if a row begins there: that of the element, and those of its further characters.
+fn say_element(parts: Parts, data: &[u8], field: Field, i: u16, column: usize) {
+    if !begins(i as usize, on_row(field)) {
+        return;
+    }
+    let l = put_subscript(new_line(), i);
+    say_line(put_held(l, parts, data, field, i, column));
+    say_tail(element_of(data, field, i));
+}
+
+// The rows of a field's elements behind those of its first row.
+fn say_others(parts: Parts, data: &[u8], field: Field, column: usize) {
+    let mut i: u16 = 1;
+    while i < field.count {
+        say_element(parts, data, field, i, column);
+        i += 1;
+    }
+}
+
+// All rows of a field behind its first. A record has none, since it covers other fields.
+fn say_rest(parts: Parts, data: &[u8], field: Field, column: usize) {
+    let kind = field.kind;
+    if kind_number(kind) == RECORD {
+        return;
+    }
+    say_tail(element_of(data, field, 0));
+    say_others(parts, data, field, column);
+}
+
+// ---- the table
+
+// The rows of the field i over some data: all that it holds, or one with its first elements and how many more there are.
+fn say_field(unit: &[u8], parts: Parts, data: &[u8], i: u16, column: usize, whole: bool) {
+    let field = field_of(unit, parts, i);
+    let mut l = put_entry(new_line(), field, i);
+    l = put_sizes(l, field);
+    l = put_held(l, parts, data, field, 0, column);
+    if whole {
+        say_line(l);
+        say_rest(parts, data, field, column);
+        return;
+    }
+    say_line(put_more(l, field));
+}
+
+// The head of the table, after a line with nothing in it.
+fn say_head(column: usize) {
+    say(b"\n");
+    let mut l = put_text(
+        new_line(),
+        b"field  kind     bytes        size  count  stored",
+    );
+    l = fill_to(l, column);
+    say_line(put_text(l, b"value"));
+}
+
+// The fields of a unit, with what they hold in some data, the whole of it or its beginning. A unit without fields has no table.
+pub fn say_fields(unit: &[u8], parts: Parts, data: &[u8], whole: bool) {
+    if parts.f < 1 {
+        return;
+    }
+    let column = sum(STORED + 2, widest(unit, parts, data));
+    say_head(column);
+    let mut i: u16 = 0;
+    while i < parts.f {
+        say_field(unit, parts, data, i, column, whole);
+        i += 1;
+    }
+}
