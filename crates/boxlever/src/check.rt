@@ -16,7 +16,7 @@ use crate::words::put_breach;
 use crate::words::put_refused;
 use rules_fence::Verdict;
 
-// The bytes of the longest unit.
+// The bytes of the longest unit, for the column of lengths alone: what is refused the library says.
 const LONGEST: usize = 57353;
 
 // How many units the fence says yes and no of, are refused, and could not be read.

@@ -31,8 +31,8 @@ pub fn open(path: &[u8]) -> i32 {
     os::open_read(path)
 }
 
-// Whether all of a file was read, or all of a buffer filled, by the n bytes that `io::read_full` gave of it: a read that fails, as that
-// of a folder does, ends it like the end of the file, but one more byte is told as none only there.
+// Whether a file was read to its end, or is longer than the buffer, where `io::read_full` gave n bytes of it. That gives what it has where
+// a read fails, too, as that of a folder does; then one byte more is asked for, and only at the end of a file there is none.
 pub fn is_read(fd: i32, n: usize) -> bool {
     if n == BUFFER {
         return true;
