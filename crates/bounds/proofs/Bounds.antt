@@ -15,7 +15,7 @@ use Rattle.rules_fence.specs.declared.Seen.the-variants as seen
 use Rattle.bounds.specs.Asked.{firstBound, lastBound, startBound, Small}
 
 module _ (h : How) (s : Seen) where
-  pub start-whole : {r : ℤ} → SFits w64 r → h ≡ how.Whole → r ≡ firstBound s → toZ w64 (ofZ w64 r) ≡ startBound h s
+  pub start-whole : {r : ℤ} → SFits w64 r → h ≡ how.First → r ≡ firstBound s → toZ w64 (ofZ w64 r) ≡ startBound h s
   start-whole f e q = rw e (back f ∙ q)
 
   pub start-element : {r : ℤ} → SFits w64 r → h ≡ how.Element → r ≡ lastBound s → toZ w64 (ofZ w64 r) ≡ startBound h s
@@ -50,7 +50,7 @@ module _ (s : Seen) where
       last-two f e = rw e (back f)
 
 pub start-small : (h : How) (s : Seen) → Small s → Val (10 ^ 18) (startBound h s)
-start-small how.Whole s m = m .first
+start-small how.First s m = m .first
 start-small how.Element s m = m .last
 start-small how.Range s m = m .first
 start-small how.Length s m = m .first

@@ -26,7 +26,7 @@ use Rattle.bounds.proofs.Bounds.{start-small}
 pub fixed-as : (c : Code) (h : How) (f : ℕ) (s : Seen) → boundedb h s ≡ true
     → spanIn 0 (c .size) (c .field f) h (startBound h s) (lastBound s) ≡ fixedSpan c h f s
 unfolding spanIn fixedSpan
-fixed-as c how.Whole f s e = refl
+fixed-as c how.First f s e = refl
 fixed-as c how.Element f seen.Nothing e = absurd (false≢true e)
 fixed-as c how.Element f (seen.One y plain) e = refl
 fixed-as c how.Element f (seen.Two x y plain) e = refl

@@ -22,7 +22,7 @@ lastBound (seen.Two x y plain) = y
 
 -- A subscript is the last bound alone; a start or a position stands before another one.
 abbrev pub startBound : How → Seen → ℤ
-startBound how.Whole s = firstBound s
+startBound how.First s = firstBound s
 startBound how.Element s = lastBound s
 startBound how.Range s = firstBound s
 startBound how.Length s = firstBound s

@@ -167,7 +167,7 @@ pub fn bounded(how: How, s: Seen) -> bool
     ensures { λ r. ⌜ r ≡ boundedb how s ⌝ }
 {
     match how {
-        How::Whole => true,
+        How::First => true,
         How::Element => has_one(s),
         How::Range => has_two(s),
         How::Length => has_two(s),
@@ -209,7 +209,7 @@ fn start_bound(how: How, s: Seen) -> i64
     ensures { λ r. ⌜ r ≡ startBound how s ⌝ }
 {
     match how {
-        How::Whole => first_bound(s),
+        How::First => first_bound(s),
         How::Element => last_bound(s),
         How::Range => first_bound(s),
         How::Length => first_bound(s),

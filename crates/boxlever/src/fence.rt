@@ -301,8 +301,8 @@ fn say_no(unit: &[u8], i: u16) {
 
 // A refusal with its number and place, and in a line of its own the reason.
 fn say_refused(r: Refusal) {
-    let number = rules_unit::refusal_number(r) as u64;
-    let place = rules_unit::refusal_place(r) as u64;
+    let number = dibol::refusal_number(r) as u64;
+    let place = dibol::refusal_place(r) as u64;
     let l = put_form(new_line(), b"refused # #\n  ", number, place);
     say_line(put_refusal(l, r));
 }

@@ -177,7 +177,7 @@ pub fn put_name(l: Line, field: Field, i: u16) -> Line {
 // What stands between the two bounds of a reference.
 fn between(how: How) -> u8 {
     match how {
-        How::Whole => b'(',
+        How::First => b'(',
         How::Element => b'(',
         How::Range => b',',
         How::Length => b':',

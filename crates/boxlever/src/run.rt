@@ -75,8 +75,8 @@ fn run_unit(unit: &[u8], parts: Parts) {
 
 // Of a unit that is refused there is the first line and the reason.
 fn say_refused(r: Refusal) {
-    let number = rules_unit::refusal_number(r);
-    say_numbers(number, rules_unit::refusal_place(r), 0);
+    let number = dibol::refusal_number(r);
+    say_numbers(number, dibol::refusal_place(r), 0);
     let mut l = put_form(new_line(), b"stop #", number as u64, 0);
     l = put_place(l, r);
     l = put_text(l, b": ");

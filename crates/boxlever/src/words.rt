@@ -28,7 +28,7 @@ fn small(b: u8) -> u8 {
 
 // Why a unit is refused, inside a line: the words begin with a small letter.
 pub fn put_refusal(l: Line, r: Refusal) -> Line {
-    let mut next = put_stop(l, rules_unit::refusal_number(r));
+    let mut next = put_stop(l, dibol::refusal_number(r));
     let text = next.text;
     let at = l.at;
     if at < ROOM {
@@ -50,8 +50,8 @@ pub fn put_place(l: Line, r: Refusal) -> Line {
 
 // A refusal with its number and place.
 pub fn put_refused(l: Line, r: Refusal) -> Line {
-    let number = rules_unit::refusal_number(r) as u64;
-    let place = rules_unit::refusal_place(r) as u64;
+    let number = dibol::refusal_number(r) as u64;
+    let place = dibol::refusal_place(r) as u64;
     let next = put_form(l, b"refused # at #: ", number, place);
     put_refusal(next, r)
 }

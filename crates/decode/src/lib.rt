@@ -202,7 +202,7 @@ fn item_by(s: &[u8], at: usize, code: u8) -> Item
     match code {
         0x00 => Item::End,
         0x01 => number_at(s, at),
-        0x02 => reference_at(s, at, How::Whole),
+        0x02 => reference_at(s, at, How::First),
         0x03 => reference_at(s, at, How::Element),
         0x04 => reference_at(s, at, How::Range),
         0x05 => reference_at(s, at, How::Length),

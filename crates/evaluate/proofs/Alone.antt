@@ -47,7 +47,7 @@ module _ (es : List ℕ) (i : ℕ) (t : Bool) (et : t ≡ loneb es i) (o : t ≡
 
   -- w is what the field comes to
   pub lone-place : (u : List ℕ) (p : Parts) (d : List ℕ) (f : ℕ) (w : Worked) → Fills u p → Dialect p → length d < 65536
-      → f ≡ wordAt es (i + 1) → w ≡ placeBy (codeOf u p) d how.Whole f (pos 0) (pos 0) → w ≡ workedOf (codeOf u p) d (itemsAt es i)
+      → f ≡ wordAt es (i + 1) → w ≡ placeBy (codeOf u p) d how.First f (pos 0) (pos 0) → w ≡ workedOf (codeOf u p) d (itemsAt es i)
   lone-place u p d f w fills dialect size ef q =
       field-place u p d es i 0 [] (record { fills = fills; dialect = dialect; size = size; there = lone-tells .there; vals = vals-zero 0 })
       (code-field es i (lone-tells .there) (lone-tells .field)) (omega (arith, lone-tells .room)) f ef true (sym (lone-tells .closes)) w refl refl q .same

@@ -32,7 +32,7 @@ module _ (s : List ℕ) (i : ℕ) (there : i < length s) where
   unfolding itemBy
   code-number e = code-item ∙ rw e
 
-  pub code-field : getD s i 0 ≡ 2 → itemAt s i ≡ referenceAt s i how.Whole
+  pub code-field : getD s i 0 ≡ 2 → itemAt s i ≡ referenceAt s i how.First
   unfolding itemBy
   code-field e = code-item ∙ rw e
 
@@ -85,7 +85,7 @@ unfolding itemBy
 upper-code s i code h =
     otherwise (eqb code 0) item.End _ (ne-eqb code 0 (λ e. omega arith))
     (otherwise (eqb code 1) (numberAt s i) _ (ne-eqb code 1 (λ e. omega arith))
-    (otherwise (eqb code 2) (referenceAt s i how.Whole) _ (ne-eqb code 2 (λ e. omega arith))
+    (otherwise (eqb code 2) (referenceAt s i how.First) _ (ne-eqb code 2 (λ e. omega arith))
     (otherwise (eqb code 3) (referenceAt s i how.Element) _ (ne-eqb code 3 (λ e. omega arith))
     (otherwise (eqb code 4) (referenceAt s i how.Range) _ (ne-eqb code 4 (λ e. omega arith))
     (otherwise (eqb code 5) (referenceAt s i how.Length) _ (ne-eqb code 5 (λ e. omega arith))

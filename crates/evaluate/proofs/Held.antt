@@ -62,7 +62,7 @@ left-other held (suc (suc n)) h = refl
 
 takes-two : (i : Item) → takes i ≤ 2
 takes-two (item.Number place len) = omega arith
-takes-two (item.Reference how.Whole f) = omega arith
+takes-two (item.Reference how.First f) = omega arith
 takes-two (item.Reference how.Element f) = omega arith
 takes-two (item.Reference how.Range f) = omega arith
 takes-two (item.Reference how.Length f) = omega arith
@@ -103,7 +103,7 @@ module _ (c : Code) (d : List ℕ) (held : List ℤ) where
   taken : (i : Item) (m : ℕ) → stepBy (takes i) (apply c d i) (topDown held (m + takes i)) ≡ room (topDown held m) (apply c d i (getD held m (pos 0)) (getD held (m + 1) (pos 0)))
   unfolding stepBy topDown reference spanIn calc
   taken (item.Number place len) m = rw (add-zero m)
-  taken (item.Reference how.Whole f) m = rw (add-zero m)
+  taken (item.Reference how.First f) m = rw (add-zero m)
   taken (item.Reference how.Element f) m = rw (add-one m)
   taken (item.Reference how.Range f) m = rw (add-two m, add-one m)
   taken (item.Reference how.Length f) m = rw (add-two m, add-one m)
@@ -143,8 +143,8 @@ module _ (c : Code) (d : List ℕ) (held : List ℤ) where
   pub place-held : (h : How) (f n : ℕ)
       → place c d h f (topDown held n) ≡ cond (eqb n (howTakes h)) (placeBy c d h f (getD held 0 (pos 0)) (getD held 1 (pos 0))) (worked.Failed fault.Malformed)
   unfolding place placeBy spanIn topDown
-  place-held how.Whole f zero = refl
-  place-held how.Whole f (suc n) = rw (ne-eqb (suc n) 0 (λ e. omega arith))
+  place-held how.First f zero = refl
+  place-held how.First f (suc n) = rw (ne-eqb (suc n) 0 (λ e. omega arith))
   place-held how.Element f zero = refl
   place-held how.Element f (suc zero) = refl
   place-held how.Element f (suc (suc n)) = rw (ne-eqb (suc (suc n)) 1 (λ e. omega arith))

@@ -212,21 +212,21 @@ module _ (u : List ℕ) (p : Parts) (d es : List ℕ) (i n : ℕ) (held : List �
           (ev ∙ op-plain (reference (codeOf u p) d h f) (val-fits (ready .vals (n - taken))) (val-fits (ready .vals (n - taken + 1)))) r q
 
   -- without bounds
-  module _ (e : itemAt es i ≡ referenceAt es i how.Whole) (k : 2 < length es - i) (f : ℕ) (ef : f ≡ wordAt es (i + 1)) (t : Bool) (et : t ≡ cond (ltb (i + 3) (length es)) (eqb (getD es (i + 3) 0) 0) false) where
-    pub field-place : (w : Worked) → t ≡ true → n ≡ 0 → w ≡ placeBy (codeOf u p) d how.Whole f (pos 0) (pos 0) → Leads (codeOf u p) d es i n held (Done w)
+  module _ (e : itemAt es i ≡ referenceAt es i how.First) (k : 2 < length es - i) (f : ℕ) (ef : f ≡ wordAt es (i + 1)) (t : Bool) (et : t ≡ cond (ltb (i + 3) (length es)) (eqb (getD es (i + 3) 0) 0) false) where
+    pub field-place : (w : Worked) → t ≡ true → n ≡ 0 → w ≡ placeBy (codeOf u p) d how.First f (pos 0) (pos 0) → Leads (codeOf u p) d es i n held (Done w)
     unfolding placeBy spanIn
-    field-place w o z q = leads-done (Done w) w refl (at-last how.Whole e k f ef t et o ∙ rw (eq-eqb n 0 z) (sym q))
+    field-place w o z q = leads-done (Done w) w refl (at-last how.First e k f ef t et o ∙ rw (eq-eqb n 0 z) (sym q))
 
     pub field-bound : (r : Step) → t ≡ true → (n ≡ 0 → ⊥) → r ≡ Done (worked.Failed fault.Malformed) → Leads (codeOf u p) d es i n held r
-    field-bound r o z q = leads-done r (worked.Failed fault.Malformed) q (at-last how.Whole e k f ef t et o ∙ rw (ne-eqb n 0 z))
+    field-bound r o z q = leads-done r (worked.Failed fault.Malformed) q (at-last how.First e k f ef t et o ∙ rw (ne-eqb n 0 z))
 
     pub field-over : (r : Step) (most : ℕ) → t ≡ false → 16 ≤ most → most ≤ n → r ≡ Done (worked.Failed fault.Malformed) → Leads (codeOf u p) d es i n held r
-    field-over r most o b m q = over (item.Reference how.Whole f) (i + 3) (reference-going how.Whole e k f ef t et o) n (add-zero n) r (omega arith) q
+    field-over r most o b m q = over (item.Reference how.First f) (i + 3) (reference-going how.First e k f ef t et o) n (add-zero n) r (omega arith) q
 
-    pub field-held : (v : Num) (r : Step) → t ≡ false → n < 16 → v ≡ reference (codeOf u p) d how.Whole f (pos 0) (pos 0) → r ≡ heldOn n (i + 3) v
+    pub field-held : (v : Num) (r : Step) → t ≡ false → n < 16 → v ≡ reference (codeOf u p) d how.First f (pos 0) (pos 0) → r ≡ heldOn n (i + 3) v
         → Leads (codeOf u p) d es i n held r
     unfolding reference spanIn
-    field-held v r o m ev q = works (item.Reference how.Whole f) (i + 3) (reference-going how.Whole e k f ef t et o) n (add-zero n) m (omega arith) v ev r q
+    field-held v r o m ev q = works (item.Reference how.First f) (i + 3) (reference-going how.First e k f ef t et o) n (add-zero n) m (omega arith) v ev r q
 
   -- ---- an alpha literal
 

@@ -113,7 +113,7 @@ fn field_step(
     held: &[i64; 17],
 ) -> Step
     requires { ⌜ Ready (now unit) parts (now bytes) (now es) i (now held) ⌝ }
-    requires { ⌜ itemAt (now es) i ≡ referenceAt (now es) i how.Whole ⌝ }
+    requires { ⌜ itemAt (now es) i ≡ referenceAt (now es) i how.First ⌝ }
     ensures { λ r. ⌜ Leads (codeOf (now (unit .entry)) parts) (now (bytes .entry)) (now (es .entry)) i n (now (held .entry)) r ⌝ }
 {
     if es.len() - i <= 2 {

@@ -121,7 +121,7 @@ pub fn read_reference(
 pub fn read_first(unit: &[u8], parts: Parts, bytes: &[u8], field: u16) -> Num
     requires { ⌜ Fills (now unit) parts ⌝ }
     requires { ⌜ Dialect parts ⌝ }
-    ensures { λ r. ⌜ r ≡ reference (codeOf (now (unit .entry)) parts) (now (bytes .entry)) how.Whole field (pos 0) (pos 0) ⌝ }
+    ensures { λ r. ⌜ r ≡ reference (codeOf (now (unit .entry)) parts) (now (bytes .entry)) how.First field (pos 0) (pos 0) ⌝ }
 {
     if parts.f <= field {
         return Num::Failed(Fault::Malformed);
@@ -209,7 +209,7 @@ fn place_by(unit: &[u8], parts: Parts, bytes: &[u8], how: How, field: u16, x: i6
 // A last reference without bounds.
 pub fn place_first(unit: &[u8], parts: Parts, bytes: &[u8], field: u16) -> Worked
     requires { ⌜ Fills (now unit) parts ⌝ }
-    ensures { λ r. ⌜ r ≡ placeBy (codeOf (now (unit .entry)) parts) (now (bytes .entry)) how.Whole field (pos 0) (pos 0) ⌝ }
+    ensures { λ r. ⌜ r ≡ placeBy (codeOf (now (unit .entry)) parts) (now (bytes .entry)) how.First field (pos 0) (pos 0) ⌝ }
 {
     if parts.f <= field {
         return Worked::Failed(Fault::Malformed);

@@ -18,7 +18,7 @@ use Rattle.rules_unit.specs.declared.Item.{Item}
 use Rattle.rules_unit.specs.Expressions.{digitsb}
 use Rattle.rules_run.specs.Spans.{within, elementSpan, rangeSpan, lengthSpan, spanIn}
 use Rattle.rules_run.specs.Evaluation.{digitsFrom, plainNumber, literalNumber, stepBy, placeBy, place, lastOf, workedFrom, workedOf, calc}
-use Rattle.promises.specs.Rows.{Answer, number, text, stop, Row, _is_, AllHold, top, bytes, minus, into, unitOver, accessed, AM, NZ, NUM, expression, whole, element, range, forth, back}
+use Rattle.promises.specs.Rows.{Answer, number, text, stop, Row, _is_, AllHold, top, bytes, minus, into, unitOver, accessed, AM, NZ, NUM, expression, alone, element, range, forth, back}
 
 abbrev pub examples : List Row
 examples =
@@ -72,8 +72,8 @@ ofArrays list = accessed (unitOver 28 2 arrayOf (λ e. [])) arrays list
 abbrev pub subscripts : List Row
 subscripts =
     -- NAME is LAS, CODE is 0617
-    ofArrays (whole NAME) is text (bytes "LAS")
-    ∷ ofArrays (whole CODE) is number (pos 617)
+    ofArrays (alone NAME) is text (bytes "LAS")
+    ∷ ofArrays (alone CODE) is number (pos 617)
     -- NAME(1) is LAS, NAME(3) is MID, NAME(4) is ADD
     ∷ ofArrays (element NAME 1) is text (bytes "LAS")
     ∷ ofArrays (element NAME 3) is text (bytes "MID")

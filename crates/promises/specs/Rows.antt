@@ -90,8 +90,8 @@ abbrev num : ℕ → Item
 num n = item.Number (2 * n) 2
 
 -- FIELD, FIELD(subscript), FIELD(start,end), FIELD(pos:length) and FIELD(pos:-length), in postfix order.
-abbrev pub whole : ℕ → List Item
-whole f = item.Reference how.Whole f ∷ []
+abbrev pub alone : ℕ → List Item
+alone f = item.Reference how.First f ∷ []
 
 abbrev pub element : ℕ → ℕ → List Item
 element f s = num s ∷ (item.Reference how.Element f ∷ [])

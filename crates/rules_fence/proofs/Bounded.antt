@@ -128,7 +128,7 @@ module _ (c : Code) where
 
     pub bounds-seen : (h : How) (before : List Item) (x y : ℤ) → Bounds c h before x y → Fixed h f (seenIn c seen.Nothing before) x y
     unfolding fixedSpan
-    bounds-seen how.Whole before x y b = record { bounded = refl; span = rw (b .0, b .1) }
+    bounds-seen how.First before x y b = record { bounded = refl; span = rw (b .0, b .1) }
     bounds-seen how.Element before x y b = fixed-one (seenIn c seen.Nothing before) x y (one-last before x (b .0)) (b .1)
     bounds-seen how.Range before x y b = fixed-range (seenIn c seen.Nothing before) x y (two-both before x y b)
     bounds-seen how.Length before x y b = fixed-length (seenIn c seen.Nothing before) x y (two-both before x y b)
@@ -261,7 +261,7 @@ module _ (c : Code) where
 
     by-seen : (h : How) (s : Seen) → Shown s before → boundedb h s ≡ true → Seeing h f before s
     unfolding fixedSpan
-    by-seen how.Whole s w e = record { x = pos 0; y = pos 0; bounds = (refl, refl); span = refl }
+    by-seen how.First s w e = record { x = pos 0; y = pos 0; bounds = (refl, refl); span = refl }
     by-seen how.Element seen.Nothing w e = absurd (false≢true e)
     by-seen how.Element (seen.One y plain) w e = record { x = y; y = pos 0; bounds = (one-shown y plain w, refl); span = refl }
     by-seen how.Element (seen.Two x y plain) w e = record { x = y; y = pos 0; bounds = (last-shown x y plain w, refl); span = refl }
@@ -279,7 +279,7 @@ module _ (c : Code) where
 
   unbounded : (f : ℕ) (h : How) (s : Seen) → boundedb h s ≡ false → fixedSpan c h f s ≡ Outside
   unfolding fixedSpan
-  unbounded f how.Whole s e = absurd (true≢false e)
+  unbounded f how.First s e = absurd (true≢false e)
   unbounded f how.Element seen.Nothing e = refl
   unbounded f how.Element (seen.One y plain) e = absurd (true≢false e)
   unbounded f how.Element (seen.Two x y plain) e = absurd (true≢false e)

@@ -54,7 +54,7 @@ WorkedOk c dest span (worked.Failed e) = mildb false e ≡ true
 module _ (c : Code) (s : SoundCode c) (d : List ℕ) (e : length d ≡ c .size) where
   -- ---- the span that the values held give is the fixed one
 
-  pub fixed-whole : (f : ℕ) (b : Seen) → fixedSpan c how.Whole f b ≡ spanIn 0 (length d) (c .field f) how.Whole (pos 0) (pos 0)
+  pub fixed-whole : (f : ℕ) (b : Seen) → fixedSpan c how.First f b ≡ spanIn 0 (length d) (c .field f) how.First (pos 0) (pos 0)
   unfolding fixedSpan
   fixed-whole f b = rw e
 
@@ -106,8 +106,8 @@ module _ (c : Code) (s : SoundCode c) (d : List ℕ) (e : length d ≡ c .size) 
 
     pub place-ok : (h : How) (b : Seen) (st : List ℤ) → SpanKept c dest f (fixedSpan c h f b) → Held b st → WorkedOk c dest (fixedSpan c h f b) (place c d h f st)
     unfolding place
-    place-ok how.Whole b [] r t = place-by how.Whole (pos 0) (pos 0) (fixedSpan c how.Whole f b) (fixed-whole f b) r
-    place-ok how.Whole b (x ∷ st) r t = refl
+    place-ok how.First b [] r t = place-by how.First (pos 0) (pos 0) (fixedSpan c how.First f b) (fixed-whole f b) r
+    place-ok how.First b (x ∷ st) r t = refl
     place-ok how.Element b [] r t = refl
     place-ok how.Element b (x ∷ []) r t = place-by how.Element x (pos 0) (fixedSpan c how.Element f b) (fixed-element b x [] r t) r
     place-ok how.Element b (y ∷ (x ∷ st)) r t = refl

@@ -48,8 +48,8 @@ module _ (c : Code) (s : SoundCode c) (d : List ℕ) (e : length d ≡ c .size) 
   pub ref-step : (P : Worked → Type 0) → Mild P → (h : How) (b : Seen) (st : List ℤ) (k : List ℤ → Worked) → SpanKept c false f (fixedSpan c h f b) → Held b st
       → ((st′ : List ℤ) → P (k st′)) → P (onHeld (stepBy (howTakes h) (apply c d (item.Reference h f)) st) k)
   unfolding stepBy
-  ref-step P w how.Whole b st k r t g =
-      on-room P w st (reference c d how.Whole f (pos 0) (pos 0)) k (ref-mild how.Whole (pos 0) (pos 0) (fixedSpan c how.Whole f b) (fixed-whole c s d e f b) r) (λ z q. g (z ∷ st))
+  ref-step P w how.First b st k r t g =
+      on-room P w st (reference c d how.First f (pos 0) (pos 0)) k (ref-mild how.First (pos 0) (pos 0) (fixedSpan c how.First f b) (fixed-whole c s d e f b) r) (λ z q. g (z ∷ st))
   ref-step P w how.Element b [] k r t g = w fault.Malformed refl
   ref-step P w how.Element b (x ∷ st) k r t g =
       on-room P w st (reference c d how.Element f x (pos 0)) k (ref-mild how.Element x (pos 0) (fixedSpan c how.Element f b) (fixed-element c s d e false f b x st r t) r) (λ z q. g (z ∷ st))

@@ -44,7 +44,7 @@ module _ (c : Code) (s : SoundCode c) where
 
     reference-tells : (h : How) (b : Seen) → Kept (referenceBreach c dest h f b) (SpanKept c dest f (fixedSpan c h f b))
     unfolding referenceBreach fixedSpan
-    reference-tells how.Whole b = found how.Whole (pos 0) (pos 0)
+    reference-tells how.First b = found how.First (pos 0) (pos 0)
     reference-tells how.Element seen.Nothing = kept-never _ refl
     reference-tells how.Element (seen.One y plain) = found how.Element y (pos 0)
     reference-tells how.Element (seen.Two x y plain) = found how.Element y (pos 0)

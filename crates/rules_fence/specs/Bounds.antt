@@ -74,7 +74,7 @@ seenIn c s (i ∷ is) = seenIn c (seenAfter c s i) is
 -- ---- "Each bound of 03, 04 and 05"
 
 abbrev pub boundedb : How → Seen → Bool
-boundedb how.Whole s = true
+boundedb how.First s = true
 boundedb how.Element seen.Nothing = false
 boundedb how.Element (seen.One y plain) = true
 boundedb how.Element (seen.Two x y plain) = true
@@ -87,7 +87,7 @@ boundedb how.Length (seen.Two x y plain) = true
 
 -- The span by the rules of a run: Outside where 21 would be given, and where a bound is not written so.
 unfoldable pub fixedSpan : Code → How → ℕ → Seen → Span
-fixedSpan c how.Whole f s = spanIn 0 (c .size) (c .field f) how.Whole (pos 0) (pos 0)
+fixedSpan c how.First f s = spanIn 0 (c .size) (c .field f) how.First (pos 0) (pos 0)
 fixedSpan c how.Element f seen.Nothing = Outside
 fixedSpan c how.Element f (seen.One y plain) = spanIn 0 (c .size) (c .field f) how.Element y (pos 0)
 fixedSpan c how.Element f (seen.Two x y plain) = spanIn 0 (c .size) (c .field f) how.Element y (pos 0)

@@ -69,7 +69,7 @@ pub record TwoBounds (c : Code) (before : List Item) (x y : ℤ) : Type 0 where
 
 -- 02 takes no bound, 03 one, 04 and 05 two. What is not taken is 0.
 abbrev pub Bounds : Code → How → List Item → ℤ → ℤ → Type 0
-Bounds c how.Whole before x y = (x ≡ pos 0) × (y ≡ pos 0)
+Bounds c how.First before x y = (x ≡ pos 0) × (y ≡ pos 0)
 Bounds c how.Element before x y = OneBound c before x × (y ≡ pos 0)
 Bounds c how.Range before x y = TwoBounds c before x y
 Bounds c how.Length before x y = TwoBounds c before x y

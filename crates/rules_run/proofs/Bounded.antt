@@ -59,8 +59,8 @@ module _ (c : Code) (d : List ℕ) (bound : ℕ) (truths : 1 < bound) (sums : c 
 
   place-bounded : (h : How) (f : ℕ) (st : List ℤ) → Bounded bound c (length d) (place c d h f st)
   unfolding place
-  place-bounded how.Whole f [] = by-bounded how.Whole f (pos 0) (pos 0)
-  place-bounded how.Whole f (x ∷ st) = tt
+  place-bounded how.First f [] = by-bounded how.First f (pos 0) (pos 0)
+  place-bounded how.First f (x ∷ st) = tt
   place-bounded how.Element f [] = tt
   place-bounded how.Element f (x ∷ []) = by-bounded how.Element f x (pos 0)
   place-bounded how.Element f (y ∷ (x ∷ st)) = tt

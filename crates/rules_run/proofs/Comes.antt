@@ -55,8 +55,8 @@ module _ (c : Code) (d : List ℕ) where
 
   place-comes : (h : How) (f : ℕ) (st : List ℤ) → ltb f (c .fields) ≡ true → length st ≡ howTakes h → Comes (placeSort (decimalb c f)) (place c d h f st)
   unfolding place
-  place-comes how.Whole f [] e l = by-comes how.Whole f (pos 0) (pos 0) e
-  place-comes how.Whole f (x ∷ st) e l = absurd (omega arith)
+  place-comes how.First f [] e l = by-comes how.First f (pos 0) (pos 0) e
+  place-comes how.First f (x ∷ st) e l = absurd (omega arith)
   place-comes how.Element f [] e l = absurd (omega arith)
   place-comes how.Element f (x ∷ []) e l = by-comes how.Element f x (pos 0) e
   place-comes how.Element f (y ∷ (x ∷ st)) e l = absurd (omega arith)

@@ -110,7 +110,7 @@ op-two op.Or = omega arith
 op-two op.Xor = omega arith
 
 how-two : (h : How) → howTakes h ≤ 2
-how-two how.Whole = omega arith
+how-two how.First = omega arith
 how-two how.Element = omega arith
 how-two how.Range = omega arith
 how-two how.Length = omega arith

@@ -64,7 +64,7 @@ named-length f x (negsuc k) false e = nowhere (λ lo hi. rw e)
 
 named : (f : Field) (h : How) (x y : ℤ) → Named f h x y
 unfolding spanIn elementSpan
-named f how.Whole x y = bytes (pos (f .offset)) (f .size) (λ lo hi. refl) (λ s. s)
+named f how.First x y = bytes (pos (f .offset)) (f .size) (λ lo hi. refl) (λ s. s)
 named f how.Element x y = bytes (pos (f .offset) +ℤ (x -ℤ pos 1) *ℤ pos (f .size)) (f .size) (λ lo hi. refl) (λ s. s)
 named f how.Range x y = named-range f x y (leZ (pos 1) x) (leZ x y) refl refl
 named f how.Length x y = named-length f x y (leZ (pos 1) x) refl

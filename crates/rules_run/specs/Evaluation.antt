@@ -142,8 +142,8 @@ placeBy c d h f x y =
 
 -- A last reference takes all that is held as its bounds.
 unfoldable pub place : Code → List ℕ → How → ℕ → List ℤ → Worked
-place c d how.Whole f [] = placeBy c d how.Whole f (pos 0) (pos 0)
-place c d how.Whole f (x ∷ st) = worked.Failed fault.Malformed
+place c d how.First f [] = placeBy c d how.First f (pos 0) (pos 0)
+place c d how.First f (x ∷ st) = worked.Failed fault.Malformed
 place c d how.Element f [] = worked.Failed fault.Malformed
 place c d how.Element f (x ∷ []) = placeBy c d how.Element f x (pos 0)
 place c d how.Element f (y ∷ (x ∷ st)) = worked.Failed fault.Malformed

@@ -40,7 +40,7 @@ lengthSpan lo hi offset p (negsuc k) =
 
 -- "References .., counted from the field's first byte: no bounds gives the first element"
 unfoldable pub spanIn : ℕ → ℕ → Field → How → ℤ → ℤ → Span
-spanIn lo hi f how.Whole x y = within lo hi (pos (f .offset)) (f .size)
+spanIn lo hi f how.First x y = within lo hi (pos (f .offset)) (f .size)
 spanIn lo hi f how.Element x y = elementSpan lo hi (f .offset) (f .size) x
 spanIn lo hi f how.Range x y = rangeSpan lo hi (f .offset) x y
 spanIn lo hi f how.Length x y = lengthSpan lo hi (f .offset) x y

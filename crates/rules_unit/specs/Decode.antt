@@ -105,7 +105,7 @@ unfoldable pub itemBy : List ℕ → ℕ → ℕ → Item
 itemBy s at code =
     cond (eqb code 0x00) item.End
     (cond (eqb code 0x01) (numberAt s at)
-    (cond (eqb code 0x02) (referenceAt s at how.Whole)
+    (cond (eqb code 0x02) (referenceAt s at how.First)
     (cond (eqb code 0x03) (referenceAt s at how.Element)
     (cond (eqb code 0x04) (referenceAt s at how.Range)
     (cond (eqb code 0x05) (referenceAt s at how.Length)

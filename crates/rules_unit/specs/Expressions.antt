@@ -56,7 +56,7 @@ opTakes op.Xor = 2
 
 -- "its bounds being the values before it"
 abbrev pub howTakes : How → ℕ
-howTakes how.Whole = 0
+howTakes how.First = 0
 howTakes how.Element = 1
 howTakes how.Range = 2
 howTakes how.Length = 2

@@ -39,9 +39,9 @@ pub struct Field {
     pub count: u16,
 }
 
-// How a reference is bound: 02, 03, 04, 05.
+// How a reference is bound: 02, which has no bounds and names the first element, 03, 04, 05.
 pub enum How {
-    Whole,
+    First,
     Element,
     Range,
     Length,

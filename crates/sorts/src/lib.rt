@@ -63,7 +63,7 @@ pub fn how_takes(how: How) -> u16
     ensures { λ r. ⌜ r ≡ howTakes how ⌝ }
 {
     match how {
-        How::Whole => 0,
+        How::First => 0,
         How::Element => 1,
         How::Range => 2,
         How::Length => 2,

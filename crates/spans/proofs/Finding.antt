@@ -154,7 +154,7 @@ module _ (lo hi o : ℕ) where
 -- ---- a reference, by its bounds as a call gets them
 
 module _ (lo hi : ℕ) (f : Field) (x y : ℤ) {h : How} where
-  pub span-whole : h ≡ how.Whole → within lo hi (pos (f .offset)) (f .size) ≡ spanIn lo hi f h x y
+  pub span-whole : h ≡ how.First → within lo hi (pos (f .offset)) (f .size) ≡ spanIn lo hi f h x y
   unfolding spanIn
   span-whole e = rw e
 

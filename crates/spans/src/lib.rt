@@ -126,7 +126,7 @@ fn length_span(lo: usize, hi: usize, offset: usize, p: i64, n: i64) -> Span
 
 // The span of a reference without bounds, the field's first element, inside the window from lo up to hi.
 pub fn first_in(lo: usize, hi: usize, field: Field) -> Span
-    ensures { λ r. ⌜ r ≡ spanIn lo hi field how.Whole (pos 0) (pos 0) ⌝ }
+    ensures { λ r. ⌜ r ≡ spanIn lo hi field how.First (pos 0) (pos 0) ⌝ }
 {
     inside(lo, hi, field.offset as usize, field.size as usize)
 }
@@ -141,7 +141,7 @@ pub fn span_in(lo: usize, hi: usize, field: Field, how: How, x: i64, y: i64) -> 
     let offset = field.offset as usize;
     let size = field.size as usize;
     match how {
-        How::Whole => inside(lo, hi, offset, size),
+        How::First => inside(lo, hi, offset, size),
         How::Element => element_span(lo, hi, offset, size, x),
         How::Range => range_span(lo, hi, offset, x, y),
         How::Length => length_span(lo, hi, offset, x, y),
