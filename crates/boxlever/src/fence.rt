@@ -5,6 +5,7 @@ use crate::parts::statement_of;
 use crate::phrase::Held;
 use crate::phrase::hold_item;
 use crate::phrase::is_done;
+use crate::phrase::is_end;
 use crate::phrase::none_held;
 use crate::phrase::put_name;
 use crate::phrase::say_statement;
@@ -88,6 +89,14 @@ fn put_span(l: Line, span: Span) -> Line {
     }
 }
 
+// Puts the bytes of the data, outside of which a run would stop, if it would.
+fn put_data(l: Line, parts: Parts, span: Span) -> Line {
+    match span {
+        Span::At { start: _, len: _ } => l,
+        Span::Outside => put_bytes(put_text(l, b"; the data has"), 0, parts.d as usize),
+    }
+}
+
 // Whether a field is decimal and shares a byte with a span.
 fn is_shared(field: Field, span: Span) -> bool {
     let kind = field.kind;
@@ -138,6 +147,7 @@ fn put_own(l: Line, unit: &[u8], parts: Parts, how: How, i: u16) -> Line {
 fn say_known(l: Line, unit: &[u8], parts: Parts, how: How, i: u16, span: Span, written: bool) {
     let mut next = put_span(l, span);
     next = put_own(next, unit, parts, how, i);
+    next = put_data(next, parts, span);
     if written {
         next = put_shared(next, unit, parts, span);
     }
@@ -218,6 +228,14 @@ fn say_item(h: Held, unit: &[u8], parts: Parts, item: Item, s: Seen, written: bo
     }
 }
 
+// The line that says that an expression goes on at an item, where it does.
+fn say_untold(item: Item) {
+    if is_end(item) {
+        return;
+    }
+    say(b"  and more: its text is too long\n");
+}
+
 // The lines of the references of an expression, as far as its text has room.
 fn say_references(unit: &[u8], parts: Parts, e: u16, written: bool)
     requires { ⌜ Fills (now unit) parts ⌝ }
@@ -231,6 +249,7 @@ fn say_references(unit: &[u8], parts: Parts, e: u16, written: bool)
     while 0 < left {
         let item = decode::item_at(es, from);
         if is_done(h, item) {
+            say_untold(item);
             return;
         }
         h = hold_item(h, unit, parts, item);

@@ -297,7 +297,7 @@ pub fn hold_item(h: Held, unit: &[u8], parts: Parts, item: Item) -> Held {
 }
 
 // Whether an expression ends with an item.
-fn is_end(item: Item) -> bool {
+pub fn is_end(item: Item) -> bool {
     match item {
         Item::Number { place: _, len: _ } | Item::Text { place: _, len: _ } => false,
         Item::Reference { how: _, field: _ } | Item::Operator(_) => false,

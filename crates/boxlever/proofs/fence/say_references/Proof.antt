@@ -30,6 +30,9 @@ item-at-requires c κs = search needs
 is-done-requires : tie.Need-is-done-requires Inv-loop μ-loop
 is-done-requires c κs = search needs
 
+say-untold-requires : tie.Need-say-untold-requires Inv-loop μ-loop
+say-untold-requires c κs = search needs
+
 returns : tie.Need-returns Inv-loop μ-loop
 returns c = search needs
 
@@ -77,6 +80,7 @@ say-references-spec =
     loop-holds
     item-at-requires
     is-done-requires
+    say-untold-requires
     returns
     hold-item-requires
     say-item-requires
