@@ -1,4 +1,3 @@
-pub mod Table
 pub mod TenPowers
 pub mod Negation
 pub mod Products

@@ -4,7 +4,7 @@ use mathlib.Core.Path.{_≡_, refl}
 use mathlib.Core.List.{List, [], _∷_}
 use Prim.Native.Nat.{ℕ, _^_, _<_}
 use lib.ListN.{getD}
-use Rattle.number.proofs.Table.{charted}
+use Rattle.rules.proofs.Charts.{charted}
 
 unfoldable pub listed : List ℕ
 listed =
@@ -12,4 +12,4 @@ listed =
 
 pub listed-at : (k : ℕ) → k < 19 → getD listed k 0 ≡ 10 ^ k
 unfolding listed
-listed-at k h = charted (λ (n : ℕ). 10 ^ n) 19 listed refl k h
+listed-at k h = charted (λ (n : ℕ). 10 ^ n) 0 19 listed refl k h

@@ -6,3 +6,4 @@ pub mod ValidParts
 pub mod Decimals
 pub mod Answers
 pub mod Shown
+pub mod Charts
