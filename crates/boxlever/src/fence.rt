@@ -32,6 +32,7 @@ use rules_unit::How;
 use rules_unit::Item;
 use rules_unit::Parts;
 use rules_unit::Refusal;
+use rules_unit::Statement;
 use rules_unit::Use;
 ghost use mathlib.Core.Path.{_≡_};
 ghost use mathlib.Core.Bool.{true};
@@ -275,6 +276,18 @@ fn say_use(unit: &[u8], parts: Parts, u: Use)
     }
 }
 
+// The lines of the references of a statement.
+fn say_uses(unit: &[u8], parts: Parts, s: Statement)
+    requires { ⌜ Fills (now unit) parts ⌝ }
+    requires { ⌜ Dialect parts ⌝ }
+{
+    let mut k: usize = 0;
+    while k < uses::COUNT {
+        say_use(unit, parts, uses::use_at(s, k));
+        k += 1;
+    }
+}
+
 // The rule that a statement breaks.
 fn say_breach(b: Breach) {
     let l = put_text(new_line(), b"  ");
@@ -293,8 +306,7 @@ fn say_breaking(unit: &[u8], parts: Parts, i: u16)
     let s = statement_of(unit, parts, i);
     say_statement(unit, parts, i);
     say_breach(b);
-    say_use(unit, parts, uses::use_at(s, 0));
-    say_use(unit, parts, uses::use_at(s, 1));
+    say_uses(unit, parts, s);
 }
 
 // The lines of all breaking statements, the first of which is given.

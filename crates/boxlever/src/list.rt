@@ -26,6 +26,7 @@ use rules_fence::Verdict;
 use rules_unit::Checked;
 use rules_unit::Parts;
 use rules_unit::Refusal;
+use rules_unit::Role;
 use rules_unit::Statement;
 
 // The columns of the tables.
@@ -83,26 +84,11 @@ fn say_parts(parts: Parts) -> usize {
 
 // The statement that a statement goes to; one past the last where it goes to none.
 fn target_of(s: Statement, n: u16) -> u16 {
-    match s {
-        Statement::Goto { target } => target,
-        Statement::IfZero { number: _, target } => target,
-        Statement::Call { target } => target,
-        Statement::Set {
-            place: _,
-            source: _,
-        }
-        | Statement::Clear { place: _ }
-        | Statement::Incr { place: _ }
-        | Statement::Decr { place: _ }
-        | Statement::Upcase { place: _ }
-        | Statement::Locase { place: _ }
-        | Statement::Return
-        | Statement::Stop
-        | Statement::Computed {
-            count: _,
-            number: _,
-        }
-        | Statement::Bad => n,
+    let row = decode::row_of(decode::verb_of(s.code));
+    let c = row.c;
+    match c {
+        Role::Target => s.c,
+        Role::Unused | Role::Written(_) | Role::Read(_) | Role::Table | Role::Never => n,
     }
 }
 

@@ -36,13 +36,24 @@ pub fn field_of(unit: &[u8], parts: Parts, i: u16) -> Field {
     decode::field(unit, parts, i)
 }
 
+// A statement of no code.
+fn no_statement() -> Statement {
+    Statement {
+        code: 0,
+        zero: 0,
+        a: 0,
+        b: 0,
+        c: 0,
+    }
+}
+
 // The statement i.
 pub fn statement_of(unit: &[u8], parts: Parts, i: u16) -> Statement {
     if decode::full_length(parts) != unit.len() {
-        return Statement::Bad;
+        return no_statement();
     }
     if parts.n <= i {
-        return Statement::Bad;
+        return no_statement();
     }
     decode::statement(unit, parts, i)
 }

@@ -24,8 +24,8 @@ use rules_unit::Item;
 use rules_unit::Kind;
 use rules_unit::Op;
 use rules_unit::Parts;
+use rules_unit::Role;
 use rules_unit::Statement;
-use rules_unit::Use;
 
 // How tightly a text binds that is no operation of two values.
 const TIGHTEST: u8 = 7;
@@ -342,68 +342,6 @@ fn put_expression(l: Line, unit: &[u8], parts: Parts, e: u16) -> Line {
 
 // ---- statements
 
-// The place of a statement among the words.
-fn statement_number(s: Statement) -> u8 {
-    match s {
-        Statement::Set {
-            place: _,
-            source: _,
-        } => 0,
-        Statement::Clear { place: _ } => 1,
-        Statement::Incr { place: _ } => 2,
-        Statement::Decr { place: _ } => 3,
-        Statement::Upcase { place: _ } => 4,
-        Statement::Locase { place: _ } => 5,
-        Statement::Goto { target: _ } => 6,
-        Statement::IfZero {
-            number: _,
-            target: _,
-        } => 7,
-        Statement::Call { target: _ } => 8,
-        Statement::Return => 9,
-        Statement::Stop => 10,
-        Statement::Computed {
-            count: _,
-            number: _,
-        } => 11,
-        Statement::Bad => 12,
-    }
-}
-
-// The target of a statement, or how many targets it has; 0 where it has none.
-fn last_number(s: Statement) -> u16 {
-    match s {
-        Statement::Goto { target } => target,
-        Statement::IfZero { number: _, target } => target,
-        Statement::Call { target } => target,
-        Statement::Computed { count, number: _ } => count,
-        Statement::Set {
-            place: _,
-            source: _,
-        }
-        | Statement::Clear { place: _ }
-        | Statement::Incr { place: _ }
-        | Statement::Decr { place: _ }
-        | Statement::Upcase { place: _ }
-        | Statement::Locase { place: _ }
-        | Statement::Return
-        | Statement::Stop
-        | Statement::Bad => 0,
-    }
-}
-
-// Puts the expression of a use, if there is one.
-fn put_use(l: Line, unit: &[u8], parts: Parts, u: Use) -> Line {
-    match u {
-        Use::Nothing => l,
-        Use::Of {
-            want: _,
-            at: e,
-            written: _,
-        } => put_expression(l, unit, parts, e),
-    }
-}
-
 // Puts a target, and a comma where more are left.
 fn put_target(l: Line, target: u16, left: u16) -> Line {
     let next = put_form(l, b"L#", target as u64, 0);
@@ -423,33 +361,63 @@ fn put_targets(l: Line, unit: &[u8], parts: Parts, i: u16, n: u16) -> Line {
             return next;
         }
         at += 1;
-        next = put_target(next, last_number(statement_of(unit, parts, at)), left);
+        next = put_target(next, statement_of(unit, parts, at).c, left);
         left -= 1;
     }
     next
 }
 
-// Puts the targets of a computed GOTO.
-fn put_table(l: Line, unit: &[u8], parts: Parts, i: u16, s: Statement) -> Line {
-    if let Statement::Computed { count, number: _ } = s {
-        return put_text(put_targets(l, unit, parts, i, count), b"), ");
+// Puts a part of the statement i, by its role: an expression, a target, or the targets of the statements behind it.
+fn put_part(l: Line, unit: &[u8], parts: Parts, i: u16, role: Role, x: u16) -> Line {
+    match role {
+        Role::Written(_) | Role::Read(_) => put_expression(l, unit, parts, x),
+        Role::Target => put_target(l, x, 1),
+        Role::Table => put_targets(l, unit, parts, i, x),
+        Role::Unused | Role::Never => l,
     }
-    l
 }
 
-// Puts the statement i as DIBOL writes it: its word, its targets where it has several, its first expression, what follows that, and its second
-// expression. A test that is false is zero, so what goes on elsewhere at zero goes there where the test does not hold.
+// Puts a letter of the words of the statement i, which is s: the letters a, b and c stand for its parts.
+fn put_letter(l: Line, unit: &[u8], parts: Parts, i: u16, s: Statement, letter: u8) -> Line {
+    let row = decode::row_of(decode::verb_of(s.code));
+    let a = row.a;
+    let b = row.b;
+    let c = row.c;
+    match letter {
+        b'a' => put_part(l, unit, parts, i, a, s.a),
+        b'b' => put_part(l, unit, parts, i, b, s.b),
+        b'c' => put_part(l, unit, parts, i, c, s.c),
+        _ => put(l, letter),
+    }
+}
+
+// Puts the statement i as DIBOL writes it, in the words of its code: the pieces stand in the order of the codes, and a checked unit has no others.
+// A test that is false is zero, so what goes on elsewhere at zero goes there where the test does not hold.
 pub fn put_statement(l: Line, unit: &[u8], parts: Parts, i: u16) -> Line {
     let s = statement_of(unit, parts, i);
-    let k = statement_number(s);
-    let n = last_number(s) as u64;
-    let words =
-        b"|CLEAR |INCR |DECR |UPCASE |LOCASE |GOTO L#|IF .NOT. (|CALL L#|RETURN|STOP|GOTO (|none|";
-    let mut next = put_form(l, piece(words, k), n, 0);
-    next = put_table(next, unit, parts, i, s);
-    next = put_use(next, unit, parts, uses::use_at(s, 0));
-    next = put_form(next, piece(b" = |||||||) GOTO L#||||||", k), n, 0);
-    put_use(next, unit, parts, uses::use_at(s, 1))
+    let words = piece(
+        b"none|\
+        a = b|\
+        CLEAR a|\
+        INCR a|\
+        DECR a|\
+        UPCASE a|\
+        LOCASE a|\
+        GOTO c|\
+        IF .NOT. (b) GOTO c|\
+        CALL c|\
+        RETURN|\
+        STOP|\
+        GOTO (a), b|",
+        s.code,
+    );
+    let mut next = l;
+    let mut k = 0;
+    while k < words.len() {
+        next = put_letter(next, unit, parts, i, s, words[k]);
+        k += 1;
+    }
+    next
 }
 
 // The statement i as text, with its number.

@@ -1,9 +1,10 @@
 -- The uses of a statement, and what a passed check gives: one law for each way out of the code.
 -- Assumes nothing.
-use mathlib.Core.Path.{_≡_, refl, sym, _∙_}
+use mathlib.Core.Path.{_≡_, refl, sym, ap, _∙_, subst}
 use mathlib.Core.Bool.{Bool, true, false, cond, not}
 use mathlib.Core.List.{List, [], _∷_}
-use Prim.Native.Nat.{ℕ, zero, suc, _-_, _≤_, _<_}
+use Prim.Native.Nat.{ℕ, zero, suc, _+_, _-_, _≤_, _<_}
+use native.Mathlib.Numerals.{add-one}
 use native.Mathlib.Omega.{arith}
 use lib.Dec.{ltb}
 use lib.ListN.{length, getD, take, drop, drop-of-length-le, List·getD-eq-default}
@@ -16,16 +17,15 @@ use Rattle.rules_unit.specs.declared.Use.{Use}
 use Rattle.rules_unit.specs.declared.Use.the-variants as use-of
 use Rattle.rules_unit.specs.Codes.{Code}
 use Rattle.rules_unit.specs.Decode.{Fills, Dialect, expressionsAt, literalsAt, itemsAt, codeOf}
-use Rattle.rules_unit.specs.Expressions.{usesOf, useb}
+use Rattle.rules_unit.specs.Expressions.{useb}
+use Rattle.rules_unit.specs.Table.{usesOf}
 use Rattle.rules_unit.specs.Checks.{checkOf}
 use Rattle.rules_unit.proofs.Sound.{passed-sound, passed-fills}
 use Rattle.rules_run.proofs.Lengths.{passed-dialect}
-use Rattle.uses.proofs.Uses.{uses-few}
 use Rattle.rules_fence.specs.declared.Breach.{Breach}
 use Rattle.rules_fence.specs.declared.Breach.the-variants as breach
 use Rattle.rules_fence.specs.declared.Seen.the-variants as seen
 use Rattle.rules_fence.specs.Breaches.{keepsb, firstOf, breachFrom, useBreach, usesBreach, breachOf}
-use Rattle.rules_fence.proofs.Kept.{none-kept}
 use Rattle.rules_fence.proofs.Sorts.{known-of}
 use Rattle.breaches.specs.Asked.{AllKnown}
 
@@ -66,40 +66,41 @@ uses-suc c [] (suc k) = refl
 uses-suc c (x ∷ us) zero = refl
 uses-suc c (x ∷ us) (suc k) = uses-suc c us k
 
-uses-end : (c : Code) (us : List Use) → length us ≤ 2 → usesBreach c (drop 2 us) ≡ breach.None
+uses-end : (c : Code) (us : List Use) (k : ℕ) → length us ≤ k → usesBreach c (drop k us) ≡ breach.None
 unfolding usesBreach
-uses-end c us h = rw (drop-of-length-le us h)
-
-last-of : (b : Breach) (t : Bool) → keepsb b ≡ t → cond t breach.None b ≡ b
-last-of b true e = sym (none-kept b e)
-last-of b false e = refl
+uses-end c us k h = rw (drop-of-length-le us h)
 
 module _ (u : List ℕ) (p : Parts) (i : ℕ) (s : Statement) (es : s ≡ codeOf u p .statement i) where
   -- Every use of a unit that passed its check is good, and past the last there is none.
   pub use-good : (x : Use) (k : ℕ) → checkOf u ≡ checked.Passed p → i < p .n → x ≡ getD (usesOf s) k use-of.Nothing → useb (codeOf u p) x ≡ true
-  use-good x k e h ex = rw (ex, es) (by (ltb k (length (usesOf (codeOf u p .statement i)))) refl)
+  use-good x k e h ex =
+      subst (λ (y : Use). useb (codeOf u p) y ≡ true) (sym (ex ∙ ap (λ (y : Statement). getD (usesOf y) k use-of.Nothing) es))
+      (by (ltb k (length (usesOf (codeOf u p .statement i)))) refl)
     where
       by : (t : Bool) → ltb k (length (usesOf (codeOf u p .statement i))) ≡ t
           → useb (codeOf u p) (getD (usesOf (codeOf u p .statement i)) k use-of.Nothing) ≡ true
       by true q = passed-sound u p e .code .statements i h .uses .each k (ltb-true k (length (usesOf (codeOf u p .statement i))) q)
       by false q = rw (List·getD-eq-default (usesOf (codeOf u p .statement i)) use-of.Nothing (ltb-false k (length (usesOf (codeOf u p .statement i))) q))
 
-  -- x and y are the first two uses, r and q what they break
-  module _ (x : Use) (r : Breach) (k : Bool) (ex : x ≡ getD (usesOf s) 0 use-of.Nothing) (er : r ≡ useBreach (codeOf u p) x) (ek : k ≡ keepsb r) where
-    first : breachOf (codeOf u p) i ≡ cond k (usesBreach (codeOf u p) (drop 1 (usesOf s))) r
-    unfolding breachOf
-    first = rw (← es) (uses-suc (codeOf u p) (usesOf s) 0 ∙ rw (← ex, ← er, ← ek))
+  -- before the first use
+  pub uses-start : usesBreach (codeOf u p) (drop 0 (usesOf s)) ≡ breachOf (codeOf u p) i
+  unfolding breachOf
+  uses-start = rw es
 
-    pub first-breaks : not k ≡ true → r ≡ breachOf (codeOf u p) i
-    first-breaks h = sym (rw (not-true k h) at first)
+-- the loop over the uses: k is the next one, x that use, r what it breaks, t whether that is nothing, and z what the whole loop answers
+module _ (u : List ℕ) (p : Parts) (us : List Use) (k : ℕ) (z : Breach) (left : usesBreach (codeOf u p) (drop k us) ≡ z) where
+  pub uses-over : length us ≤ k → breach.None ≡ z
+  uses-over h = sym (uses-end (codeOf u p) us k h) ∙ left
 
-    pub second-breaks : (y : Use) (q : Breach) → not k ≡ false → y ≡ getD (usesOf s) 1 use-of.Nothing → q ≡ useBreach (codeOf u p) y
-        → q ≡ breachOf (codeOf u p) i
-    second-breaks y q h ey eq =
-        sym
-        ((rw (not-false k h) at first)
-        ∙ uses-suc (codeOf u p) (usesOf s) 1
-        ∙ rw (← ey, ← eq, uses-end (codeOf u p) (usesOf s) (uses-few s)) (last-of q (keepsb q) refl))
+  module _ (x : Use) (r : Breach) (t : Bool) (ex : x ≡ getD us k use-of.Nothing) (er : r ≡ useBreach (codeOf u p) x) (et : t ≡ keepsb r) where
+    step : usesBreach (codeOf u p) (drop k us) ≡ cond t (usesBreach (codeOf u p) (drop (suc k) us)) r
+    step = uses-suc (codeOf u p) us k ∙ rw (← ex, ← er, ← et)
+
+    pub uses-break : not t ≡ true → r ≡ z
+    uses-break h = sym (rw (not-true t h) at step) ∙ left
+
+    pub uses-on : not t ≡ false → usesBreach (codeOf u p) (drop (k + 1) us) ≡ z
+    uses-on h = rw (add-one k) (sym (rw (not-false t h) at step) ∙ left)
 
 -- ---- the unit
 

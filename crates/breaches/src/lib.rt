@@ -243,9 +243,13 @@ pub fn breach_of(
     ensures { λ r. ⌜ BothIf r (now (unit .entry)) parts (now (reads .exit)) (now (writes .exit)) ⌝ }
 {
     let s = decode::statement(unit, parts, i);
-    let first = use_breach(unit, parts, ahead, reads, writes, uses::use_at(s, 0));
-    if !keeps(first) {
-        return first;
+    let mut k: usize = 0;
+    while k < uses::COUNT {
+        let b = use_breach(unit, parts, ahead, reads, writes, uses::use_at(s, k));
+        if !keeps(b) {
+            return b;
+        }
+        k += 1;
     }
-    use_breach(unit, parts, ahead, reads, writes, uses::use_at(s, 1))
+    Breach::None
 }

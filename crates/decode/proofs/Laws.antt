@@ -1,4 +1,4 @@
--- What the proofs of the decoder cite: equal parts make equal items, an entry stands at its number's place, a code above 6, and unused parts add up to little.
+-- What the proofs of the decoder cite: equal parts make equal items, an entry stands at its number's place, a code above 6, and the row of a known verb.
 -- Assumes nothing.
 use mathlib.Core.Path.{_≡_, ap, _∙_}
 use mathlib.Core.Bool.{false}
@@ -12,8 +12,12 @@ use Rattle.rules_unit.specs.declared.Field.{Field}
 use Rattle.rules_unit.specs.declared.How.{How}
 use Rattle.rules_unit.specs.declared.Item.the-variants as item
 use Rattle.rules_unit.specs.declared.Statement.{Statement}
-use Rattle.rules_unit.specs.declared.Statement.the-variants as statement
-use Rattle.rules_unit.specs.Decode.{fieldAt, statementAt, unusedAt, unusedOf, statementsAt, codeOf}
+use Rattle.rules_unit.specs.declared.Act.{Act}
+use Rattle.rules_unit.specs.declared.Verb.{Verb}
+use Rattle.rules_unit.specs.declared.Verb.the-variants as verb
+use Rattle.rules_unit.specs.declared.Row.{Row}
+use Rattle.rules_unit.specs.Table.{rowOf}
+use Rattle.rules_unit.specs.Decode.{fieldAt, statementAt, statementsAt, codeOf}
 
 pub number-eq : (p p′ n n′ : ℕ) → p ≡ p′ → n ≡ n′ → item.Number p n ≡ item.Number p′ n′
 number-eq p p′ n n′ e f = cc
@@ -43,20 +47,9 @@ module _ (u : List ℕ) (p : Parts) (i : ℕ) where
   pub statement-by : (at : ℕ) (s : Statement) → at ≡ statementsAt p + i * 8 → s ≡ statementAt u at → s ≡ codeOf u p .statement i
   statement-by at s e q = q ∙ ap (statementAt u) e
 
-  pub unused-by : (at n : ℕ) → at ≡ statementsAt p + i * 8 → n ≡ unusedAt u at → n ≡ codeOf u p .unused i
-  unused-by at n e q = q ∙ ap (unusedAt u) e
+-- the row of a statement, where the verb is known, or what is done at its place
+pub row-as : (v w : Verb) (r : Row) → v ≡ w → r ≡ rowOf w → r ≡ rowOf v
+row-as v w r e q = rw e q
 
-pub unused-most : (s : Statement) (a b c : ℕ) → unusedOf s a b c ≤ a + b + c
-unused-most (statement.Set place source) a b c = omega arith
-unused-most (statement.Clear place) a b c = omega arith
-unused-most (statement.Incr place) a b c = omega arith
-unused-most (statement.Decr place) a b c = omega arith
-unused-most (statement.Upcase place) a b c = omega arith
-unused-most (statement.Locase place) a b c = omega arith
-unused-most (statement.Goto target) a b c = omega arith
-unused-most (statement.IfZero number target) a b c = omega arith
-unused-most (statement.Call target) a b c = omega arith
-unused-most statement.Return a b c = omega arith
-unused-most statement.Stop a b c = omega arith
-unused-most (statement.Computed count number) a b c = omega arith
-unused-most statement.Bad a b c = omega arith
+pub act-as : (x y : Act) (r : Row) → x ≡ y → r ≡ rowOf (verb.At y) → r ≡ rowOf (verb.At x)
+act-as x y r e q = rw e q

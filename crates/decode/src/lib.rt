@@ -1,15 +1,22 @@
-// The coded unit's bytes, decoded: words, the trailer, field entries, items, statements. Nothing is checked here.
+// The coded unit's bytes, decoded: words, the trailer, field entries, items, statements; and the table of statements. Nothing is checked here.
+use rules_unit::Act;
 use rules_unit::Field;
 use rules_unit::How;
 use rules_unit::Item;
 use rules_unit::Kind;
 use rules_unit::Op;
 use rules_unit::Parts;
+use rules_unit::Role;
+use rules_unit::Row;
 use rules_unit::Statement;
+use rules_unit::Verb;
+use rules_unit::Want;
 ghost use mathlib.Core.Path.{_≡_};
 ghost use Prim.Native.Nat.{_+_, _*_, _<_, _≤_};
 ghost use lib.ListN.{length};
-ghost use Rattle.rules_unit.specs.Decode.{Fills, wordAt, partsOf, kindOf, fieldAt, referenceAt, numberAt, textAt, itemBy, itemAt, widthOf, statementBy, statementAt, unusedOf, unusedAt, expressionsAt, literalsAt, statementsAt, fullLength, codeOf};
+ghost use Rattle.rules_unit.specs.declared.Verb.the-variants as verb;
+ghost use Rattle.rules_unit.specs.Table.{verbOf, rowWith, rowOf};
+ghost use Rattle.rules_unit.specs.Decode.{Fills, wordAt, partsOf, kindOf, fieldAt, referenceAt, numberAt, textAt, itemBy, itemAt, widthOf, statementAt, expressionsAt, literalsAt, statementsAt, fullLength, codeOf};
 
 // A byte as a word.
 pub fn wide(x: u8) -> u16
@@ -237,33 +244,71 @@ pub fn width_of(item: Item) -> usize
 
 // ---- statements
 
-// The statement of a code and its three parts; Bad for a code that is none.
-fn statement_by(code: u8, a: u16, b: u16, c: u16) -> Statement
-    ensures { λ r. ⌜ r ≡ statementBy code a b c ⌝ }
+// What a statement of a code does; Bad for a code that is none.
+pub fn verb_of(code: u8) -> Verb
+    ensures { λ r. ⌜ r ≡ verbOf code ⌝ }
 {
     match code {
-        1 => Statement::Set {
-            place: a,
-            source: b,
-        },
-        2 => Statement::Clear { place: a },
-        3 => Statement::Incr { place: a },
-        4 => Statement::Decr { place: a },
-        5 => Statement::Upcase { place: a },
-        6 => Statement::Locase { place: a },
-        7 => Statement::Goto { target: c },
-        8 => Statement::IfZero {
-            number: b,
-            target: c,
-        },
-        9 => Statement::Call { target: c },
-        10 => Statement::Return,
-        11 => Statement::Stop,
-        12 => Statement::Computed {
-            count: a,
-            number: b,
-        },
-        _ => Statement::Bad,
+        1 => Verb::At(Act::Set),
+        2 => Verb::At(Act::Clear),
+        3 => Verb::At(Act::Count { up: true }),
+        4 => Verb::At(Act::Count { up: false }),
+        5 => Verb::At(Act::Case { upper: true }),
+        6 => Verb::At(Act::Case { upper: false }),
+        7 => Verb::Goto,
+        8 => Verb::IfZero,
+        9 => Verb::Call,
+        10 => Verb::Return,
+        11 => Verb::Stop,
+        12 => Verb::Computed,
+        _ => Verb::Bad,
+    }
+}
+
+// The row with the three parts given.
+fn row_with(a: Role, b: Role, c: Role) -> Row
+    ensures { λ r. ⌜ r ≡ rowWith a b c ⌝ }
+{
+    Row { a: a, b: b, c: c }
+}
+
+// What the parts of a statement with a place are, by what it does there.
+fn act_row(act: Act) -> Row
+    ensures { λ r. ⌜ r ≡ rowOf (verb.At act) ⌝ }
+{
+    match act {
+        Act::Set => row_with(
+            Role::Written(Want::Place),
+            Role::Read(Want::Source),
+            Role::Unused,
+        ),
+        Act::Clear => row_with(Role::Written(Want::Place), Role::Unused, Role::Unused),
+        Act::Count { up: _ } => row_with(
+            Role::Written(Want::DecimalPlace),
+            Role::Unused,
+            Role::Unused,
+        ),
+        Act::Case { upper: _ } => row_with(
+            Role::Written(Want::AlphaPlace),
+            Role::Unused,
+            Role::Unused,
+        ),
+    }
+}
+
+// What the parts of a statement are, by what it does: its row in the table of statements.
+pub fn row_of(verb: Verb) -> Row
+    ensures { λ r. ⌜ r ≡ rowOf verb ⌝ }
+{
+    match verb {
+        Verb::At(act) => act_row(act),
+        Verb::Goto => row_with(Role::Unused, Role::Unused, Role::Target),
+        Verb::IfZero => row_with(Role::Unused, Role::Read(Want::Number), Role::Target),
+        Verb::Call => row_with(Role::Unused, Role::Unused, Role::Target),
+        Verb::Return => row_with(Role::Unused, Role::Unused, Role::Unused),
+        Verb::Stop => row_with(Role::Unused, Role::Unused, Role::Unused),
+        Verb::Computed => row_with(Role::Table, Role::Read(Want::Number), Role::Unused),
+        Verb::Bad => row_with(Role::Never, Role::Never, Role::Never),
     }
 }
 
@@ -272,53 +317,13 @@ fn statement_at(u: &[u8], at: usize) -> Statement
     requires { ⌜ at + 8 ≤ length (now u) ⌝ }
     ensures { λ r. ⌜ r ≡ statementAt (now (u .entry)) at ⌝ }
 {
-    statement_by(u[at], word(u, at + 2), word(u, at + 4), word(u, at + 6))
-}
-
-// The parts that a statement leaves unused, added up.
-fn unused_of(s: Statement, a: usize, b: usize, c: usize) -> usize
-    requires { ⌜ (a < 65536) × (b < 65536) × (c < 65536) ⌝ }
-    ensures { λ r. ⌜ r ≡ unusedOf s a b c ⌝ }
-{
-    let ab = a + b;
-    let bc = b + c;
-    let all = a + b + c;
-    match s {
-        Statement::Set {
-            place: _,
-            source: _,
-        } => c,
-        Statement::Clear { place: _ } => bc,
-        Statement::Incr { place: _ } => bc,
-        Statement::Decr { place: _ } => bc,
-        Statement::Upcase { place: _ } => bc,
-        Statement::Locase { place: _ } => bc,
-        Statement::Goto { target: _ } => ab,
-        Statement::IfZero {
-            number: _,
-            target: _,
-        } => a,
-        Statement::Call { target: _ } => ab,
-        Statement::Return => all,
-        Statement::Stop => all,
-        Statement::Computed {
-            count: _,
-            number: _,
-        } => c,
-        Statement::Bad => 0,
+    Statement {
+        code: u[at],
+        zero: u[at + 1],
+        a: word(u, at + 2),
+        b: word(u, at + 4),
+        c: word(u, at + 6),
     }
-}
-
-// The zero byte and the unused parts of the statement at an offset, added up.
-fn unused_at(u: &[u8], at: usize) -> usize
-    requires { ⌜ at + 8 ≤ length (now u) ⌝ }
-    ensures { λ r. ⌜ r ≡ unusedAt (now (u .entry)) at ⌝ }
-{
-    let zero = long(wide(u[at + 1]));
-    let a = long(word(u, at + 2));
-    let b = long(word(u, at + 4));
-    let c = long(word(u, at + 6));
-    zero + unused_of(statement_at(u, at), a, b, c)
 }
 
 // The statement i.
@@ -328,13 +333,4 @@ pub fn statement(unit: &[u8], parts: Parts, i: u16) -> Statement
     ensures { λ r. ⌜ r ≡ codeOf (now (unit .entry)) parts .statement i ⌝ }
 {
     statement_at(unit, statement_offset(parts, i))
-}
-
-// The zero byte and the unused parts of the statement i, added up.
-pub fn unused(unit: &[u8], parts: Parts, i: u16) -> usize
-    requires { ⌜ Fills (now unit) parts ⌝ }
-    requires { ⌜ i < parts .n ⌝ }
-    ensures { λ r. ⌜ r ≡ codeOf (now (unit .entry)) parts .unused i ⌝ }
-{
-    unused_at(unit, statement_offset(parts, i))
 }

@@ -2,12 +2,12 @@
 use Prim.Native.Nat.{ℕ, _+_, _-_, _<_, _≤_}
 use native.Mathlib.Omega.{arith}
 use native.Mathlib.Nat.{add-sub-cancel-left}
-use mathlib.Core.Path.{_≡_, refl, sym, ap, ap₂, _∙_}
+use mathlib.Core.Path.{_≡_, refl, sym, ap, ap₂, _∙_, subst}
 use mathlib.Core.Bool.{Bool, true, false, cond, false≢true, true≢false}
 use mathlib.Core.List.{List, [], _∷_}
-use lib.Dec.{ltb}
+use lib.Dec.{ltb, eqb}
 use lib.ListN.{length, getD, take, drop, length-take, length-drop}
-use borrow.Author.Tests.{lt-ltb, le-ltb, ltb-true}
+use borrow.Author.Tests.{lt-ltb, le-ltb, ltb-true, eq-eqb, ne-eqb}
 use Rattle.rules_unit.specs.declared.Parts.{Parts}
 use Rattle.rules_unit.specs.declared.Item.{Item}
 use Rattle.rules_unit.specs.declared.Item.the-variants as item
@@ -15,17 +15,19 @@ use Rattle.rules_unit.specs.declared.Sort.the-variants as sort
 use Rattle.rules_unit.specs.declared.Want.the-variants as want
 use Rattle.rules_unit.specs.declared.Use.the-variants as use-of
 use Rattle.rules_unit.specs.declared.Statement.{Statement}
-use Rattle.rules_unit.specs.declared.Statement.the-variants as statement
+use Rattle.rules_unit.specs.declared.Verb.{Verb}
 use Rattle.rules_unit.specs.declared.Checked.{Checked}
 use Rattle.rules_unit.specs.declared.Checked.the-variants as checked
 use Rattle.rules_unit.specs.declared.Refusal.{Refusal}
 use Rattle.rules_unit.specs.declared.Stretch.{Stretch}
 use Rattle.rules_unit.specs.Codes.{Code}
 use Rattle.rules_unit.specs.Decode.{Fills, expressionsAt, literalsAt, itemAt, widthOf, follow, itemsAt, codeOf}
-use Rattle.rules_unit.specs.Expressions.{textb, sortFrom, sortAt, usesOf, suits, useb}
+use Rattle.rules_unit.specs.Expressions.{textb, sortFrom, sortAt, suits, useb}
+use Rattle.rules_unit.specs.Table.{rowOf, useOf, usesOf}
 use Rattle.rules_unit.specs.Checks.{checkOf}
 use Rattle.rules_unit.specs.Literals.{nowhere, loneText, stretchBy, stretchIn, stretchOf, literalOf}
 use Rattle.rules_unit.proofs.Items.{items-step}
+use Rattle.rules_unit.proofs.Table.{verb-set}
 use Rattle.rules_unit.proofs.Tells.{Tells, tells-le, tells-and}
 use Rattle.rules_unit.proofs.Sound.{passed-sound, passed-fills}
 
@@ -98,8 +100,11 @@ module _ (u : List ℕ) (p : Parts) (z : Stretch) where
       ∙ ap₂ (λ (x y : ℕ). loneText y (itemsAt (take (p .e) (drop x u)) n)) e f
       ∙ ap (λ (x : ℕ). loneText (literalsAt p) (codeOf u p .items x)) g
 
-  pub by-as : (s t : Statement) → s ≡ t → z ≡ stretchBy (codeOf u p) (literalsAt p) t → z ≡ stretchBy (codeOf u p) (literalsAt p) s
-  by-as s t e w = rw e w
+  pub by-none : (s : Statement) → (s .code ≡ 1 → ⊥) → z ≡ nowhere → z ≡ stretchBy (codeOf u p) (literalsAt p) s
+  by-none s h w = rw (ne-eqb (s .code) 1 h) w
+
+  pub by-set : (s : Statement) → s .code ≡ 1 → z ≡ loneText (literalsAt p) (codeOf u p .items (s .b)) → z ≡ stretchBy (codeOf u p) (literalsAt p) s
+  by-set s h w = rw (eq-eqb (s .code) 1 h) w
 
   module _ (i n : ℕ) (e : n ≡ p .n) where
     pub in-past : n ≤ i → z ≡ nowhere → z ≡ stretchIn u i (checked.Passed p)
@@ -146,19 +151,12 @@ module _ (c : Code) (from n : ℕ) (fits : from + length (c .literals) ≤ n) wh
   inside-by : (s : Statement) → ((k : ℕ) → k < length (usesOf s) → useb c (getD (usesOf s) k use-of.Nothing) ≡ true)
       → stretchBy c from s .at + stretchBy c from s .len ≤ n
   unfolding sortAt
-  inside-by (statement.Set place source) f = inside-items (c .items source) (f 1 (omega arith))
-  inside-by (statement.Clear place) f = omega arith
-  inside-by (statement.Incr place) f = omega arith
-  inside-by (statement.Decr place) f = omega arith
-  inside-by (statement.Upcase place) f = omega arith
-  inside-by (statement.Locase place) f = omega arith
-  inside-by (statement.Goto target) f = omega arith
-  inside-by (statement.IfZero number target) f = omega arith
-  inside-by (statement.Call target) f = omega arith
-  inside-by statement.Return f = omega arith
-  inside-by statement.Stop f = omega arith
-  inside-by (statement.Computed count number) f = omega arith
-  inside-by statement.Bad f = omega arith
+  inside-by s f = by (eqb (s .code) 1) refl
+    where
+      by : (t : Bool) → eqb (s .code) 1 ≡ t → cond t (loneText from (c .items (s .b))) nowhere .at + cond t (loneText from (c .items (s .b))) nowhere .len ≤ n
+      by true q =
+          inside-items (c .items (s .b)) (subst (λ (v : Verb). useb c (useOf (rowOf v .b) (s .b)) ≡ true) (verb-set (s .code) q) (f 1 (omega arith)))
+      by false q = omega arith
 
 inside-in : (u : List ℕ) (i : ℕ) (r : Checked) → checkOf u ≡ r → stretchIn u i r .at + stretchIn u i r .len ≤ length u
 inside-in u i (checked.Refused r) e = omega arith

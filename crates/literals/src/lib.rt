@@ -69,27 +69,10 @@ fn stretch_by(unit: &[u8], parts: Parts, s: Statement) -> Stretch
     requires { ⌜ Fills (now unit) parts ⌝ }
     ensures { λ r. ⌜ r ≡ stretchBy (codeOf (now (unit .entry)) parts) (literalsAt parts) s ⌝ }
 {
-    match s {
-        Statement::Set { place: _, source } => source_text(unit, parts, source),
-        Statement::Clear { place: _ } => empty_stretch(),
-        Statement::Incr { place: _ } => empty_stretch(),
-        Statement::Decr { place: _ } => empty_stretch(),
-        Statement::Upcase { place: _ } => empty_stretch(),
-        Statement::Locase { place: _ } => empty_stretch(),
-        Statement::Goto { target: _ } => empty_stretch(),
-        Statement::IfZero {
-            number: _,
-            target: _,
-        } => empty_stretch(),
-        Statement::Call { target: _ } => empty_stretch(),
-        Statement::Return => empty_stretch(),
-        Statement::Stop => empty_stretch(),
-        Statement::Computed {
-            count: _,
-            number: _,
-        } => empty_stretch(),
-        Statement::Bad => empty_stretch(),
+    if s.code != 1 {
+        return empty_stretch();
     }
+    source_text(unit, parts, s.b)
 }
 
 // The stretch of the statement i of a unit that is checked.

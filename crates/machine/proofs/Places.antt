@@ -10,17 +10,17 @@ use Rattle.rules.specs.declared.Fault.{Fault}
 use Rattle.rules.specs.declared.Fault.the-variants as fault
 use Rattle.rules_unit.specs.declared.Parts.{Parts}
 use Rattle.rules_unit.specs.declared.Item.{Item}
+use Rattle.rules_unit.specs.declared.Statement.{Statement}
 use Rattle.rules_unit.specs.Codes.{Code}
 use Rattle.rules_unit.specs.Decode.{Dialect, codeOf}
 use Rattle.rules_run.specs.declared.Worked.{Worked}
 use Rattle.rules_run.specs.declared.Worked.the-variants as worked
 use Rattle.rules_run.specs.declared.Turn.{Turn}
 use Rattle.rules_run.specs.Evaluation.{workedOf, Within}
-use Rattle.rules_run.specs.Turns.{failed, moveWorked, onPlace, clearAt, countAt, caseAt}
+use Rattle.rules_run.specs.Turns.{failed, moveWorked, onPlace, actAt}
 use Rattle.rules_run.proofs.Bounded.{worked-within}
-use Rattle.machine.specs.declared.Act.{Act}
-use Rattle.machine.specs.declared.Act.the-variants as act
-use Rattle.machine.specs.Acts.{atPlace}
+use Rattle.rules_unit.specs.declared.Act.{Act}
+use Rattle.rules_unit.specs.declared.Act.the-variants as act
 
 -- x is what the callee found, w what the rule has
 module _ (x w : Worked) (k : Bool → ℕ → ℕ → Turn) (t : Turn) (e : x ≡ w) where
@@ -40,25 +40,14 @@ pub ruleset on-places = (on-number, on-place, on-text, on-failed)
 
 -- ---- at a place that is found; x is what the statement does there
 
-module _ (c : Code) (d : List ℕ) (x : Act) (decimal : Bool) (a n : ℕ) (t : Turn) where
+module _ (c : Code) (d : List ℕ) (x : Act) (s : Statement) (decimal : Bool) (a n : ℕ) (t : Turn) where
   -- y is what the callee found of the source
-  pub at-move : (source : ℕ) (y : Worked) → x ≡ act.Move source → y ≡ workedOf c d (c .items source) → t ≡ moveWorked c d decimal a n y
-      → t ≡ atPlace c d x decimal a n
-  at-move source y h e q = rw h (q ∙ ap (moveWorked c d decimal a n) e)
+  pub at-set : (y : Worked) → x ≡ act.Set → y ≡ workedOf c d (c .items (s .b)) → t ≡ moveWorked c d decimal a n y → t ≡ actAt c d x s decimal a n
+  at-set y h e q = rw h (q ∙ ap (moveWorked c d decimal a n) e)
 
-  pub at-clear : x ≡ act.Clear → t ≡ clearAt decimal a n → t ≡ atPlace c d x decimal a n
-  at-clear h q = rw h q
-
-  pub at-count : (up : Bool) → x ≡ act.Count up → t ≡ countAt c d up decimal a n → t ≡ atPlace c d x decimal a n
-  at-count up h q = rw h q
-
-  pub at-case : (upper : Bool) → x ≡ act.Case upper → t ≡ caseAt upper decimal a n → t ≡ atPlace c d x decimal a n
-  at-case upper h q = rw h q
-
-  pub at-nothing : x ≡ act.Nothing → t ≡ failed fault.Malformed → t ≡ atPlace c d x decimal a n
-  at-nothing h q = rw h q
-
-pub ruleset at-places = (at-move, at-clear, at-count, at-case, at-nothing)
+  -- the others
+  pub at-as : (y : Act) → x ≡ y → t ≡ actAt c d y s decimal a n → t ≡ actAt c d x s decimal a n
+  at-as y h q = rw h q
 
 -- ---- where a place lies
 

@@ -10,11 +10,11 @@ use Rattle.rules.specs.declared.Num.the-variants.{Value}
 use Rattle.rules.specs.Values.{readFrom, readOf}
 use Rattle.rules.specs.Arithmetic.{addOf, divOf, roundOf}
 use Rattle.rules.specs.Moves.{placed, alphaFrom, alphaOf, fitted}
-use Rattle.rules_unit.specs.declared.Statement.the-variants as statement
+use Rattle.rules_unit.specs.Table.{verbOf}
 use Rattle.rules_unit.specs.Expressions.{digitsb}
 use Rattle.rules_run.specs.Spans.{within, rangeSpan, lengthSpan, spanIn}
 use Rattle.rules_run.specs.Evaluation.{digitsFrom, plainNumber, literalNumber, stepBy, placeBy, place, lastOf, workedFrom, workedOf, calc}
-use Rattle.rules_run.specs.Turns.{stored, applied, turnBy}
+use Rattle.rules_run.specs.Turns.{stored, applied, turnBy, turnOf}
 use Rattle.promises.specs.Rows.{number, text, stop, Row, _is_, AllHold, limit, top, base, bytes, minus, answer, into, image, AM, NZ, NUM, unit, expression, range, back, after}
 
 abbrev pub rows : List Row
@@ -46,10 +46,10 @@ rows =
     -- *" 1-2 " into D4 is "001r"
     ∷ into 4 (alphaOf top (bytes " 1-2 ")) is text (bytes "001r")
     -- *AM(2,6) from AM(1,5) gives AM "aabcdeghijklm"
-    ∷ after 0 13 (turnBy unit 0 image (statement.Set 0 1)) is text (bytes "aabcdeghijklm")
+    ∷ after 0 13 (turnOf unit 0 image) is text (bytes "aabcdeghijklm")
     ∷ []
 
 pub bench-values : AllHold rows
-unfolding readOf readFrom placed alphaFrom fitted digitsb digitsFrom plainNumber literalNumber calc stepBy within rangeSpan lengthSpan spanIn placeBy place lastOf workedFrom workedOf stored applied turnBy
+unfolding readOf readFrom placed alphaFrom fitted digitsb digitsFrom plainNumber literalNumber calc stepBy within rangeSpan lengthSpan spanIn placeBy place lastOf workedFrom workedOf stored applied verbOf turnBy turnOf
 bench-values =
     (refl, (refl, (refl, (refl, (refl, (refl, (refl, (refl, (refl, (refl, (refl, (refl, (refl, (refl, tt))))))))))))))

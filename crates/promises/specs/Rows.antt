@@ -24,7 +24,6 @@ use Rattle.rules_unit.specs.declared.How.the-variants as how
 use Rattle.rules_unit.specs.declared.Op.the-variants as op
 use Rattle.rules_unit.specs.declared.Item.{Item}
 use Rattle.rules_unit.specs.declared.Item.the-variants as item
-use Rattle.rules_unit.specs.declared.Statement.the-variants as statement
 use Rattle.rules_unit.specs.Codes.{Code}
 use Rattle.rules_run.specs.declared.Worked.{Worked}
 use Rattle.rules_run.specs.declared.Worked.the-variants as worked
@@ -117,8 +116,7 @@ unitOver len n fields expressions = record {
   literals = figures;
   items = expressions;
   statements = 1;
-  statement = λ i. statement.Set 0 1;
-  unused = λ i. 0;
+  statement = λ i. record { code = 1; zero = 0; a = 0; b = 1; c = 0 };
 }
 
 -- The answer of an expression over the data d: a number, the text at an alpha place, or the number at a decimal one.

@@ -20,9 +20,10 @@ use Prim.Native.String as string
 use lib.ListN.{take}
 use Rattle.rules.specs.Values.{validb, validFrom}
 use Rattle.rules.specs.Moves.{placed, fitted}
-use Rattle.rules_unit.specs.Decode.{partsOf, kindOf, fieldAt, referenceAt, numberAt, textAt, itemBy, itemAt, itemsIn, itemsAt, statementBy, statementAt, unusedAt}
+use Rattle.rules_unit.specs.Decode.{partsOf, kindOf, fieldAt, referenceAt, numberAt, textAt, itemBy, itemAt, itemsIn, itemsAt, statementAt}
+use Rattle.rules_unit.specs.Table.{verbOf}
 use Rattle.rules_unit.specs.Expressions.{digitsb, numberb, textb, sortFrom, sortAt, usesb}
-use Rattle.rules_unit.specs.Checks.{filledb, rangesb, entryb, goodFields, shapeb, foundOf, statementsFrom, partsCheck, checkOf}
+use Rattle.rules_unit.specs.Checks.{filledb, rangesb, entryb, goodFields, rowb, shapeb, foundOf, statementsFrom, partsCheck, checkOf}
 use Rattle.rules_run.specs.Spans.{within, elementSpan, rangeSpan, spanIn}
 use Rattle.rules_run.specs.Evaluation.{calc, digitsFrom, plainNumber, literalNumber, stepBy, placeBy, place, lastOf, workedFrom, workedOf}
 use Rattle.rules_run.specs.States.{entriesb, soundb, started}
@@ -111,7 +112,7 @@ pub record Slips : Type 0 where
   pub no-smear-stop : stops 13 smear ≡ 0
 
 pub slips : Slips
-unfolding validFrom validb placed fitted partsOf kindOf fieldAt referenceAt numberAt textAt itemBy itemAt itemsIn itemsAt statementBy statementAt unusedAt digitsb numberb textb sortFrom sortAt usesb filledb rangesb entryb goodFields shapeb foundOf statementsFrom partsCheck checkOf within elementSpan rangeSpan spanIn calc digitsFrom plainNumber literalNumber stepBy placeBy place lastOf workedFrom workedOf entriesb soundb stored applied turnBy turnOf movedBy runFrom runChecked runOf fixedSpan elementBreach apartFrom alphaBreach referenceBreach breachFrom usesBreach breachOf verdictFrom fenceOf breachIn
+unfolding validFrom validb placed fitted partsOf kindOf fieldAt referenceAt numberAt textAt itemBy itemAt itemsIn itemsAt verbOf statementAt digitsb numberb textb sortFrom sortAt usesb filledb rangesb entryb goodFields rowb shapeb foundOf statementsFrom partsCheck checkOf within elementSpan rangeSpan spanIn calc digitsFrom plainNumber literalNumber stepBy placeBy place lastOf workedFrom workedOf entriesb soundb stored applied turnBy turnOf movedBy runFrom runChecked runOf fixedSpan elementBreach apartFrom alphaBreach referenceBreach breachFrom usesBreach breachOf verdictFrom fenceOf breachIn
 slips =
     record {
       past-table = refl;

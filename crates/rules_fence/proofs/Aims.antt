@@ -7,10 +7,9 @@ use mathlib.Core.Path.{_≡_, sym, _∙_, subst}
 use mathlib.Core.List.{List}
 use lib.ListN.{length, getD}
 use Rattle.rules_unit.specs.declared.Statement.{Statement}
-use Rattle.rules_unit.specs.declared.Statement.the-variants as statement
 use Rattle.rules_unit.specs.declared.Use.the-variants as use-of
 use Rattle.rules_unit.specs.Codes.{Code}
-use Rattle.rules_unit.specs.Expressions.{usesOf}
+use Rattle.rules_unit.specs.Table.{usesOf}
 use Rattle.rules_unit.specs.Sound.{SoundCode}
 use Rattle.rules_run.specs.declared.Span.{Span}
 use Rattle.rules_run.specs.declared.Write.{Write}
@@ -24,19 +23,7 @@ use Rattle.rules_fence.proofs.Turns.{aimOf}
 
 -- The destination of a statement is one of the uses that it writes.
 pub aim-used : (c : Code) (b : ℕ) (t : Statement) → Covers (aimOf c t) b → (k : ℕ) × (k < length (usesOf t)) × Covers (useSpan c (getD (usesOf t) k use-of.Nothing)) b
-aim-used c b (statement.Set x y) h = (0, omega arith, h)
-aim-used c b (statement.Clear x) h = (0, omega arith, h)
-aim-used c b (statement.Incr x) h = (0, omega arith, h)
-aim-used c b (statement.Decr x) h = (0, omega arith, h)
-aim-used c b (statement.Upcase x) h = (0, omega arith, h)
-aim-used c b (statement.Locase x) h = (0, omega arith, h)
-aim-used c b (statement.Goto target) h = absurd h
-aim-used c b (statement.IfZero x target) h = absurd h
-aim-used c b (statement.Call target) h = absurd h
-aim-used c b statement.Return h = absurd h
-aim-used c b statement.Stop h = absurd h
-aim-used c b (statement.Computed n x) h = absurd h
-aim-used c b statement.Bad h = absurd h
+aim-used c b t h = (0, omega arith, h)
 
 module _ (c : Code) (s : SoundCode c) (d : List ℕ) (e : length d ≡ c .size) (v : AllValid c d) (span : Span) (w : Write) (room : Room c (length d) w) where
   pub applied-valid : Aimed c d span w → AllValid c (applied c d w)

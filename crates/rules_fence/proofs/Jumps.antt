@@ -26,21 +26,23 @@ use Rattle.rules_fence.proofs.Mild.{mildNum, mild-plain, mild-value}
 use Rattle.rules_fence.proofs.Moves.{MildFlow, TurnOk, failed-ok, goes-ok}
 use Rattle.rules_fence.proofs.Places.{WorkedOk}
 
-flow-either : (t : Bool) (x y : Flow) → MildFlow ⊥ x → MildFlow ⊥ y → MildFlow ⊥ (cond t x y)
-flow-either true x y f g = f
-flow-either false x y f g = g
+-- M is where 22 may be
+module _ (M : Type 0) where
+  flow-either : (t : Bool) (x y : Flow) → MildFlow M x → MildFlow M y → MildFlow M (cond t x y)
+  flow-either true x y f g = f
+  flow-either false x y f g = g
 
-pub if-mild : (target : ℕ) (z : ℤ) → MildFlow ⊥ (ifZero target z)
-if-mild target z = flow-either (eqb (natAbs z) 0) (flow.Goto target) flow.Next tt tt
+  pub if-mild : (target : ℕ) (z : ℤ) → MildFlow M (ifZero target z)
+  if-mild target z = flow-either (eqb (natAbs z) 0) (flow.Goto target) flow.Next tt tt
 
-pub choose-mild : (i n : ℕ) (z : ℤ) → MildFlow ⊥ (choose i n z)
-choose-mild i n (pos zero) = tt
-choose-mild i n (pos (suc k)) = flow-either (leb (suc k) n) (flow.Goto (i + suc k)) (flow.Goto (i + n + 1)) tt tt
-choose-mild i n (negsuc k) = tt
+  pub choose-mild : (i n : ℕ) (z : ℤ) → MildFlow M (choose i n z)
+  choose-mild i n (pos zero) = tt
+  choose-mild i n (pos (suc k)) = flow-either (leb (suc k) n) (flow.Goto (i + suc k)) (flow.Goto (i + n + 1)) tt tt
+  choose-mild i n (negsuc k) = tt
 
-pub on-number : (c : Code) (d : List ℕ) (r : Num) (k : ℤ → Flow) → mildNum false r ≡ true → ((z : ℤ) → MildFlow ⊥ (k z)) → TurnOk c d Outside ⊥ (onNumber r k)
-on-number c d (Value z) k m h = goes-ok c d Outside ⊥ (k z) (h z)
-on-number c d (Failed x) k m h = failed-ok c d Outside ⊥ x (mild-plain ⊥ x m)
+pub on-number : (c : Code) (d : List ℕ) (M : Type 0) (r : Num) (k : ℤ → Flow) → mildNum false r ≡ true → ((z : ℤ) → MildFlow M (k z)) → TurnOk c d Outside M (onNumber r k)
+on-number c d M (Value z) k m h = goes-ok c d Outside M (k z) (h z)
+on-number c d M (Failed x) k m h = failed-ok c d Outside M x (mild-plain M x m)
 
 module _ (c : Code) (s : SoundCode c) (d : List ℕ) (e : length d ≡ c .size) (v : AllValid c d) where
   pub number-mild : (span : Span) (w : Worked) → WorkedOk c false span w → mildNum false (numberOf c d w) ≡ true

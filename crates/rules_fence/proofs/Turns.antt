@@ -4,21 +4,28 @@
 -- Assumes nothing.
 use Prim.Native.Nat.{ℕ, _<_}
 use native.Mathlib.Omega.{arith}
-use mathlib.Core.Path.{_≡_, ap, _∙_, subst}
+use mathlib.Core.Path.{_≡_, refl, ap, _∙_, subst}
 use mathlib.Core.Bool.{Bool, true, false}
 use mathlib.Core.List.{List}
 use lib.IntN.{ℤ}
 use lib.ListN.{length, getD}
 use Rattle.rules.specs.declared.Fault.the-variants as fault
+use Rattle.rules.specs.declared.Num.the-variants.{Failed}
 use Rattle.rules.specs.Values.{Letters}
+use Rattle.rules.specs.Moves.{alphaOf}
 use Rattle.rules_unit.specs.declared.Sort.{Sort}
 use Rattle.rules_unit.specs.declared.Sort.the-variants as sort
 use Rattle.rules_unit.specs.declared.Want.the-variants as want
 use Rattle.rules_unit.specs.declared.Use.the-variants as use-of
 use Rattle.rules_unit.specs.declared.Statement.{Statement}
-use Rattle.rules_unit.specs.declared.Statement.the-variants as statement
+use Rattle.rules_unit.specs.declared.Act.{Act}
+use Rattle.rules_unit.specs.declared.Act.the-variants as act
+use Rattle.rules_unit.specs.declared.Verb.{Verb}
+use Rattle.rules_unit.specs.declared.Verb.the-variants as verb
+use Rattle.rules_unit.specs.declared.Row.{Row}
+use Rattle.rules_unit.specs.Table.{verbOf, rowOf, useOf, usesBy}
 use Rattle.rules_unit.specs.Codes.{Code}
-use Rattle.rules_unit.specs.Expressions.{placeSort, sortAt, suits, usesOf, useb}
+use Rattle.rules_unit.specs.Expressions.{placeSort, sortAt, suits, useb}
 use Rattle.rules_unit.specs.Sound.{SoundCode}
 use Rattle.rules_run.specs.declared.Span.{Span}
 use Rattle.rules_run.specs.declared.Span.the-variants.{Outside}
@@ -26,11 +33,11 @@ use Rattle.rules_run.specs.declared.Flow.{Flow}
 use Rattle.rules_run.specs.declared.Flow.the-variants as flow
 use Rattle.rules_run.specs.declared.Turn.{Turn}
 use Rattle.rules_run.specs.Evaluation.{workedOf, numberOf}
-use Rattle.rules_run.specs.Turns.{moveWorked, onPlace, clearAt, countAt, caseAt, onNumber, ifZero, choose, turnBy, turnOf}
+use Rattle.rules_run.specs.Turns.{moveWorked, onPlace, clearAt, countAt, caseAt, onNumber, ifZero, choose, actAt, turnBy, turnOf}
 use Rattle.rules_run.proofs.Comes.{Comes}
 use Rattle.rules_run.proofs.Sorted.{sort-comes}
-use Rattle.rules_fence.specs.Fence.{ExprFenced, StatementFenced}
-use Rattle.rules_fence.specs.Destinations.{placeSpan, AllValid, BadText}
+use Rattle.rules_fence.specs.Fence.{ExprFenced, UseFenced, StatementFenced}
+use Rattle.rules_fence.specs.Destinations.{placeSpan, useSpan, alphaSort, textOf, AllValid, BadText}
 use Rattle.rules_fence.proofs.Exact.{expr-to}
 use Rattle.rules_fence.proofs.Expressions.{worked-ok}
 use Rattle.rules_fence.proofs.Jumps.{if-mild, choose-mild, number-mild, on-number}
@@ -38,20 +45,11 @@ use Rattle.rules_fence.proofs.Moves.{MildFlow, TurnOk, failed-ok, goes-
 use Rattle.rules_fence.proofs.Places.{PlaceOk, WorkedOk}
 use Rattle.rules_fence.proofs.Sorts.{suits-right}
 
+abbrev pub aimBy : Code → Row → Statement → Span
+aimBy c r s = useSpan c (useOf (r .a) (s .a))
+
 abbrev pub aimOf : Code → Statement → Span
-aimOf c (statement.Set a b) = placeSpan c (c .items a)
-aimOf c (statement.Clear a) = placeSpan c (c .items a)
-aimOf c (statement.Incr a) = placeSpan c (c .items a)
-aimOf c (statement.Decr a) = placeSpan c (c .items a)
-aimOf c (statement.Upcase a) = placeSpan c (c .items a)
-aimOf c (statement.Locase a) = placeSpan c (c .items a)
-aimOf c (statement.Goto target) = Outside
-aimOf c (statement.IfZero b target) = Outside
-aimOf c (statement.Call target) = Outside
-aimOf c statement.Return = Outside
-aimOf c statement.Stop = Outside
-aimOf c (statement.Computed n b) = Outside
-aimOf c statement.Bad = Outside
+aimOf c s = aimBy c (rowOf (verbOf (s .code))) s
 
 decimal-place : (k : Sort) (decimal : Bool) → k ≡ placeSort decimal → decimal ≡ true → k ≡ sort.Decimal
 decimal-place k decimal q t = q ∙ ap placeSort t
@@ -60,47 +58,56 @@ module _ (c : Code) (s : SoundCode c) (letters : Letters (c .base)) (d : List �
   fenced : (dest : Bool) (a : ℕ) → ExprFenced c dest (c .items a) → WorkedOk c dest (placeSpan c (c .items a)) (workedOf c d (c .items a))
   fenced dest a r = worked-ok c d s e v dest (c .items a) (expr-to c dest (c .items a) r)
 
-  -- A statement that is no SET, at its place a.
-  at-place : (a : ℕ) (k : Bool → ℕ → ℕ → Turn) → ExprFenced c true (c .items a)
-      → ((decimal : Bool) (x n : ℕ) → PlaceOk c true (placeSpan c (c .items a)) decimal x n → TurnOk c d (placeSpan c (c .items a)) ⊥ (k decimal x n))
-      → TurnOk c d (placeSpan c (c .items a)) ⊥ (onPlace (workedOf c d (c .items a)) k)
-  at-place a k r h = on-place c d (placeSpan c (c .items a)) ⊥ (workedOf c d (c .items a)) k (fenced true a r) (λ decimal x n q p. h decimal x n p)
+  -- M is where 22 may be
+  module _ (M : Type 0) where
+    at-place : (a : ℕ) (k : Bool → ℕ → ℕ → Turn) → ExprFenced c true (c .items a)
+        → ((decimal : Bool) (x n : ℕ) → PlaceOk c true (placeSpan c (c .items a)) decimal x n → TurnOk c d (placeSpan c (c .items a)) M (k decimal x n))
+        → TurnOk c d (placeSpan c (c .items a)) M (onPlace (workedOf c d (c .items a)) k)
+    at-place a k r h = on-place c d (placeSpan c (c .items a)) M (workedOf c d (c .items a)) k (fenced true a r) (λ decimal x n q p. h decimal x n p)
 
-  set-ok : (a b : ℕ) → suits want.Place (sortAt c a) ≡ true → suits want.Source (sortAt c b) ≡ true → ExprFenced c true (c .items a) → ExprFenced c false (c .items b)
-      → TurnOk c d (placeSpan c (c .items a)) (BadText c d (statement.Set a b))
-      (onPlace (workedOf c d (c .items a)) (λ decimal x n. moveWorked c d decimal x n (workedOf c d (c .items b))))
-  set-ok a b x y r q =
-      on-place c d (placeSpan c (c .items a)) (BadText c d (statement.Set a b)) (workedOf c d (c .items a)) _ (fenced true a r)
-      (λ decimal z n p k.
-      let kind : sortAt c a ≡ placeSort decimal = subst (Comes (sortAt c a)) p (sort-comes c d a (suits-right want.Place (sortAt c a) x)) in
-      source-ok c d (placeSpan c (c .items a)) (BadText c d (statement.Set a b)) s letters e v (sortAt c b) (placeSpan c (c .items b)) decimal z n k (workedOf c d (c .items b))
-      (sort-comes c d b (suits-right want.Source (sortAt c b) y)) (fenced false b q)
-      (λ t m f. (decimal-place (sortAt c a) decimal kind t, m, f)))
+    set-ok : (a b : ℕ) → suits want.Place (sortAt c a) ≡ true → suits want.Source (sortAt c b) ≡ true → ExprFenced c true (c .items a) → ExprFenced c false (c .items b)
+        → (sortAt c a ≡ sort.Decimal → alphaSort (sortAt c b) ≡ true → alphaOf (c .top) (textOf c d (workedOf c d (c .items b))) ≡ Failed fault.BadDigit → M)
+        → TurnOk c d (placeSpan c (c .items a)) M (onPlace (workedOf c d (c .items a)) (λ decimal x n. moveWorked c d decimal x n (workedOf c d (c .items b))))
+    set-ok a b x y r q m =
+        on-place c d (placeSpan c (c .items a)) M (workedOf c d (c .items a)) _ (fenced true a r)
+        (λ decimal z n p k.
+        let kind : sortAt c a ≡ placeSort decimal = subst (Comes (sortAt c a)) p (sort-comes c d a (suits-right want.Place (sortAt c a) x)) in
+        source-ok c d (placeSpan c (c .items a)) M s letters e v (sortAt c b) (placeSpan c (c .items b)) decimal z n k (workedOf c d (c .items b))
+        (sort-comes c d b (suits-right want.Source (sortAt c b) y)) (fenced false b q)
+        (λ t g f. m (decimal-place (sortAt c a) decimal kind t) g f))
 
-  jump-ok : (b : ℕ) (k : ℤ → Flow) → ((z : ℤ) → MildFlow ⊥ (k z)) → ExprFenced c false (c .items b)
-      → TurnOk c d Outside ⊥ (onNumber (numberOf c d (workedOf c d (c .items b))) k)
-  jump-ok b k h r =
-      on-number c d (numberOf c d (workedOf c d (c .items b))) k (number-mild c s d e v (placeSpan c (c .items b)) (workedOf c d (c .items b)) (fenced false b r)) h
+    jump-ok : (b : ℕ) (k : ℤ → Flow) → ((z : ℤ) → MildFlow M (k z)) → ExprFenced c false (c .items b)
+        → TurnOk c d Outside M (onNumber (numberOf c d (workedOf c d (c .items b))) k)
+    jump-ok b k h r =
+        on-number c d M (numberOf c d (workedOf c d (c .items b))) k (number-mild c s d e v (placeSpan c (c .items b)) (workedOf c d (c .items b)) (fenced false b r)) h
 
   -- ---- statements
 
-  by-code : (i : ℕ) (t : Statement) → ((k : ℕ) → k < length (usesOf t) → useb c (getD (usesOf t) k use-of.Nothing) ≡ true) → StatementFenced c t
-      → TurnOk c d (aimOf c t) (BadText c d t) (turnBy c i d t)
+  abbrev Used : Row → Statement → Type 0
+  Used r t = (k : ℕ) → k < length (usesBy r t) → useb c (getD (usesBy r t) k use-of.Nothing) ≡ true
+
+  abbrev Kept : Row → Statement → Type 0
+  Kept r t = (k : ℕ) → k < length (usesBy r t) → UseFenced c (getD (usesBy r t) k use-of.Nothing)
+
+  act-ok : (t : Statement) (x : Act) → verbOf (t .code) ≡ verb.At x → Used (rowOf (verb.At x)) t → Kept (rowOf (verb.At x)) t
+      → TurnOk c d (aimBy c (rowOf (verb.At x)) t) (BadText c d t) (onPlace (workedOf c d (c .items (t .a))) (actAt c d x t))
+  act-ok t act.Set q u r =
+      set-ok (BadText c d t) (t .a) (t .b) (u 0 (omega arith)) (u 1 (omega arith)) (r 0 (omega arith)) (r 1 (omega arith)) (λ k g f. (q, k, g, f))
+  act-ok t act.Clear q u r = at-place (BadText c d t) (t .a) clearAt (r 0 (omega arith)) (clear-ok c d (placeSpan c (c .items (t .a))) (BadText c d t) s letters e v)
+  act-ok t (act.Count up) q u r = at-place (BadText c d t) (t .a) (countAt c d up) (r 0 (omega arith)) (count-ok c d (placeSpan c (c .items (t .a))) (BadText c d t) s letters e v up)
+  act-ok t (act.Case upper) q u r = at-place (BadText c d t) (t .a) (caseAt upper) (r 0 (omega arith)) (case-ok c d (placeSpan c (c .items (t .a))) (BadText c d t) s letters e v upper)
+
+  by-verb : (i : ℕ) (t : Statement) (x : Verb) → verbOf (t .code) ≡ x → Used (rowOf x) t → Kept (rowOf x) t → TurnOk c d (aimBy c (rowOf x) t) (BadText c d t) (turnBy c i d x t)
   unfolding turnBy
-  by-code i (statement.Set a b) u r = set-ok a b (u 0 (omega arith)) (u 1 (omega arith)) (r .each 0 (omega arith)) (r .each 1 (omega arith))
-  by-code i (statement.Clear a) u r = at-place a clearAt (r .each 0 (omega arith)) (clear-ok c d (placeSpan c (c .items a)) ⊥ s letters e v)
-  by-code i (statement.Incr a) u r = at-place a (countAt c d true) (r .each 0 (omega arith)) (count-ok c d (placeSpan c (c .items a)) ⊥ s letters e v true)
-  by-code i (statement.Decr a) u r = at-place a (countAt c d false) (r .each 0 (omega arith)) (count-ok c d (placeSpan c (c .items a)) ⊥ s letters e v false)
-  by-code i (statement.Upcase a) u r = at-place a (caseAt true) (r .each 0 (omega arith)) (case-ok c d (placeSpan c (c .items a)) ⊥ s letters e v true)
-  by-code i (statement.Locase a) u r = at-place a (caseAt false) (r .each 0 (omega arith)) (case-ok c d (placeSpan c (c .items a)) ⊥ s letters e v false)
-  by-code i (statement.Goto target) u r = goes-ok c d Outside ⊥ (flow.Goto target) tt
-  by-code i (statement.IfZero b target) u r = jump-ok b (ifZero target) (if-mild target) (r .each 0 (omega arith))
-  by-code i (statement.Call target) u r = goes-ok c d Outside ⊥ (flow.Call target) tt
-  by-code i statement.Return u r = goes-ok c d Outside ⊥ flow.Return tt
-  by-code i statement.Stop u r = goes-ok c d Outside ⊥ flow.Stop tt
-  by-code i (statement.Computed n b) u r = jump-ok b (choose i n) (choose-mild i n) (r .each 0 (omega arith))
-  by-code i statement.Bad u r = failed-ok c d Outside ⊥ fault.Malformed tt
+  by-verb i t (verb.At x) q u r = act-ok t x q u r
+  by-verb i t verb.Goto q u r = goes-ok c d Outside (BadText c d t) (flow.Goto (t .c)) tt
+  by-verb i t verb.IfZero q u r = jump-ok (BadText c d t) (t .b) (ifZero (t .c)) (if-mild (BadText c d t) (t .c)) (r 1 (omega arith))
+  by-verb i t verb.Call q u r = goes-ok c d Outside (BadText c d t) (flow.Call (t .c)) tt
+  by-verb i t verb.Return q u r = goes-ok c d Outside (BadText c d t) flow.Return tt
+  by-verb i t verb.Stop q u r = goes-ok c d Outside (BadText c d t) flow.Stop tt
+  by-verb i t verb.Computed q u r = jump-ok (BadText c d t) (t .b) (choose i (t .a)) (choose-mild (BadText c d t) i (t .a)) (r 1 (omega arith))
+  by-verb i t verb.Bad q u r = failed-ok c d Outside (BadText c d t) fault.Malformed tt
 
   pub turn-ok : (i : ℕ) → i < c .statements → StatementFenced c (c .statement i) → TurnOk c d (aimOf c (c .statement i)) (BadText c d (c .statement i)) (turnOf c i d)
   unfolding turnOf
-  turn-ok i h r = by-code i (c .statement i) (s .statements i h .uses .each) r
+  turn-ok i h r = by-verb i (c .statement i) (verbOf (c .statement i .code)) refl (s .statements i h .uses .each) (r .each)

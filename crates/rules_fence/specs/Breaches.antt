@@ -20,7 +20,7 @@ use Rattle.rules_unit.specs.declared.Checked.{Checked}
 use Rattle.rules_unit.specs.declared.Checked.the-variants as checked
 use Rattle.rules_unit.specs.Codes.{Code, isDecimal, decimalb, offsetOf, sizeOf, elementAt, endOf}
 use Rattle.rules_unit.specs.Decode.{codeOf}
-use Rattle.rules_unit.specs.Expressions.{usesOf}
+use Rattle.rules_unit.specs.Table.{usesOf}
 use Rattle.rules_unit.specs.Checks.{checkOf}
 use Rattle.rules_run.specs.declared.Span.{Span}
 use Rattle.rules_run.specs.declared.Span.the-variants.{At, Outside}

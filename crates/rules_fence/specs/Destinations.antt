@@ -19,13 +19,15 @@ use Rattle.rules.specs.Moves.{alphaOf}
 use Rattle.rules_unit.specs.declared.Item.{Item}
 use Rattle.rules_unit.specs.declared.Item.the-variants as item
 use Rattle.rules_unit.specs.declared.Statement.{Statement}
-use Rattle.rules_unit.specs.declared.Statement.the-variants as statement
+use Rattle.rules_unit.specs.declared.Act.the-variants as act
+use Rattle.rules_unit.specs.declared.Verb.the-variants as verb
 use Rattle.rules_unit.specs.declared.Sort.{Sort}
 use Rattle.rules_unit.specs.declared.Sort.the-variants as sort
 use Rattle.rules_unit.specs.declared.Use.{Use}
 use Rattle.rules_unit.specs.declared.Use.the-variants as use-of
 use Rattle.rules_unit.specs.Codes.{Code, decimalb, sizeOf, countOf, elementAt}
-use Rattle.rules_unit.specs.Expressions.{sortAt, usesOf}
+use Rattle.rules_unit.specs.Expressions.{sortAt}
+use Rattle.rules_unit.specs.Table.{verbOf, usesOf}
 use Rattle.rules_run.specs.declared.Span.{Span}
 use Rattle.rules_run.specs.declared.Span.the-variants.{At, Outside}
 use Rattle.rules_run.specs.declared.Worked.{Worked}
@@ -98,19 +100,8 @@ textOf c d (worked.Failed e) = []
 
 -- "a bad digit can come only from moving alpha text to a decimal place": a SET of a decimal place from an alpha source, whose text is no number.
 abbrev pub BadText : Code → List ℕ → Statement → Type 0
-BadText c d (statement.Set place source) =
-    (sortAt c place ≡ sort.Decimal)
-    × (alphaSort (sortAt c source) ≡ true)
-    × (alphaOf (c .top) (textOf c d (workedOf c d (c .items source))) ≡ Failed fault.BadDigit)
-BadText c d (statement.Clear place) = ⊥
-BadText c d (statement.Incr place) = ⊥
-BadText c d (statement.Decr place) = ⊥
-BadText c d (statement.Upcase place) = ⊥
-BadText c d (statement.Locase place) = ⊥
-BadText c d (statement.Goto target) = ⊥
-BadText c d (statement.IfZero number target) = ⊥
-BadText c d (statement.Call target) = ⊥
-BadText c d statement.Return = ⊥
-BadText c d statement.Stop = ⊥
-BadText c d (statement.Computed count number) = ⊥
-BadText c d statement.Bad = ⊥
+BadText c d s =
+    (verbOf (s .code) ≡ verb.At act.Set)
+    × (sortAt c (s .a) ≡ sort.Decimal)
+    × (alphaSort (sortAt c (s .b)) ≡ true)
+    × (alphaOf (c .top) (textOf c d (workedOf c d (c .items (s .b)))) ≡ Failed fault.BadDigit)

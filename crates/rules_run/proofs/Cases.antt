@@ -1,16 +1,27 @@
 -- What holds of every turn: an error, a store or a jump is all that a statement answers (document 01, "The coded unit").
---   Jumps P i s    the jumps that the statement s at i may answer have P
+--   MayGo i r s f    f is where the statement s at i, whose row is r, may lead
 -- Assumes nothing.
-use Prim.Native.Nat.{ℕ}
+use Prim.Native.Nat.{ℕ, zero, suc, _+_, _≤_}
+use native.Mathlib.Omega.{arith}
+use mathlib.Core.Path.{_≡_, refl}
+use mathlib.Core.Logic.{_⊎_, inl, inr}
+use lib.Dec.{leb, eqb}
+use borrow.Author.Tests.{leb-true}
 use mathlib.Core.Bool.{Bool, true, false, cond}
 use mathlib.Core.List.{List}
-use lib.IntN.{ℤ}
+use lib.IntN.{ℤ, pos, negsuc, natAbs}
 use Rattle.rules.specs.declared.Fault.{Fault}
 use Rattle.rules.specs.declared.Fault.the-variants as fault
 use Rattle.rules.specs.declared.Num.{Num}
 use Rattle.rules.specs.declared.Num.the-variants.{Value, Failed}
 use Rattle.rules_unit.specs.declared.Statement.{Statement}
-use Rattle.rules_unit.specs.declared.Statement.the-variants as statement
+use Rattle.rules_unit.specs.declared.Act.{Act}
+use Rattle.rules_unit.specs.declared.Act.the-variants as act
+use Rattle.rules_unit.specs.declared.Verb.{Verb}
+use Rattle.rules_unit.specs.declared.Verb.the-variants as verb
+use Rattle.rules_unit.specs.declared.Role.the-variants as role
+use Rattle.rules_unit.specs.declared.Row.{Row}
+use Rattle.rules_unit.specs.Table.{rowOf}
 use Rattle.rules_unit.specs.Codes.{Code}
 use Rattle.rules_run.specs.declared.Worked.{Worked}
 use Rattle.rules_run.specs.declared.Worked.the-variants as worked
@@ -20,22 +31,30 @@ use Rattle.rules_run.specs.declared.Flow.{Flow}
 use Rattle.rules_run.specs.declared.Flow.the-variants as flow
 use Rattle.rules_run.specs.declared.Turn.{Turn}
 use Rattle.rules_run.specs.Evaluation.{workedOf, numberOf}
-use Rattle.rules_run.specs.Turns.{failed, stores, goes, moveNumber, moveNum, moveWorked, onPlace, clearAt, countAt, caseAt, onNumber, ifZero, choose, turnBy}
+use Rattle.rules_run.specs.Turns.{failed, stores, goes, moveNumber, moveNum, moveWorked, onPlace, countAt, caseAt, onNumber, ifZero, choose, actAt, turnBy}
 
-abbrev pub Jumps : (Turn → Type 0) → ℕ → Statement → Type 0
-Jumps P i (statement.Set a b) = Unit {0}
-Jumps P i (statement.Clear a) = Unit {0}
-Jumps P i (statement.Incr a) = Unit {0}
-Jumps P i (statement.Decr a) = Unit {0}
-Jumps P i (statement.Upcase a) = Unit {0}
-Jumps P i (statement.Locase a) = Unit {0}
-Jumps P i (statement.Goto target) = P (goes (flow.Goto target))
-Jumps P i (statement.IfZero b target) = (v : ℤ) → P (goes (ifZero target v))
-Jumps P i (statement.Call target) = P (goes (flow.Call target))
-Jumps P i statement.Return = P (goes flow.Return)
-Jumps P i statement.Stop = P (goes flow.Stop)
-Jumps P i (statement.Computed n b) = (v : ℤ) → P (goes (choose i n v))
-Jumps P i statement.Bad = Unit {0}
+-- The statement s at i may go on at t, by its row: at its target, or no further than one past the GOTO statements behind it.
+abbrev pub Near : ℕ → Row → Statement → ℕ → Type 0
+Near i r s t = ((r .c ≡ role.Target) × (t ≡ s .c)) ⊎ ((r .a ≡ role.Table) × (t ≤ i + s .a + 1))
+
+abbrev pub MayGo : ℕ → Row → Statement → Flow → Type 0
+MayGo i r s flow.Next = Unit {0}
+MayGo i r s (flow.Goto t) = Near i r s t
+MayGo i r s (flow.Call t) = Near i r s t
+MayGo i r s flow.Return = Unit {0}
+MayGo i r s flow.Stop = Unit {0}
+MayGo i r s (flow.Bad e) = ⊥
+
+may-either : (i : ℕ) (r : Row) (s : Statement) (t : Bool) (x y : Flow) → (t ≡ true → MayGo i r s x) → MayGo i r s y → MayGo i r s (cond t x y)
+may-either i r s true x y f g = f refl
+may-either i r s false x y f g = g
+
+choose-may : (i : ℕ) (s : Statement) (v : ℤ) → MayGo i (rowOf verb.Computed) s (choose i (s .a) v)
+choose-may i s (pos zero) = inr (refl, omega arith)
+choose-may i s (pos (suc v)) =
+    may-either i (rowOf verb.Computed) s (leb (suc v) (s .a)) (flow.Goto (i + suc v)) (flow.Goto (i + s .a + 1))
+    (λ e. inr (refl, omega (arith, leb-true (suc v) (s .a) e))) (inr (refl, omega arith))
+choose-may i s (negsuc v) = inr (refl, omega arith)
 
 module _ (P : Turn → Type 0) (fails : (e : Fault) → P (failed e)) (puts : (w : Write) → P (stores w)) where
   by-test : (t : Bool) (x y : Turn) → P x → P y → P (cond t x y)
@@ -72,34 +91,21 @@ module _ (P : Turn → Type 0) (fails : (e : Fault) → P (failed e)) (puts : (w
     by-case : (up decimal : Bool) (a n : ℕ) → P (caseAt up decimal a n)
     by-case up decimal a n = search (by-test, puts, fails)
 
-    pub turn-case : (i : ℕ) (s : Statement) → Jumps P i s → P (turnBy c i d s)
-    unfolding turnBy
-    turn-case i (statement.Set a b) j = by-place (workedOf c d (c .items a)) _ (λ t x n. by-worked t x n (workedOf c d (c .items b)))
-    turn-case i (statement.Clear a) j = by-place (workedOf c d (c .items a)) clearAt (λ t x n. puts (write.Clear x n t))
-    turn-case i (statement.Incr a) j = by-place (workedOf c d (c .items a)) (countAt c d true) (by-count true)
-    turn-case i (statement.Decr a) j = by-place (workedOf c d (c .items a)) (countAt c d false) (by-count false)
-    turn-case i (statement.Upcase a) j = by-place (workedOf c d (c .items a)) (caseAt true) (by-case true)
-    turn-case i (statement.Locase a) j = by-place (workedOf c d (c .items a)) (caseAt false) (by-case false)
-    turn-case i (statement.Goto target) j = j
-    turn-case i (statement.IfZero b target) j = by-jump (numberOf c d (workedOf c d (c .items b))) (ifZero target) j
-    turn-case i (statement.Call target) j = j
-    turn-case i statement.Return j = j
-    turn-case i statement.Stop j = j
-    turn-case i (statement.Computed n b) j = by-jump (numberOf c d (workedOf c d (c .items b))) (choose i n) j
-    turn-case i statement.Bad j = fails fault.Malformed
+    by-act : (x : Act) (s : Statement) (decimal : Bool) (a n : ℕ) → P (actAt c d x s decimal a n)
+    by-act act.Set s decimal a n = by-worked decimal a n (workedOf c d (c .items (s .b)))
+    by-act act.Clear s decimal a n = puts (write.Clear a n decimal)
+    by-act (act.Count up) s decimal a n = by-count up decimal a n
+    by-act (act.Case upper) s decimal a n = by-case upper decimal a n
 
--- Every statement's jumps have P where all jumps have it.
-pub jumps-any : (P : Turn → Type 0) → ((f : Flow) → P (goes f)) → (i : ℕ) (s : Statement) → Jumps P i s
-jumps-any P h i (statement.Set a b) = tt
-jumps-any P h i (statement.Clear a) = tt
-jumps-any P h i (statement.Incr a) = tt
-jumps-any P h i (statement.Decr a) = tt
-jumps-any P h i (statement.Upcase a) = tt
-jumps-any P h i (statement.Locase a) = tt
-jumps-any P h i (statement.Goto target) = h (flow.Goto target)
-jumps-any P h i (statement.IfZero b target) = λ v. h (ifZero target v)
-jumps-any P h i (statement.Call target) = h (flow.Call target)
-jumps-any P h i statement.Return = h flow.Return
-jumps-any P h i statement.Stop = h flow.Stop
-jumps-any P h i (statement.Computed n b) = λ v. h (choose i n v)
-jumps-any P h i statement.Bad = tt
+    pub turn-case : (i : ℕ) (v : Verb) (s : Statement) → ((f : Flow) → MayGo i (rowOf v) s f → P (goes f)) → P (turnBy c i d v s)
+    unfolding turnBy
+    turn-case i (verb.At x) s j = by-place (workedOf c d (c .items (s .a))) (actAt c d x s) (by-act x s)
+    turn-case i verb.Goto s j = j (flow.Goto (s .c)) (inl (refl, refl))
+    turn-case i verb.IfZero s j =
+        by-jump (numberOf c d (workedOf c d (c .items (s .b)))) (ifZero (s .c))
+        (λ z. j (ifZero (s .c) z) (may-either i (rowOf verb.IfZero) s (eqb (natAbs z) 0) (flow.Goto (s .c)) flow.Next (λ e. inl (refl, refl)) tt))
+    turn-case i verb.Call s j = j (flow.Call (s .c)) (inl (refl, refl))
+    turn-case i verb.Return s j = j flow.Return tt
+    turn-case i verb.Stop s j = j flow.Stop tt
+    turn-case i verb.Computed s j = by-jump (numberOf c d (workedOf c d (c .items (s .b)))) (choose i (s .a)) (λ z. j (choose i (s .a) z) (choose-may i s z))
+    turn-case i verb.Bad s j = fails fault.Malformed

@@ -9,22 +9,27 @@ use lib.Dec.{eqb}
 use lib.IntN.{natAbs}
 use lib.ListN.{length, getD}
 use Rattle.rules_unit.specs.declared.Statement.{Statement}
-use Rattle.rules_unit.specs.declared.Statement.the-variants as statement
+use Rattle.rules_unit.specs.declared.Act.{Act}
+use Rattle.rules_unit.specs.declared.Act.the-variants as act
+use Rattle.rules_unit.specs.declared.Verb.{Verb}
+use Rattle.rules_unit.specs.declared.Verb.the-variants as verb
+use Rattle.rules_unit.specs.declared.Row.{Row}
+use Rattle.rules_unit.specs.Table.{verbOf, rowOf, usesBy}
 use Rattle.rules_unit.specs.declared.Sort.{Sort}
 use Rattle.rules_unit.specs.declared.Sort.the-variants as sort
 use Rattle.rules_unit.specs.declared.Want.{Want}
 use Rattle.rules_unit.specs.declared.Want.the-variants as want
 use Rattle.rules_unit.specs.declared.Use.the-variants as use-of
 use Rattle.rules_unit.specs.Codes.{Code}
-use Rattle.rules_unit.specs.Expressions.{placeSort, sortAt, usesOf, suits, useb}
-use Rattle.rules_unit.specs.Sound.{FormSound, StatementSound}
+use Rattle.rules_unit.specs.Expressions.{placeSort, sortAt, suits, useb}
+use Rattle.rules_unit.specs.Sound.{RowSound, StatementSound}
 use Rattle.rules_run.specs.declared.Worked.{Worked}
 use Rattle.rules_run.specs.declared.Worked.the-variants as worked
 use Rattle.rules_run.specs.declared.Write.the-variants as write
 use Rattle.rules_run.specs.declared.Flow.the-variants as flow
 use Rattle.rules_run.specs.declared.Turn.{Turn}
 use Rattle.rules_run.specs.Evaluation.{readAt, workedOf, numberOf}
-use Rattle.rules_run.specs.Turns.{onPlace, clearAt, counted, countAt, caseAt, ifZero, choose, turnBy, turnOf}
+use Rattle.rules_run.specs.Turns.{onPlace, clearAt, counted, countAt, caseAt, ifZero, choose, actAt, turnBy, turnOf}
 use Rattle.rules_run.proofs.Faults.{passes}
 use Rattle.rules_run.proofs.Formed.{formedb}
 use Rattle.rules_run.proofs.Comes.{Comes}
@@ -74,28 +79,30 @@ module _ (c : Code) (d : List ℕ) where
       by (worked.Failed f) m = m
 
   -- All uses of a statement are of the sort that is wanted.
-  abbrev Used : Statement → Type 0
-  Used s = (k : ℕ) → k < length (usesOf s) → useb c (getD (usesOf s) k use-of.Nothing) ≡ true
+  abbrev Used : Row → Statement → Type 0
+  Used r s = (k : ℕ) → k < length (usesBy r s) → useb c (getD (usesBy r s) k use-of.Nothing) ≡ true
 
-  formed-by : (i : ℕ) (s : Statement) → FormSound c i s → Used s → Formed (turnBy c i d s)
+  formed-act : (x : Act) (s : Statement) → Used (rowOf (verb.At x)) s → Formed (onPlace (workedOf c d (c .items (s .a))) (actAt c d x s))
+  formed-act act.Set s u =
+      formed-place want.Place (s .a) (actAt c d act.Set s) refl refl (u 0 (omega arith))
+      (λ t x n q. formed-worked c d (sortAt c (s .b)) t x n (workedOf c d (c .items (s .b))) (sort-comes c d (s .b) (suits-right want.Source (sortAt c (s .b)) (u 1 (omega arith)))))
+  formed-act act.Clear s u = formed-place want.Place (s .a) clearAt refl refl (u 0 (omega arith)) (λ t x n q. formed-stores (write.Clear x n t))
+  formed-act (act.Count up) s u = formed-place want.DecimalPlace (s .a) (countAt c d up) refl refl (u 0 (omega arith)) (formed-count up)
+  formed-act (act.Case upper) s u = formed-place want.AlphaPlace (s .a) (caseAt upper) refl refl (u 0 (omega arith)) (formed-case upper)
+
+  formed-by : (i : ℕ) (v : Verb) (s : Statement) → RowSound c i (rowOf v) s → Used (rowOf v) s → Formed (turnBy c i d v s)
   unfolding turnBy
-  formed-by i (statement.Set a b) f u =
-      formed-place want.Place a _ refl refl (u 0 (omega arith))
-      (λ t x n q. formed-worked c d (sortAt c b) t x n (workedOf c d (c .items b)) (sort-comes c d b (suits-right want.Source (sortAt c b) (u 1 (omega arith)))))
-  formed-by i (statement.Clear a) f u = formed-place want.Place a clearAt refl refl (u 0 (omega arith)) (λ t x n q. formed-stores (write.Clear x n t))
-  formed-by i (statement.Incr a) f u = formed-place want.DecimalPlace a (countAt c d true) refl refl (u 0 (omega arith)) (formed-count true)
-  formed-by i (statement.Decr a) f u = formed-place want.DecimalPlace a (countAt c d false) refl refl (u 0 (omega arith)) (formed-count false)
-  formed-by i (statement.Upcase a) f u = formed-place want.AlphaPlace a (caseAt true) refl refl (u 0 (omega arith)) (formed-case true)
-  formed-by i (statement.Locase a) f u = formed-place want.AlphaPlace a (caseAt false) refl refl (u 0 (omega arith)) (formed-case false)
-  formed-by i (statement.Goto target) f u = record { formed = refl }
-  formed-by i (statement.IfZero b target) f u =
-      formed-on (numberOf c d (workedOf c d (c .items b))) (ifZero target) (number-formed b (u 0 (omega arith))) (λ v. flow-cond (eqb (natAbs v) 0) (flow.Goto target) flow.Next refl refl)
-  formed-by i (statement.Call target) f u = record { formed = refl }
-  formed-by i statement.Return f u = record { formed = refl }
-  formed-by i statement.Stop f u = record { formed = refl }
-  formed-by i (statement.Computed n b) f u = formed-on (numberOf c d (workedOf c d (c .items b))) (choose i n) (number-formed b (u 0 (omega arith))) (formed-choose i n)
-  formed-by i statement.Bad f u = absurd f
+  formed-by i (verb.At x) s f u = formed-act x s u
+  formed-by i verb.Goto s f u = record { formed = refl }
+  formed-by i verb.IfZero s f u =
+      formed-on (numberOf c d (workedOf c d (c .items (s .b)))) (ifZero (s .c)) (number-formed (s .b) (u 1 (omega arith))) (λ v. flow-cond (eqb (natAbs v) 0) (flow.Goto (s .c)) flow.Next refl refl)
+  formed-by i verb.Call s f u = record { formed = refl }
+  formed-by i verb.Return s f u = record { formed = refl }
+  formed-by i verb.Stop s f u = record { formed = refl }
+  formed-by i verb.Computed s f u =
+      formed-on (numberOf c d (workedOf c d (c .items (s .b)))) (choose i (s .a)) (number-formed (s .b) (u 1 (omega arith))) (formed-choose i (s .a))
+  formed-by i verb.Bad s f u = absurd (f .of-a)
 
   pub turn-formed : (i : ℕ) → StatementSound c i → formedFlow (turnOf c i d .flow) ≡ true
   unfolding turnOf
-  turn-formed i s = formed-by i (c .statement i) (s .shape .form) (s .uses .each) .formed
+  turn-formed i s = formed-by i (verbOf (c .statement i .code)) (c .statement i) (s .shape .parts) (s .uses .each) .formed

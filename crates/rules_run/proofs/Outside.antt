@@ -16,12 +16,13 @@ use Rattle.rules.specs.Moves.{written, shown, fitted}
 use Rattle.rules.proofs.Decimals.{length-written, length-shown, length-fitted, length-upcased, length-locased, length-blanks, length-zeros}
 use Rattle.rules.specs.declared.Fault.{Fault}
 use Rattle.rules_unit.specs.Codes.{Code}
+use Rattle.rules_unit.specs.Table.{verbOf}
 use Rattle.rules_run.specs.declared.Flow.the-variants as flow
 use Rattle.rules_run.specs.declared.Turn.{Turn}
 use Rattle.rules_run.specs.declared.Write.{Write}
 use Rattle.rules_run.specs.declared.Write.the-variants as write
 use Rattle.rules_run.specs.Turns.{stored, cased, cleared, applied, Room, turnOf}
-use Rattle.rules_run.proofs.Cases.{turn-case, jumps-any}
+use Rattle.rules_run.proofs.Cases.{turn-case}
 use Rattle.rules_run.proofs.Stored.{stored-low, stored-high, stored-length, stored-none}
 
 -- ---- the span of a store
@@ -115,8 +116,8 @@ module _ (c : Code) (d : List ℕ) where
 pub error-stores-nothing : (c : Code) (i : ℕ) (d : List ℕ) (e : Fault) → turnOf c i d .flow ≡ flow.Bad e → turnOf c i d .write ≡ write.Nothing
 unfolding turnOf
 error-stores-nothing c i d =
-    turn-case Quiet (λ e f q. refl) (λ w e q. let z : _≡_ {A = ℕ} 0 1 = cc in absurd (omega arith)) c d i (c .statement i)
-    (jumps-any Quiet (λ f e q. refl) i (c .statement i))
+    turn-case Quiet (λ e f q. refl) (λ w e q. let z : _≡_ {A = ℕ} 0 1 = cc in absurd (omega arith)) c d i (verbOf (c .statement i .code)) (c .statement i)
+    (λ f l e q. refl)
   where
     Quiet : Turn → Type 0
     Quiet t = (e : Fault) → t .flow ≡ flow.Bad e → t .write ≡ write.Nothing

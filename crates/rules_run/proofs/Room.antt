@@ -19,14 +19,18 @@ use Rattle.rules.proofs.Range.{InRange, range-kept}
 use Rattle.rules.proofs.Answers.{range-alpha}
 use Rattle.rules_unit.specs.declared.Item.{Item}
 use Rattle.rules_unit.specs.declared.Statement.{Statement}
-use Rattle.rules_unit.specs.declared.Statement.the-variants as statement
+use Rattle.rules_unit.specs.declared.Act.{Act}
+use Rattle.rules_unit.specs.declared.Act.the-variants as act
+use Rattle.rules_unit.specs.declared.Verb.{Verb}
+use Rattle.rules_unit.specs.declared.Verb.the-variants as verb
+use Rattle.rules_unit.specs.Table.{verbOf}
 use Rattle.rules_unit.specs.Codes.{Code}
 use Rattle.rules_run.specs.declared.Worked.{Worked}
 use Rattle.rules_run.specs.declared.Worked.the-variants as worked
 use Rattle.rules_run.specs.declared.Flow.{Flow}
 use Rattle.rules_run.specs.declared.Turn.{Turn}
 use Rattle.rules_run.specs.Evaluation.{readAt, workedOf, numberOf}
-use Rattle.rules_run.specs.Turns.{Room, failed, moveNum, moveWorked, onPlace, clearAt, counted, countAt, caseAt, onNumber, ifZero, choose, turnBy, turnOf}
+use Rattle.rules_run.specs.Turns.{Room, failed, moveNum, moveWorked, onPlace, counted, countAt, caseAt, onNumber, ifZero, choose, actAt, turnBy, turnOf}
 use Rattle.rules_run.proofs.Ranges.{range-up, read-range}
 use Rattle.rules_run.proofs.Bounded.{Bounded, worked-bounded}
 
@@ -95,22 +99,23 @@ module _ (c : Code) (d : List ℕ) (limit : Limit (c .limit)) (bound : Top (c .t
   fits : (is : List Item) → Bounded (10 ^ 18) c (length d) (workedOf c d is)
   fits = worked-bounded c d (10 ^ 18) (omega arith) (bound .most) most
 
-  fit-by : (i : ℕ) (s : Statement) → Fit (turnBy c i d s)
+  fit-act : (x : Act) (s : Statement) (decimal : Bool) (a n : ℕ) → At decimal a n → Fit (actAt c d x s decimal a n)
+  fit-act act.Set s decimal a n p = fit-worked decimal a n p (workedOf c d (c .items (s .b))) (fits (c .items (s .b)))
+  fit-act act.Clear s decimal a n p = record { room = p .0 }
+  fit-act (act.Count up) s decimal a n p = fit-count up decimal a n p
+  fit-act (act.Case upper) s decimal a n p = fit-case upper decimal a n p
+
+  fit-by : (i : ℕ) (v : Verb) (s : Statement) → Fit (turnBy c i d v s)
   unfolding turnBy
-  fit-by i (statement.Set a b) = fit-place (workedOf c d (c .items a)) _ (fits (c .items a)) (λ t x n p. fit-worked t x n p (workedOf c d (c .items b)) (fits (c .items b)))
-  fit-by i (statement.Clear a) = fit-place (workedOf c d (c .items a)) clearAt (fits (c .items a)) (λ t x n p. record { room = p .0 })
-  fit-by i (statement.Incr a) = fit-place (workedOf c d (c .items a)) (countAt c d true) (fits (c .items a)) (fit-count true)
-  fit-by i (statement.Decr a) = fit-place (workedOf c d (c .items a)) (countAt c d false) (fits (c .items a)) (fit-count false)
-  fit-by i (statement.Upcase a) = fit-place (workedOf c d (c .items a)) (caseAt true) (fits (c .items a)) (fit-case true)
-  fit-by i (statement.Locase a) = fit-place (workedOf c d (c .items a)) (caseAt false) (fits (c .items a)) (fit-case false)
-  fit-by i (statement.Goto target) = record { room = tt }
-  fit-by i (statement.IfZero b target) = fit-jump (numberOf c d (workedOf c d (c .items b))) (ifZero target)
-  fit-by i (statement.Call target) = record { room = tt }
-  fit-by i statement.Return = record { room = tt }
-  fit-by i statement.Stop = record { room = tt }
-  fit-by i (statement.Computed n b) = fit-jump (numberOf c d (workedOf c d (c .items b))) (choose i n)
-  fit-by i statement.Bad = fit-failed fault.Malformed
+  fit-by i (verb.At x) s = fit-place (workedOf c d (c .items (s .a))) (actAt c d x s) (fits (c .items (s .a))) (fit-act x s)
+  fit-by i verb.Goto s = record { room = tt }
+  fit-by i verb.IfZero s = fit-jump (numberOf c d (workedOf c d (c .items (s .b)))) (ifZero (s .c))
+  fit-by i verb.Call s = record { room = tt }
+  fit-by i verb.Return s = record { room = tt }
+  fit-by i verb.Stop s = record { room = tt }
+  fit-by i verb.Computed s = fit-jump (numberOf c d (workedOf c d (c .items (s .b)))) (choose i (s .a))
+  fit-by i verb.Bad s = fit-failed fault.Malformed
 
   pub turn-room : (i : ℕ) → Room c (length d) (turnOf c i d .write)
   unfolding turnOf
-  turn-room i = fit-by i (c .statement i) .room
+  turn-room i = fit-by i (verbOf (c .statement i .code)) (c .statement i) .room

@@ -1,32 +1,33 @@
 -- A run of a sound unit from a sound state hands back a sound state (document 01, "Stops and their numbers").
 --   FlowSound n f    f leads to a statement of n, or to the end
 -- Assumes nothing.
-use Prim.Native.Nat.{ℕ, zero, suc, _+_, _<_, _≤_}
+use Prim.Native.Nat.{ℕ, _<_, _≤_}
 use native.Mathlib.Omega.{arith}
 use mathlib.Core.Path.{_≡_, refl, subst}
 use mathlib.Core.Bool.{Bool, true, false, cond}
 use mathlib.Core.List.{List}
-use lib.Dec.{ltb, leb, eqb}
-use lib.IntN.{ℤ, pos, negsuc, natAbs}
-use borrow.Author.Tests.{ltb-true, leb-true, eqb-false}
+use mathlib.Core.Logic.{inl, inr}
+use lib.Dec.{ltb, eqb}
+use borrow.Author.Tests.{ltb-true, eqb-false}
 use Rattle.rules.specs.declared.Fault.the-variants as fault
 use Rattle.rules_unit.specs.declared.Statement.{Statement}
-use Rattle.rules_unit.specs.declared.Statement.the-variants as statement
+use Rattle.rules_unit.specs.declared.Role.{Role}
+use Rattle.rules_unit.specs.declared.Row.{Row}
+use Rattle.rules_unit.specs.Table.{verbOf, rowOf}
 use Rattle.rules_unit.specs.declared.Parts.{Parts}
 use Rattle.rules_unit.specs.declared.Checked.the-variants as checked
 use Rattle.rules_unit.specs.Codes.{Code}
 use Rattle.rules_unit.specs.Decode.{codeOf}
 use Rattle.rules_unit.specs.Checks.{checkOf}
-use Rattle.rules_unit.specs.Sound.{TableSound, FormSound, StatementSound, SoundCode}
+use Rattle.rules_unit.specs.Sound.{TableSound, RoleSound, RowSound, StatementSound, SoundCode}
 use Rattle.rules_unit.proofs.Sound.{passed-sound}
 use Rattle.rules_run.specs.declared.Flow.{Flow}
 use Rattle.rules_run.specs.declared.Flow.the-variants as flow
-use Rattle.rules_run.specs.declared.Turn.{Turn}
 use Rattle.rules_run.specs.declared.State.{State}
-use Rattle.rules_run.specs.Turns.{choose, turnOf}
+use Rattle.rules_run.specs.Turns.{turnOf}
 use Rattle.rules_run.specs.States.{Sound, called, returned}
 use Rattle.rules_run.specs.Runs.{Moved, to, stuck, movedBy, runFrom, runOf}
-use Rattle.rules_run.proofs.Cases.{Jumps, turn-case}
+use Rattle.rules_run.proofs.Cases.{Near, MayGo, turn-case}
 use Rattle.rules_run.proofs.States.{gone-sound, called-sound, returned-sound}
 use Rattle.rules_run.proofs.Steps.{every-run}
 use Rattle.rules_run.proofs.Calls.{every-call}
@@ -41,38 +42,24 @@ FlowSound n (flow.Bad e) = Unit {0}
 
 -- ---- where a statement leads
 
-flow-either : (n : ℕ) (t : Bool) (x y : Flow) → (t ≡ true → FlowSound n x) → FlowSound n y → FlowSound n (cond t x y)
-flow-either n true x y f g = f refl
-flow-either n false x y f g = g
-
 module _ (c : Code) (i : ℕ) where
-  choose-sound : (n : ℕ) → TableSound c i n → (v : ℤ) → FlowSound (c .statements) (choose i n v)
-  choose-sound n t (pos zero) = omega (arith, t .inside)
-  choose-sound n t (pos (suc v)) =
-      flow-either (c .statements) (leb (suc v) n) (flow.Goto (i + suc v)) (flow.Goto (i + n + 1)) (λ e. omega (arith, t .inside, leb-true (suc v) n e)) (omega (arith, t .inside))
-  choose-sound n t (negsuc v) = omega (arith, t .inside)
+  near-sound : (r : Row) (s : Statement) → RowSound c i r s → (t : ℕ) → Near i r s t → t ≤ c .statements
+  near-sound r s f t (inl (q, e)) = let low : s .c < c .statements = subst (λ (x : Role). RoleSound c i x (s .c)) q (f .of-c) in omega arith
+  near-sound r s f t (inr (q, l)) = let table : TableSound c i (s .a) = subst (λ (x : Role). RoleSound c i x (s .a)) q (f .of-a) in omega (arith, table .inside)
 
-  abbrev Leads : Turn → Type 0
-  Leads t = FlowSound (c .statements) (t .flow)
-
-  jumps-sound : (s : Statement) → FormSound c i s → Jumps Leads i s
-  jumps-sound (statement.Set a b) f = tt
-  jumps-sound (statement.Clear a) f = tt
-  jumps-sound (statement.Incr a) f = tt
-  jumps-sound (statement.Decr a) f = tt
-  jumps-sound (statement.Upcase a) f = tt
-  jumps-sound (statement.Locase a) f = tt
-  jumps-sound (statement.Goto target) f = omega arith
-  jumps-sound (statement.IfZero b target) f = λ v. flow-either (c .statements) (eqb (natAbs v) 0) (flow.Goto target) flow.Next (λ e. omega arith) tt
-  jumps-sound (statement.Call target) f = omega arith
-  jumps-sound statement.Return f = tt
-  jumps-sound statement.Stop f = tt
-  jumps-sound (statement.Computed n b) f = λ v. choose-sound n f v
-  jumps-sound statement.Bad f = tt
+  may-sound : (r : Row) (s : Statement) → RowSound c i r s → (f : Flow) → MayGo i r s f → FlowSound (c .statements) f
+  may-sound r s f flow.Next l = tt
+  may-sound r s f (flow.Goto t) l = near-sound r s f t l
+  may-sound r s f (flow.Call t) l = near-sound r s f t l
+  may-sound r s f flow.Return l = tt
+  may-sound r s f flow.Stop l = tt
+  may-sound r s f (flow.Bad e) l = tt
 
   pub flow-sound : (d : List ℕ) → StatementSound c i → FlowSound (c .statements) (turnOf c i d .flow)
   unfolding turnOf
-  flow-sound d s = turn-case Leads (λ e. tt) (λ w. tt) c d i (c .statement i) (jumps-sound (c .statement i) (s .shape .form))
+  flow-sound d s =
+      turn-case (λ t. FlowSound (c .statements) (t .flow)) (λ e. tt) (λ w. tt) c d i (verbOf (c .statement i .code)) (c .statement i)
+      (may-sound (rowOf (verbOf (c .statement i .code))) (c .statement i) (s .shape .parts))
 
 -- ---- the state that it leads to
 

@@ -17,7 +17,11 @@ use Rattle.rules.specs.Values.{Val}
 use Rattle.rules.specs.Arithmetic.{addOf, subOf}
 use Rattle.rules.specs.Moves.{written, shown, alphaOf, fitted, upcased, locased, blanks, zeros}
 use Rattle.rules_unit.specs.declared.Statement.{Statement}
-use Rattle.rules_unit.specs.declared.Statement.the-variants as statement
+use Rattle.rules_unit.specs.declared.Act.{Act}
+use Rattle.rules_unit.specs.declared.Act.the-variants as act
+use Rattle.rules_unit.specs.declared.Verb.{Verb}
+use Rattle.rules_unit.specs.declared.Verb.the-variants as verb
+use Rattle.rules_unit.specs.Table.{verbOf}
 use Rattle.rules_unit.specs.Codes.{Code}
 use Rattle.rules_run.specs.declared.Worked.{Worked}
 use Rattle.rules_run.specs.declared.Worked.the-variants as worked
@@ -144,20 +148,23 @@ choose i n (negsuc v) = flow.Goto (i + n + 1)
 
 -- ---- statements, in the order of document 01
 
-unfoldable pub turnBy : Code → ℕ → List ℕ → Statement → Turn
-turnBy c i d (statement.Set a b) = onPlace (workedOf c d (c .items a)) (λ decimal x n. moveWorked c d decimal x n (workedOf c d (c .items b)))
-turnBy c i d (statement.Clear a) = onPlace (workedOf c d (c .items a)) clearAt
-turnBy c i d (statement.Incr a) = onPlace (workedOf c d (c .items a)) (countAt c d true)
-turnBy c i d (statement.Decr a) = onPlace (workedOf c d (c .items a)) (countAt c d false)
-turnBy c i d (statement.Upcase a) = onPlace (workedOf c d (c .items a)) (caseAt true)
-turnBy c i d (statement.Locase a) = onPlace (workedOf c d (c .items a)) (caseAt false)
-turnBy c i d (statement.Goto target) = goes (flow.Goto target)
-turnBy c i d (statement.IfZero b target) = onNumber (numberOf c d (workedOf c d (c .items b))) (ifZero target)
-turnBy c i d (statement.Call target) = goes (flow.Call target)
-turnBy c i d statement.Return = goes flow.Return
-turnBy c i d statement.Stop = goes flow.Stop
-turnBy c i d (statement.Computed n b) = onNumber (numberOf c d (workedOf c d (c .items b))) (choose i n)
-turnBy c i d statement.Bad = failed fault.Malformed
+-- What the statement s does at a place that was found.
+abbrev pub actAt : Code → List ℕ → Act → Statement → Bool → ℕ → ℕ → Turn
+actAt c d act.Set s decimal x n = moveWorked c d decimal x n (workedOf c d (c .items (s .b)))
+actAt c d act.Clear s decimal x n = clearAt decimal x n
+actAt c d (act.Count up) s decimal x n = countAt c d up decimal x n
+actAt c d (act.Case upper) s decimal x n = caseAt upper decimal x n
+
+-- The statement s at i, of the verb given.
+unfoldable pub turnBy : Code → ℕ → List ℕ → Verb → Statement → Turn
+turnBy c i d (verb.At x) s = onPlace (workedOf c d (c .items (s .a))) (actAt c d x s)
+turnBy c i d verb.Goto s = goes (flow.Goto (s .c))
+turnBy c i d verb.IfZero s = onNumber (numberOf c d (workedOf c d (c .items (s .b)))) (ifZero (s .c))
+turnBy c i d verb.Call s = goes (flow.Call (s .c))
+turnBy c i d verb.Return s = goes flow.Return
+turnBy c i d verb.Stop s = goes flow.Stop
+turnBy c i d verb.Computed s = onNumber (numberOf c d (workedOf c d (c .items (s .b)))) (choose i (s .a))
+turnBy c i d verb.Bad s = failed fault.Malformed
 
 unfoldable pub turnOf : Code → ℕ → List ℕ → Turn
-turnOf c i d = turnBy c i d (c .statement i)
+turnOf c i d = turnBy c i d (verbOf (c .statement i .code)) (c .statement i)

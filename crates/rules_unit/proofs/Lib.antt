@@ -3,3 +3,4 @@ pub mod Tells
 pub mod Fields
 pub mod Statements
 pub mod Sound
+pub mod Table

@@ -10,7 +10,9 @@ use borrow.Author.Tests.{ltb-true, ltb-false}
 use lib.ListN.{length, getD}
 use Rattle.rules_unit.specs.declared.Parts.{Parts}
 use Rattle.rules_unit.specs.declared.Statement.{Statement}
-use Rattle.rules_unit.specs.declared.Statement.the-variants as statement
+use Rattle.rules_unit.specs.declared.Role.{Role}
+use Rattle.rules_unit.specs.declared.Role.the-variants as role
+use Rattle.rules_unit.specs.declared.Row.{Row}
 use Rattle.rules_unit.specs.declared.Use.{Use}
 use Rattle.rules_unit.specs.declared.Use.the-variants as use-of
 use Rattle.rules_unit.specs.declared.Found.{Found}
@@ -20,9 +22,10 @@ use Rattle.rules_unit.specs.declared.Checked.{Checked}
 use Rattle.rules_unit.specs.declared.Checked.the-variants as checked
 use Rattle.rules_unit.specs.Codes.{Code}
 use Rattle.rules_unit.specs.Decode.{codeOf}
-use Rattle.rules_unit.specs.Expressions.{usesOf, useb, usesb}
-use Rattle.rules_unit.specs.Checks.{isGoto, gotosb, tableb, formb, shapeb, foundOf, onward, statementsFrom}
-use Rattle.rules_unit.specs.Sound.{TableSound, FormSound, ShapeSound, UsesSound, StatementSound}
+use Rattle.rules_unit.specs.Table.{verbOf, rowOf, usesOf}
+use Rattle.rules_unit.specs.Expressions.{useb, usesb}
+use Rattle.rules_unit.specs.Checks.{isGoto, gotosb, tableb, roleb, rowb, shapeb, foundOf, onward, statementsFrom}
+use Rattle.rules_unit.specs.Sound.{TableSound, RoleSound, RowSound, ShapeSound, UsesSound, StatementSound}
 use Rattle.rules_unit.specs.Answers.{FirstStatement, FirstExpression}
 use Rattle.rules_unit.proofs.Tells.{Tells, tells-lt, tells-eq, tells-true, tells-false, tells-as, tells-and, tells-from, tells-no, tells-fails, one-more}
 
@@ -59,26 +62,25 @@ module _ (c : Code) where
       (λ r. (r .least, (r .most, (r .inside, λ j g h. r .gotos j (omega arith) (omega arith)))))
       (tells-from n 1 (tells-from 255 n (tells-and (tells-lt (i + n) (c .statements)) (gotos-tell n (i + 1)))))
 
-  form-tells : (i : ℕ) (s : Statement) → Tells (formb c i s) (FormSound c i s)
-  form-tells i (statement.Set place source) = tells-true
-  form-tells i (statement.Clear place) = tells-true
-  form-tells i (statement.Incr place) = tells-true
-  form-tells i (statement.Decr place) = tells-true
-  form-tells i (statement.Upcase place) = tells-true
-  form-tells i (statement.Locase place) = tells-true
-  form-tells i (statement.Goto target) = tells-lt target (c .statements)
-  form-tells i (statement.IfZero number target) = tells-lt target (c .statements)
-  form-tells i (statement.Call target) = tells-lt target (c .statements)
-  form-tells i statement.Return = tells-true
-  form-tells i statement.Stop = tells-true
-  form-tells i (statement.Computed count number) = table-tells i count
-  form-tells i statement.Bad = tells-false
+  role-tells : (i : ℕ) (r : Role) (x : ℕ) → Tells (roleb c i r x) (RoleSound c i r x)
+  role-tells i role.Unused x = tells-eq x 0
+  role-tells i (role.Written w) x = tells-true
+  role-tells i (role.Read w) x = tells-true
+  role-tells i role.Target x = tells-lt x (c .statements)
+  role-tells i role.Table x = table-tells i x
+  role-tells i role.Never x = tells-false
+
+  row-tells : (i : ℕ) (r : Row) (s : Statement) → Tells (rowb c i r s) (RowSound c i r s)
+  unfolding rowb
+  row-tells i r s =
+      tells-as (λ q. record { of-a = q .0; of-b = q .1 .0; of-c = q .1 .1 }) (λ q. (q .of-a, (q .of-b, q .of-c)))
+      (tells-and (role-tells i (r .a) (s .a)) (tells-and (role-tells i (r .b) (s .b)) (role-tells i (r .c) (s .c))))
 
   shape-tells : (i : ℕ) → Tells (shapeb c i) (ShapeSound c i)
   unfolding shapeb
   shape-tells i =
-      tells-as (λ r. record { blank = r .0; form = r .1 }) (λ r. (r .blank, r .form))
-      (tells-and (tells-eq (c .unused i) 0) (form-tells i (c .statement i)))
+      tells-as (λ r. record { blank = r .0; parts = r .1 }) (λ r. (r .blank, r .parts))
+      (tells-and (tells-eq (c .statement i .zero) 0) (row-tells i (rowOf (verbOf (c .statement i .code))) (c .statement i)))
 
   -- ---- 4
 

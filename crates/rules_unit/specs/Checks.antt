@@ -2,6 +2,7 @@
 --   filledb u                 check 1
 --   rangesb p                 check 2
 --   entryb c i floor          check 3 of the entry i; goodFields counts the entries that pass, from the first on
+--   roleb c i r x             whether the part x of the statement i is right, by its role; rowb c i r s all three parts
 --   shapeb c i                check 5 of the statement i; foundOf c i is 5 before 4
 --   checkOf u                 the check
 --   refusalNumber, refusalPlace    the table's number and place of a refusal
@@ -13,7 +14,9 @@ use mathlib.Core.List.{List}
 use lib.ListN.{length, getD}
 use Rattle.rules_unit.specs.declared.Parts.{Parts}
 use Rattle.rules_unit.specs.declared.Statement.{Statement}
-use Rattle.rules_unit.specs.declared.Statement.the-variants as statement
+use Rattle.rules_unit.specs.declared.Role.{Role}
+use Rattle.rules_unit.specs.declared.Role.the-variants as role
+use Rattle.rules_unit.specs.declared.Row.{Row}
 use Rattle.rules_unit.specs.declared.Found.{Found}
 use Rattle.rules_unit.specs.declared.Found.the-variants as found
 use Rattle.rules_unit.specs.declared.Refusal.{Refusal}
@@ -22,7 +25,8 @@ use Rattle.rules_unit.specs.declared.Checked.{Checked}
 use Rattle.rules_unit.specs.declared.Checked.the-variants as checked
 use Rattle.rules_unit.specs.Codes.{Code, isBad, decimalb, recordb, offsetOf, sizeOf, countOf, endOf}
 use Rattle.rules_unit.specs.Decode.{partsOf, fullLength, codeOf}
-use Rattle.rules_unit.specs.Expressions.{usesOf, usesb}
+use Rattle.rules_unit.specs.Table.{verbOf, rowOf, usesOf}
+use Rattle.rules_unit.specs.Expressions.{usesb}
 
 -- "3 | .. | first such entry", "4 | .. | statement", "5 | .. | statement"
 abbrev pub refusalNumber : Refusal → ℕ
@@ -83,20 +87,9 @@ goodFields c (suc k) i floor = let rest = goodFields c k (i + 1) (floorAfter c i
 
 -- ---- statements
 
+-- "7 GOTO c"
 abbrev pub isGoto : Statement → Bool
-isGoto (statement.Set place source) = false
-isGoto (statement.Clear place) = false
-isGoto (statement.Incr place) = false
-isGoto (statement.Decr place) = false
-isGoto (statement.Upcase place) = false
-isGoto (statement.Locase place) = false
-isGoto (statement.Goto target) = true
-isGoto (statement.IfZero number target) = false
-isGoto (statement.Call target) = false
-isGoto statement.Return = false
-isGoto statement.Stop = false
-isGoto (statement.Computed count number) = false
-isGoto statement.Bad = false
+isGoto s = eqb (s .code) 7
 
 -- The k statements from i on are GOTO statements.
 unfoldable pub gotosb : Code → ℕ → ℕ → Bool
@@ -108,25 +101,21 @@ unfoldable pub tableb : Code → ℕ → ℕ → Bool
 tableb c i n =
     cond (ltb n 1) false (cond (ltb 255 n) false (cond (ltb (i + n) (c .statements)) (gotosb c n (i + 1)) false))
 
--- "Targets are below N."
-abbrev pub formb : Code → ℕ → Statement → Bool
-formb c i (statement.Set place source) = true
-formb c i (statement.Clear place) = true
-formb c i (statement.Incr place) = true
-formb c i (statement.Decr place) = true
-formb c i (statement.Upcase place) = true
-formb c i (statement.Locase place) = true
-formb c i (statement.Goto target) = ltb target (c .statements)
-formb c i (statement.IfZero number target) = ltb target (c .statements)
-formb c i (statement.Call target) = ltb target (c .statements)
-formb c i statement.Return = true
-formb c i statement.Stop = true
-formb c i (statement.Computed count number) = tableb c i count
-formb c i statement.Bad = false
+-- "Unused parts are zero."; "Targets are below N."
+abbrev pub roleb : Code → ℕ → Role → ℕ → Bool
+roleb c i role.Unused x = eqb x 0
+roleb c i (role.Written w) x = true
+roleb c i (role.Read w) x = true
+roleb c i role.Target x = ltb x (c .statements)
+roleb c i role.Table x = tableb c i x
+roleb c i role.Never x = false
+
+unfoldable pub rowb : Code → ℕ → Row → Statement → Bool
+rowb c i r s = cond (roleb c i (r .a) (s .a)) (cond (roleb c i (r .b) (s .b)) (roleb c i (r .c) (s .c)) false) false
 
 -- "5 | statement code, zero part, count or target wrong"
 unfoldable pub shapeb : Code → ℕ → Bool
-shapeb c i = cond (eqb (c .unused i) 0) (formb c i (c .statement i)) false
+shapeb c i = cond (eqb (c .statement i .zero) 0) (rowb c i (rowOf (verbOf (c .statement i .code))) (c .statement i)) false
 
 -- "5 before a's 4 before b's 4": both 4 name the statement
 unfoldable pub foundOf : Code → ℕ → Found

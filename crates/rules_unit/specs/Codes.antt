@@ -27,8 +27,6 @@ pub record Code : Type 0 where
   pub items : ℕ → List Item
   pub statements : ℕ
   pub statement : ℕ → Statement
-  -- the zero byte and the unused parts of a statement, added up
-  pub unused : ℕ → ℕ
 
 abbrev pub isDecimal : Kind → Bool
 isDecimal kind.Alpha = false

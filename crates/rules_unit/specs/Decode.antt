@@ -2,7 +2,7 @@
 --   wordAt u at            a number of two bytes
 --   partsOf u              the trailer; Dialect p, what is asked of its dialect
 --   fieldsAt .. fullLength where each part starts, and the length that they fill; Fills u p says that they do
---   fieldAt, statementAt, unusedAt u at    an entry at an offset of the unit
+--   fieldAt, statementAt u at    an entry at an offset of the unit
 --   itemAt s at            an item at an offset of the expressions s; itemsAt the expression that starts there
 --   codeOf u p             the whole
 -- Assumes nothing.
@@ -23,7 +23,6 @@ use Rattle.rules_unit.specs.declared.Op.the-variants as op
 use Rattle.rules_unit.specs.declared.Item.{Item}
 use Rattle.rules_unit.specs.declared.Item.the-variants as item
 use Rattle.rules_unit.specs.declared.Statement.{Statement}
-use Rattle.rules_unit.specs.declared.Statement.the-variants as statement
 use Rattle.rules_unit.specs.Codes.{Code}
 
 -- "Numbers are unsigned, high byte first."
@@ -160,45 +159,10 @@ itemsAt s at = itemsIn (suc (length s)) s at
 
 -- ---- statements
 
--- "Codes in decimal"
-unfoldable pub statementBy : ℕ → ℕ → ℕ → ℕ → Statement
-statementBy code a b c =
-    cond (eqb code 1) (statement.Set a b)
-    (cond (eqb code 2) (statement.Clear a)
-    (cond (eqb code 3) (statement.Incr a)
-    (cond (eqb code 4) (statement.Decr a)
-    (cond (eqb code 5) (statement.Upcase a)
-    (cond (eqb code 6) (statement.Locase a)
-    (cond (eqb code 7) (statement.Goto c)
-    (cond (eqb code 8) (statement.IfZero b c)
-    (cond (eqb code 9) (statement.Call c)
-    (cond (eqb code 10) statement.Return
-    (cond (eqb code 11) statement.Stop
-    (cond (eqb code 12) (statement.Computed a b) statement.Bad)))))))))))
-
 -- "**Statement**: code, zero byte, a, b, c."
 unfoldable pub statementAt : List ℕ → ℕ → Statement
-statementAt u at = statementBy (getD u at 0) (wordAt u (at + 2)) (wordAt u (at + 4)) (wordAt u (at + 6))
-
--- The parts that a statement leaves unused, added up.
-abbrev pub unusedOf : Statement → ℕ → ℕ → ℕ → ℕ
-unusedOf (statement.Set place source) a b c = c
-unusedOf (statement.Clear place) a b c = b + c
-unusedOf (statement.Incr place) a b c = b + c
-unusedOf (statement.Decr place) a b c = b + c
-unusedOf (statement.Upcase place) a b c = b + c
-unusedOf (statement.Locase place) a b c = b + c
-unusedOf (statement.Goto target) a b c = a + b
-unusedOf (statement.IfZero number target) a b c = a
-unusedOf (statement.Call target) a b c = a + b
-unusedOf statement.Return a b c = a + b + c
-unusedOf statement.Stop a b c = a + b + c
-unusedOf (statement.Computed count number) a b c = c
-unusedOf statement.Bad a b c = 0
-
--- "Unused parts are zero", and so is the zero byte: this is 0 exactly then.
-unfoldable pub unusedAt : List ℕ → ℕ → ℕ
-unusedAt u at = getD u (at + 1) 0 + unusedOf (statementAt u at) (wordAt u (at + 2)) (wordAt u (at + 4)) (wordAt u (at + 6))
+statementAt u at =
+    record { code = getD u at 0; zero = getD u (at + 1) 0; a = wordAt u (at + 2); b = wordAt u (at + 4); c = wordAt u (at + 6) }
 
 -- ---- the unit
 
@@ -214,5 +178,4 @@ codeOf u p = record {
   items = λ at. itemsAt (take (p .e) (drop (expressionsAt p) u)) at;
   statements = p .n;
   statement = λ i. statementAt u (statementsAt p + i * 8);
-  unused = λ i. unusedAt u (statementsAt p + i * 8);
 }

@@ -3,7 +3,6 @@
 --   takes i            how many values an item takes
 --   itemb c i          an item's own rule
 --   sortAt c e         the sort of the expression at an offset, Wrong where it is badly formed
---   usesOf s           a statement's uses of expressions, in the order in which they are worked out
 --   suits w k          whether an expression of the sort k is of the sort wanted
 -- Assumes nothing.
 use Prim.Native.Nat.{ℕ, _+_, _-_}
@@ -18,8 +17,6 @@ use Rattle.rules_unit.specs.declared.Op.{Op}
 use Rattle.rules_unit.specs.declared.Op.the-variants as op
 use Rattle.rules_unit.specs.declared.Item.{Item}
 use Rattle.rules_unit.specs.declared.Item.the-variants as item
-use Rattle.rules_unit.specs.declared.Statement.{Statement}
-use Rattle.rules_unit.specs.declared.Statement.the-variants as statement
 use Rattle.rules_unit.specs.declared.Sort.{Sort}
 use Rattle.rules_unit.specs.declared.Sort.the-variants as sort
 use Rattle.rules_unit.specs.declared.Want.{Want}
@@ -128,23 +125,6 @@ unfoldable pub sortAt : Code → ℕ → Sort
 sortAt c e = sortFrom c (c .items e) 0 sort.Number
 
 -- ---- uses
-
--- "1 SET place a from source b (number or alpha source); 2 CLEAR a; 3 INCR a; 4 DECR a (decimal places); 5 UPCASE a; 6 LOCASE a (alpha places)";
--- "8 go to c if number b is zero"; "12 computed GOTO, number b". The place a is written, all else is read.
-abbrev pub usesOf : Statement → List Use
-usesOf (statement.Set place source) = use-of.Of want.Place place true ∷ (use-of.Of want.Source source false ∷ [])
-usesOf (statement.Clear place) = use-of.Of want.Place place true ∷ []
-usesOf (statement.Incr place) = use-of.Of want.DecimalPlace place true ∷ []
-usesOf (statement.Decr place) = use-of.Of want.DecimalPlace place true ∷ []
-usesOf (statement.Upcase place) = use-of.Of want.AlphaPlace place true ∷ []
-usesOf (statement.Locase place) = use-of.Of want.AlphaPlace place true ∷ []
-usesOf (statement.Goto target) = []
-usesOf (statement.IfZero number target) = use-of.Of want.Number number false ∷ []
-usesOf (statement.Call target) = []
-usesOf statement.Return = []
-usesOf statement.Stop = []
-usesOf (statement.Computed count number) = use-of.Of want.Number number false ∷ []
-usesOf statement.Bad = []
 
 abbrev pub suits : Want → Sort → Bool
 suits want.Place sort.Wrong = false

@@ -4,4 +4,5 @@ pub mod Expressions
 pub mod Checks
 pub mod Literals
 pub mod Sound
+pub mod Table
 pub mod Answers

@@ -5,12 +5,11 @@
 use Prim.Native.Nat.{ℕ, _+_}
 use mathlib.Core.Bool.{cond}
 use mathlib.Core.List.{List, [], _∷_}
-use lib.Dec.{ltb}
+use lib.Dec.{ltb, eqb}
 use lib.ListN.{take, drop}
 use Rattle.rules_unit.specs.declared.Item.{Item}
 use Rattle.rules_unit.specs.declared.Item.the-variants as item
 use Rattle.rules_unit.specs.declared.Statement.{Statement}
-use Rattle.rules_unit.specs.declared.Statement.the-variants as statement
 use Rattle.rules_unit.specs.declared.Checked.{Checked}
 use Rattle.rules_unit.specs.declared.Checked.the-variants as checked
 use Rattle.rules_unit.specs.declared.Stretch.{Stretch}
@@ -34,19 +33,7 @@ loneText from (item.Bad ∷ is) = nowhere
 
 -- "statement i is a SET"
 abbrev pub stretchBy : Code → ℕ → Statement → Stretch
-stretchBy c from (statement.Set place source) = loneText from (c .items source)
-stretchBy c from (statement.Clear place) = nowhere
-stretchBy c from (statement.Incr place) = nowhere
-stretchBy c from (statement.Decr place) = nowhere
-stretchBy c from (statement.Upcase place) = nowhere
-stretchBy c from (statement.Locase place) = nowhere
-stretchBy c from (statement.Goto target) = nowhere
-stretchBy c from (statement.IfZero number target) = nowhere
-stretchBy c from (statement.Call target) = nowhere
-stretchBy c from statement.Return = nowhere
-stretchBy c from statement.Stop = nowhere
-stretchBy c from (statement.Computed count number) = nowhere
-stretchBy c from statement.Bad = nowhere
+stretchBy c from s = cond (eqb (s .code) 1) (loneText from (c .items (s .b))) nowhere
 
 -- "when the unit passes checks 1 to 5 .. and an empty stretch otherwise"
 abbrev pub stretchIn : List ℕ → ℕ → Checked → Stretch

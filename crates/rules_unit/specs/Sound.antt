@@ -4,7 +4,7 @@
 --   EntrySound c i        the field entry i by itself; InOrder c i j two entries that are no records
 --   EntryFits c i         the field entry i, by itself and after those before it
 --   TableSound c i n      the GOTO statements behind a computed GOTO
---   FormSound c i s       the code, count and target of the statement s at i
+--   RoleSound c i r x     the part x of the statement at i, by its role; RowSound c i r s all three
 --   ShapeSound c i        what 5 is about; UsesSound c i what 4 is about; StatementSound c i both
 --   SoundCode c           all entries and all statements
 --   SoundUnit u p         the unit u, with the parts p
@@ -16,11 +16,14 @@ use mathlib.Core.List.{List}
 use lib.ListN.{length, getD}
 use Rattle.rules_unit.specs.declared.Parts.{Parts}
 use Rattle.rules_unit.specs.declared.Statement.{Statement}
-use Rattle.rules_unit.specs.declared.Statement.the-variants as statement
+use Rattle.rules_unit.specs.declared.Role.{Role}
+use Rattle.rules_unit.specs.declared.Role.the-variants as role
+use Rattle.rules_unit.specs.declared.Row.{Row}
 use Rattle.rules_unit.specs.declared.Use.the-variants as use-of
 use Rattle.rules_unit.specs.Codes.{Code, isBad, decimalb, recordb, offsetOf, sizeOf, countOf, endOf}
 use Rattle.rules_unit.specs.Decode.{Fills, partsOf, codeOf}
-use Rattle.rules_unit.specs.Expressions.{usesOf, useb}
+use Rattle.rules_unit.specs.Table.{verbOf, rowOf, usesOf}
+use Rattle.rules_unit.specs.Expressions.{useb}
 use Rattle.rules_unit.specs.Checks.{isGoto}
 
 -- "D is 1 to 16,383; F 0 to 512; E 0 to 16,383; P 0 to 4,095; N 1 to 2,048."
@@ -80,27 +83,24 @@ pub record TableSound (c : Code) (i n : ℕ) : Type 0 where
   pub inside : i + n < c .statements
   pub gotos : (j : ℕ) → i < j → j ≤ i + n → isGoto (c .statement j) ≡ true
 
--- "Targets are below N."
-abbrev pub FormSound : Code → ℕ → Statement → Type 0
-FormSound c i (statement.Set place source) = Unit {0}
-FormSound c i (statement.Clear place) = Unit {0}
-FormSound c i (statement.Incr place) = Unit {0}
-FormSound c i (statement.Decr place) = Unit {0}
-FormSound c i (statement.Upcase place) = Unit {0}
-FormSound c i (statement.Locase place) = Unit {0}
-FormSound c i (statement.Goto target) = target < c .statements
-FormSound c i (statement.IfZero number target) = target < c .statements
-FormSound c i (statement.Call target) = target < c .statements
-FormSound c i statement.Return = Unit {0}
-FormSound c i statement.Stop = Unit {0}
-FormSound c i (statement.Computed count number) = TableSound c i count
-FormSound c i statement.Bad = ⊥
+-- "Unused parts are zero."; "Targets are below N."
+abbrev pub RoleSound : Code → ℕ → Role → ℕ → Type 0
+RoleSound c i role.Unused x = x ≡ 0
+RoleSound c i (role.Written w) x = Unit {0}
+RoleSound c i (role.Read w) x = Unit {0}
+RoleSound c i role.Target x = x < c .statements
+RoleSound c i role.Table x = TableSound c i x
+RoleSound c i role.Never x = ⊥
+
+pub record RowSound (c : Code) (i : ℕ) (r : Row) (s : Statement) : Type 0 where
+  pub of-a : RoleSound c i (r .a) (s .a)
+  pub of-b : RoleSound c i (r .b) (s .b)
+  pub of-c : RoleSound c i (r .c) (s .c)
 
 -- "statement code, zero part, count or target"
 pub record ShapeSound (c : Code) (i : ℕ) : Type 0 where
-  -- "Unused parts are zero."
-  pub blank : c .unused i ≡ 0
-  pub form : FormSound c i (c .statement i)
+  pub blank : c .statement i .zero ≡ 0
+  pub parts : RowSound c i (rowOf (verbOf (c .statement i .code))) (c .statement i)
 
 -- Each of its expressions is well formed, and of the sort that its use wants.
 pub record UsesSound (c : Code) (i : ℕ) : Type 0 where

@@ -77,20 +77,36 @@ pub enum Item {
     Bad,
 }
 
-// A statement, by its code. What it holds are offsets of expressions, targets and a count.
-pub enum Statement {
-    Set { place: u16, source: u16 },
-    Clear { place: u16 },
-    Incr { place: u16 },
-    Decr { place: u16 },
-    Upcase { place: u16 },
-    Locase { place: u16 },
-    Goto { target: u16 },
-    IfZero { number: u16, target: u16 },
-    Call { target: u16 },
+// A statement as it is coded: its code, the zero byte and the three parts.
+pub struct Statement {
+    pub code: u8,
+    pub zero: u8,
+    pub a: u16,
+    pub b: u16,
+    pub c: u16,
+}
+
+// What a statement does at its place a.
+pub enum Act {
+    // SET from source b.
+    Set,
+    // CLEAR.
+    Clear,
+    // INCR, or DECR where it is not up.
+    Count { up: bool },
+    // UPCASE, or LOCASE where it is not upper.
+    Case { upper: bool },
+}
+
+// What a statement does, by its code: something at its place, or where the run goes on; Bad for a code that is none.
+pub enum Verb {
+    At(Act),
+    Goto,
+    IfZero,
+    Call,
     Return,
     Stop,
-    Computed { count: u16, number: u16 },
+    Computed,
     Bad,
 }
 
@@ -112,10 +128,33 @@ pub enum Want {
     Number,
 }
 
-// A statement's use of an expression; Nothing past its last one.
+// How a part of a statement uses an expression: the sort wanted, where it starts, and whether it is written; Nothing where it uses none.
 pub enum Use {
     Nothing,
     Of { want: Want, at: u16, written: bool },
+}
+
+// What a part of a statement is.
+pub enum Role {
+    // Zero.
+    Unused,
+    // A place of the sort wanted, which is written.
+    Written(Want),
+    // An expression of the sort wanted, which is read.
+    Read(Want),
+    // The number of a statement.
+    Target,
+    // How many GOTO statements stand right after the statement.
+    Table,
+    // Wrong, whatever it is: the statement has no such code.
+    Never,
+}
+
+// A row of the table of statements: what the three parts are.
+pub struct Row {
+    pub a: Role,
+    pub b: Role,
+    pub c: Role,
 }
 
 // What is found of one statement: it stands, or 5, or 4.

@@ -45,7 +45,9 @@ fn turn_under(depth: u16, turn: Turn) -> Turn
     }
 }
 
-// The turn of the statement at, where depth calls are open.
+// The turn of the statement at, where depth calls are open. The loop of `turns` is the one caller of this function, and this function the one
+// caller of `machine::work`: the compiler puts what is called at one place only right there. A second caller, of either, has cost every run
+// 6 to 10 % more instructions in trials.
 fn turn_at(unit: &[u8], parts: Parts, bytes: &[u8], at: u16, depth: u16) -> Turn
     requires { ⌜ Fills (now unit) parts ⌝ }
     requires { ⌜ Dialect parts ⌝ }

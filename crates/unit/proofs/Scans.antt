@@ -9,6 +9,9 @@ use native.Mathlib.Nat.{add-sub-cancel-left}
 use borrow.Author.Tests.{lt-ltb, le-ltb, eq-eqb, ne-eqb, not-true, not-false}
 use Rattle.rules_unit.specs.declared.Parts.{Parts}
 use Rattle.rules_unit.specs.declared.Statement.{Statement}
+use Rattle.rules_unit.specs.declared.Verb.{Verb}
+use Rattle.rules_unit.specs.declared.Role.{Role}
+use Rattle.rules_unit.specs.declared.Row.{Row}
 use Rattle.rules_unit.specs.Codes.{Code}
 use Rattle.rules_unit.specs.Decode.{codeOf}
 use Rattle.rules_unit.specs.declared.Found.{Found}
@@ -16,8 +19,9 @@ use Rattle.rules_unit.specs.declared.Found.the-variants as found
 use Rattle.rules_unit.specs.declared.Refusal.the-variants as refusal
 use Rattle.rules_unit.specs.declared.Checked.{Checked}
 use Rattle.rules_unit.specs.declared.Checked.the-variants as checked
-use Rattle.rules_unit.specs.Expressions.{usesOf, usesb}
-use Rattle.rules_unit.specs.Checks.{isGoto, gotosb, tableb, formb, shapeb, foundOf, statementsFrom}
+use Rattle.rules_unit.specs.Expressions.{usesb}
+use Rattle.rules_unit.specs.Table.{verbOf, rowOf, usesOf}
+use Rattle.rules_unit.specs.Checks.{isGoto, gotosb, tableb, roleb, rowb, shapeb, foundOf, statementsFrom}
 use Rattle.rules_unit.proofs.Statements.{left-suc, left-none, statements-more, statements-stop, statements-end}
 
 -- ---- the loop over a table: it ends at n, j is the next statement, and z is what the whole loop answers
@@ -61,17 +65,18 @@ module _ (u : List ℕ) (p : Parts) (i : ℕ) where
     unfolding tableb
     table-in z least most h w = rw (le-ltb n 1 least, le-ltb 255 n most, lt-ltb (i + n) (p .n) (omega arith)) w
 
-  pub form-as : (s t : Statement) (z : Bool) → s ≡ t → z ≡ formb (codeOf u p) i t → z ≡ formb (codeOf u p) i s
-  form-as s t z e w = rw e w
+  -- a part, where its role is known
+  pub role-as : (r q : Role) (x : ℕ) (z : Bool) → r ≡ q → z ≡ roleb (codeOf u p) i q x → z ≡ roleb (codeOf u p) i r x
+  role-as r q x z e w = rw e w
 
-  pub shape-not : (n : ℕ) → n ≡ codeOf u p .unused i → (n ≡ 0 → ⊥) → false ≡ shapeb (codeOf u p) i
+  pub shape-not : (s : Statement) → s ≡ codeOf u p .statement i → (s .zero ≡ 0 → ⊥) → false ≡ shapeb (codeOf u p) i
   unfolding shapeb
-  shape-not n e h = rw (← e, ne-eqb n 0 h)
+  shape-not s e h = rw (← e, ne-eqb (s .zero) 0 h)
 
-  pub shape-form : (n : ℕ) (s : Statement) (z : Bool) → n ≡ codeOf u p .unused i → n ≡ 0 → s ≡ codeOf u p .statement i → z ≡ formb (codeOf u p) i s
-      → z ≡ shapeb (codeOf u p) i
+  pub shape-parts : (s : Statement) (v : Verb) (r : Row) (z : Bool) → s ≡ codeOf u p .statement i → s .zero ≡ 0 → v ≡ verbOf (s .code) → r ≡ rowOf v
+      → z ≡ rowb (codeOf u p) i r s → z ≡ shapeb (codeOf u p) i
   unfolding shapeb
-  shape-form n s z e h f w = rw (← e, eq-eqb n 0 h, ← f) w
+  shape-parts s v r z e h ev er w = rw (← e, eq-eqb (s .zero) 0 h, ← ev, ← er) w
 
   -- what is found, where the code has asked for the shape and for the expressions
   module _ (b : Bool) (e₁ : b ≡ shapeb (codeOf u p) i) where

@@ -3,11 +3,13 @@ use rules_unit::Checked;
 use rules_unit::Found;
 use rules_unit::Parts;
 use rules_unit::Refusal;
+use rules_unit::Role;
+use rules_unit::Row;
 use rules_unit::Statement;
 ghost use mathlib.Core.Path.{_≡_};
 ghost use Prim.Native.Nat.{_+_, _<_, _≤_};
 ghost use Rattle.rules_unit.specs.Decode.{Fills, codeOf};
-ghost use Rattle.rules_unit.specs.Checks.{isGoto, gotosb, tableb, formb, shapeb, foundOf, statementsFrom, partsCheck, checkOf};
+ghost use Rattle.rules_unit.specs.Checks.{isGoto, gotosb, tableb, roleb, rowb, shapeb, foundOf, statementsFrom, partsCheck, checkOf};
 ghost use Rattle.sorts.specs.Notes.{NotedOf};
 
 // ---- 5
@@ -16,30 +18,7 @@ ghost use Rattle.sorts.specs.Notes.{NotedOf};
 fn is_goto(s: Statement) -> bool
     ensures { λ r. ⌜ r ≡ isGoto s ⌝ }
 {
-    match s {
-        Statement::Set {
-            place: _,
-            source: _,
-        } => false,
-        Statement::Clear { place: _ } => false,
-        Statement::Incr { place: _ } => false,
-        Statement::Decr { place: _ } => false,
-        Statement::Upcase { place: _ } => false,
-        Statement::Locase { place: _ } => false,
-        Statement::Goto { target: _ } => true,
-        Statement::IfZero {
-            number: _,
-            target: _,
-        } => false,
-        Statement::Call { target: _ } => false,
-        Statement::Return => false,
-        Statement::Stop => false,
-        Statement::Computed {
-            count: _,
-            number: _,
-        } => false,
-        Statement::Bad => false,
-    }
+    s.code == 7
 }
 
 // Whether the n statements from i on are GOTO statements.
@@ -77,30 +56,38 @@ fn table_good(unit: &[u8], parts: Parts, i: u16, n: u16) -> bool
     gotos(unit, parts, i + 1, n)
 }
 
-// Whether the code, the count and the target of a statement at i are right.
-fn form_good(unit: &[u8], parts: Parts, i: u16, s: Statement) -> bool
+// Whether the part x of the statement at i is right, by its role.
+fn role_good(unit: &[u8], parts: Parts, i: u16, role: Role, x: u16) -> bool
     requires { ⌜ Fills (now unit) parts ⌝ }
     requires { ⌜ i < parts .n ⌝ }
-    ensures { λ r. ⌜ r ≡ formb (codeOf (now (unit .entry)) parts) i s ⌝ }
+    ensures { λ r. ⌜ r ≡ roleb (codeOf (now (unit .entry)) parts) i role x ⌝ }
 {
-    match s {
-        Statement::Set {
-            place: _,
-            source: _,
-        } => true,
-        Statement::Clear { place: _ } => true,
-        Statement::Incr { place: _ } => true,
-        Statement::Decr { place: _ } => true,
-        Statement::Upcase { place: _ } => true,
-        Statement::Locase { place: _ } => true,
-        Statement::Goto { target } => target < parts.n,
-        Statement::IfZero { number: _, target } => target < parts.n,
-        Statement::Call { target } => target < parts.n,
-        Statement::Return => true,
-        Statement::Stop => true,
-        Statement::Computed { count, number: _ } => table_good(unit, parts, i, count),
-        Statement::Bad => false,
+    match role {
+        Role::Unused => x == 0,
+        Role::Written(_) => true,
+        Role::Read(_) => true,
+        Role::Target => x < parts.n,
+        Role::Table => table_good(unit, parts, i, x),
+        Role::Never => false,
     }
+}
+
+// Whether the three parts of the statement at i are right.
+fn row_good(unit: &[u8], parts: Parts, i: u16, row: Row, s: Statement) -> bool
+    requires { ⌜ Fills (now unit) parts ⌝ }
+    requires { ⌜ i < parts .n ⌝ }
+    ensures { λ r. ⌜ r ≡ rowb (codeOf (now (unit .entry)) parts) i row s ⌝ }
+{
+    let a = row.a;
+    let b = row.b;
+    let c = row.c;
+    if !role_good(unit, parts, i, a, s.a) {
+        return false;
+    }
+    if !role_good(unit, parts, i, b, s.b) {
+        return false;
+    }
+    role_good(unit, parts, i, c, s.c)
 }
 
 // Check 5 of the statement i.
@@ -109,10 +96,12 @@ fn shape_good(unit: &[u8], parts: Parts, i: u16) -> bool
     requires { ⌜ i < parts .n ⌝ }
     ensures { λ r. ⌜ r ≡ shapeb (codeOf (now (unit .entry)) parts) i ⌝ }
 {
-    if decode::unused(unit, parts, i) != 0 {
+    let s = decode::statement(unit, parts, i);
+    if s.zero != 0 {
         return false;
     }
-    form_good(unit, parts, i, decode::statement(unit, parts, i))
+    let row = decode::row_of(decode::verb_of(s.code));
+    row_good(unit, parts, i, row, s)
 }
 
 // ---- the check

@@ -1,4 +1,4 @@
--- The uses of a statement, tested one by one. A statement of the base has two at the most; the laws of the list hold for more.
+-- The uses of a statement, tested one by one; the laws of the list hold for any number.
 -- Assumes nothing.
 use mathlib.Core.Path.{_≡_, refl, sym, ap, _∙_}
 use mathlib.Core.Bool.{Bool, true, false, cond, not}
@@ -10,14 +10,17 @@ use lib.ListN.{length, getD, drop, drop-of-length-le, List·getD-eq-default}
 use borrow.Author.Tests.{not-true, not-false}
 use Rattle.rules_unit.specs.declared.Parts.{Parts}
 use Rattle.rules_unit.specs.declared.Statement.{Statement}
-use Rattle.rules_unit.specs.declared.Statement.the-variants as statement
+use Rattle.rules_unit.specs.declared.Verb.{Verb}
+use Rattle.rules_unit.specs.declared.Role.{Role}
+use Rattle.rules_unit.specs.declared.Row.{Row}
 use Rattle.rules_unit.specs.declared.Sort.{Sort}
 use Rattle.rules_unit.specs.declared.Want.{Want}
 use Rattle.rules_unit.specs.declared.Use.{Use}
 use Rattle.rules_unit.specs.declared.Use.the-variants as used
 use Rattle.rules_unit.specs.Codes.{Code}
 use Rattle.rules_unit.specs.Decode.{codeOf}
-use Rattle.rules_unit.specs.Expressions.{sortAt, usesOf, suits, useb, usesb}
+use Rattle.rules_unit.specs.Expressions.{sortAt, suits, useb, usesb}
+use Rattle.rules_unit.specs.Table.{verbOf, rowOf, useOf, usesBy, usesOf}
 
 -- ---- any list of uses
 
@@ -36,50 +39,43 @@ pub uses-end : (c : Code) (us : List Use) (k : ℕ) → length us ≤ k → uses
 unfolding usesb
 uses-end c us k h = rw (drop-of-length-le us h)
 
-whole : (b : Bool) → cond b true false ≡ b
-whole true = refl
-whole false = refl
-
 -- ---- the uses of a statement
 
-pub uses-few : (s : Statement) → length (usesOf s) ≤ 2
-uses-few (statement.Set place source) = omega arith
-uses-few (statement.Clear place) = omega arith
-uses-few (statement.Incr place) = omega arith
-uses-few (statement.Decr place) = omega arith
-uses-few (statement.Upcase place) = omega arith
-uses-few (statement.Locase place) = omega arith
-uses-few (statement.Goto target) = omega arith
-uses-few (statement.IfZero number target) = omega arith
-uses-few (statement.Call target) = omega arith
-uses-few statement.Return = omega arith
-uses-few statement.Stop = omega arith
-uses-few (statement.Computed count number) = omega arith
-uses-few statement.Bad = omega arith
+-- the use of a part, where its role is known
+pub use-as : (r q : Role) (x : ℕ) (y : Use) → r ≡ q → y ≡ useOf q x → y ≡ useOf r x
+use-as r q x y e w = rw e w
 
--- the use k, where the constructor is known
-pub use-as : (k : ℕ) (s t : Statement) (x : Use) → s ≡ t → x ≡ getD (usesOf t) k used.Nothing → x ≡ getD (usesOf s) k used.Nothing
-use-as k s t x e w = rw e w
+-- v and r are the verb and the row that the code has asked for
+module _ (s : Statement) (v : Verb) (r : Row) (ev : v ≡ verbOf (s .code)) (er : r ≡ rowOf v) (k : ℕ) where
+  as-row : usesBy r s ≡ usesOf s
+  as-row = ap (λ (x : Row). usesBy x s) (er ∙ ap rowOf ev)
 
-module _ (s : Statement) (k : ℕ) where
-  pub use-there : (j : ℕ) (x : Use) → x ≡ getD (usesOf s) j used.Nothing → k ≡ j → x ≡ getD (usesOf s) k used.Nothing
-  use-there j x e h = rw h e
+  pub use-a : (x : Use) → x ≡ useOf (r .a) (s .a) → k ≡ 0 → x ≡ getD (usesOf s) k used.Nothing
+  use-a x e h = rw h (e ∙ ap (λ (y : List Use). getD y 0 used.Nothing) as-row)
 
-  pub use-none : (k ≡ 0 → ⊥) → (k ≡ 1 → ⊥) → used.Nothing ≡ getD (usesOf s) k used.Nothing
-  use-none h g = sym (List·getD-eq-default (usesOf s) used.Nothing (omega (arith, uses-few s)))
+  pub use-b : (x : Use) → x ≡ useOf (r .b) (s .b) → k ≡ 1 → x ≡ getD (usesOf s) k used.Nothing
+  use-b x e h = rw h (e ∙ ap (λ (y : List Use). getD y 1 used.Nothing) as-row)
 
--- x and y are the first two uses, r and q what is found of them
-module _ (u : List ℕ) (p : Parts) (s : Statement) (x : Use) (r : Bool) where
-  pub uses-refused : x ≡ getD (usesOf s) 0 used.Nothing → r ≡ useb (codeOf u p) x → not r ≡ true → false ≡ usesb (codeOf u p) (usesOf s)
-  uses-refused e f h = sym (uses-step (codeOf u p) (usesOf s) 0 ∙ rw (← e, ← f, not-true r h))
+  pub use-c : (x : Use) → x ≡ useOf (r .c) (s .c) → k ≡ 2 → x ≡ getD (usesOf s) k used.Nothing
+  use-c x e h = rw h (e ∙ ap (λ (y : List Use). getD y 2 used.Nothing) as-row)
 
-  pub uses-both : (y : Use) (q : Bool) → x ≡ getD (usesOf s) 0 used.Nothing → r ≡ useb (codeOf u p) x → not r ≡ false
-      → y ≡ getD (usesOf s) 1 used.Nothing → q ≡ useb (codeOf u p) y → q ≡ usesb (codeOf u p) (usesOf s)
-  uses-both y q e f h g l =
-      sym
-      (uses-step (codeOf u p) (usesOf s) 0
-      ∙ rw (← e, ← f, not-false r h)
-      (uses-step (codeOf u p) (usesOf s) 1 ∙ rw (← g, ← l, uses-end (codeOf u p) (usesOf s) 2 (uses-few s)) (whole q)))
+pub use-none : (s : Statement) (k : ℕ) → (k ≡ 0 → ⊥) → (k ≡ 1 → ⊥) → (k ≡ 2 → ⊥) → used.Nothing ≡ getD (usesOf s) k used.Nothing
+use-none s k h g f = let past : 3 ≤ k = omega arith in sym (List·getD-eq-default (usesOf s) used.Nothing past)
+
+-- the loop over the uses: k is the next one, x that use, r what is found of it, and z what the whole loop answers
+module _ (u : List ℕ) (p : Parts) (us : List Use) (k : ℕ) (z : Bool) (left : usesb (codeOf u p) (drop k us) ≡ z) where
+  pub uses-over : length us ≤ k → true ≡ z
+  uses-over h = sym (uses-end (codeOf u p) us k h) ∙ left
+
+  module _ (x : Use) (r : Bool) (e : x ≡ getD us k used.Nothing) (f : r ≡ useb (codeOf u p) x) where
+    step : usesb (codeOf u p) (drop k us) ≡ cond r (usesb (codeOf u p) (drop (k + 1) us)) false
+    step = uses-step (codeOf u p) us k ∙ rw (← e, ← f)
+
+    pub uses-refused : not r ≡ true → false ≡ z
+    uses-refused h = sym (rw (not-true r h) at step) ∙ left
+
+    pub uses-on : not r ≡ false → usesb (codeOf u p) (drop (k + 1) us) ≡ z
+    uses-on h = sym (rw (not-false r h) at step) ∙ left
 
 -- ---- one use
 

@@ -1,5 +1,6 @@
 // The expressions of a statement: their uses, and whether each is of the sort that its use wants.
 use rules_unit::Parts;
+use rules_unit::Role;
 use rules_unit::Sort;
 use rules_unit::Statement;
 use rules_unit::Use;
@@ -10,88 +11,51 @@ ghost use lib.ListN.{getD};
 ghost use Rattle.rules_unit.specs.declared.Use.the-variants as used;
 ghost use Rattle.rules_unit.specs.declared.Want.the-variants as want;
 ghost use Rattle.rules_unit.specs.Decode.{Fills, codeOf};
-ghost use Rattle.rules_unit.specs.Expressions.{usesOf, suits, useb, usesb};
+ghost use Rattle.rules_unit.specs.Expressions.{suits, useb, usesb};
+ghost use Rattle.rules_unit.specs.Table.{useOf, usesOf};
 ghost use Rattle.sorts.specs.Notes.{NotedOf};
 
-// A use that writes what its place names.
-fn writes(want: Want, at: u16) -> Use
-    ensures { λ r. ⌜ r ≡ used.Of want at true ⌝ }
+// How many uses a statement has, with those that are Nothing: one for each part.
+pub const COUNT: usize = 3;
+
+// How a part of a statement uses an expression, by its role; Nothing where it uses none.
+fn use_of(role: Role, x: u16) -> Use
+    ensures { λ r. ⌜ r ≡ useOf role x ⌝ }
 {
-    Use::Of {
-        want: want,
-        at: at,
-        written: true,
+    match role {
+        Role::Unused => Use::Nothing,
+        Role::Written(w) => Use::Of {
+            want: w,
+            at: x,
+            written: true,
+        },
+        Role::Read(w) => Use::Of {
+            want: w,
+            at: x,
+            written: false,
+        },
+        Role::Target => Use::Nothing,
+        Role::Table => Use::Nothing,
+        Role::Never => Use::Nothing,
     }
 }
 
-// A use that reads what its expression gives.
-fn reads(want: Want, at: u16) -> Use
-    ensures { λ r. ⌜ r ≡ used.Of want at false ⌝ }
-{
-    Use::Of {
-        want: want,
-        at: at,
-        written: false,
-    }
-}
-
-// The first use of an expression that a statement has.
-fn first_use(s: Statement) -> Use
-    ensures { λ r. ⌜ r ≡ getD (usesOf s) 0 used.Nothing ⌝ }
-{
-    match s {
-        Statement::Set { place, source: _ } => writes(Want::Place, place),
-        Statement::Clear { place } => writes(Want::Place, place),
-        Statement::Incr { place } => writes(Want::DecimalPlace, place),
-        Statement::Decr { place } => writes(Want::DecimalPlace, place),
-        Statement::Upcase { place } => writes(Want::AlphaPlace, place),
-        Statement::Locase { place } => writes(Want::AlphaPlace, place),
-        Statement::Goto { target: _ } => Use::Nothing,
-        Statement::IfZero { number, target: _ } => reads(Want::Number, number),
-        Statement::Call { target: _ } => Use::Nothing,
-        Statement::Return => Use::Nothing,
-        Statement::Stop => Use::Nothing,
-        Statement::Computed { count: _, number } => reads(Want::Number, number),
-        Statement::Bad => Use::Nothing,
-    }
-}
-
-// The second use of an expression that a statement has: only SET has one.
-fn second_use(s: Statement) -> Use
-    ensures { λ r. ⌜ r ≡ getD (usesOf s) 1 used.Nothing ⌝ }
-{
-    match s {
-        Statement::Set { place: _, source } => reads(Want::Source, source),
-        Statement::Clear { place: _ } => Use::Nothing,
-        Statement::Incr { place: _ } => Use::Nothing,
-        Statement::Decr { place: _ } => Use::Nothing,
-        Statement::Upcase { place: _ } => Use::Nothing,
-        Statement::Locase { place: _ } => Use::Nothing,
-        Statement::Goto { target: _ } => Use::Nothing,
-        Statement::IfZero {
-            number: _,
-            target: _,
-        } => Use::Nothing,
-        Statement::Call { target: _ } => Use::Nothing,
-        Statement::Return => Use::Nothing,
-        Statement::Stop => Use::Nothing,
-        Statement::Computed {
-            count: _,
-            number: _,
-        } => Use::Nothing,
-        Statement::Bad => Use::Nothing,
-    }
-}
-
-// The use k of a statement, from 0, in the order in which they are worked out; Nothing past the last.
+// The use k of a statement, from 0, in the order in which they are worked out; Nothing where there is none.
 pub fn use_at(s: Statement, k: usize) -> Use
     ensures { λ r. ⌜ r ≡ getD (usesOf s) k used.Nothing ⌝ }
 {
+    let row = decode::row_of(decode::verb_of(s.code));
+    let a = row.a;
+    let b = row.b;
+    let c = row.c;
     if k == 0 {
-        return first_use(s);
+        return use_of(a, s.a);
     }
     if k == 1 {
-        return second_use(s);
+        return use_of(b, s.b);
+    }
+    if k == 2 {
+        return use_of(c, s.c);
     }
     Use::Nothing
 }
@@ -198,8 +162,12 @@ pub fn uses_good(unit: &[u8], parts: Parts, notes: &mut [u8], s: Statement) -> b
     ensures { λ r. ⌜ r ≡ usesb (codeOf (now (unit .entry)) parts) (usesOf s) ⌝ }
     ensures { λ _. ⌜ NotedOf (now (unit .entry)) parts (now (notes .exit)) ⌝ }
 {
-    if !use_good(unit, parts, notes, use_at(s, 0)) {
-        return false;
+    let mut k: usize = 0;
+    while k < COUNT {
+        if !use_good(unit, parts, notes, use_at(s, k)) {
+            return false;
+        }
+        k += 1;
     }
-    use_good(unit, parts, notes, use_at(s, 1))
+    true
 }

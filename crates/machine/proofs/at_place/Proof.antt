@@ -1,12 +1,12 @@
 -- `machine::at_place` meets its contract: each arm knows what is done, and its callee answers what the rule has for that.
 -- Assumes nothing.
 use borrow.Author.Needs.{needs}
-use Rattle.machine.proofs.Places.{within-by, at-places}
+use Rattle.machine.proofs.Places.{within-by, at-set, at-as}
 use Rattle.machine.proofs.at_place.Statement.{statement}
 use Rattle.machine.proofs.at_place.Tie as tie
 
-enum-known-act : tie.Need-enum-known-act
-enum-known-act c = search needs
+enum-told : tie.Need-enum-told
+enum-told c = search needs
 
 worked-requires : tie.Need-worked-requires
 worked-requires c κs = search needs
@@ -14,62 +14,50 @@ worked-requires c κs = search needs
 move-worked-requires : tie.Need-move-worked-requires
 move-worked-requires c κs = (search needs, (search needs, search within-by depth 3))
 
-enum-told : tie.Need-enum-told
-enum-told c = search needs
+enum-told-2 : tie.Need-enum-told-2
+enum-told-2 c = search needs
 
 put-requires : tie.Need-put-requires
 put-requires c κs = search needs
 
-enum-known-act-2 : tie.Need-enum-known-act-2
-enum-known-act-2 c = search needs
+enum-known-act : tie.Need-enum-known-act
+enum-known-act c = search needs
 
 count-at-requires : tie.Need-count-at-requires
 count-at-requires c κs = search needs
 
-enum-known-act-3 : tie.Need-enum-known-act-3
-enum-known-act-3 c = search needs
+enum-known-act-2 : tie.Need-enum-known-act-2
+enum-known-act-2 c = search needs
 
 case-at-requires : tie.Need-case-at-requires
 case-at-requires c κs = search needs
 
-enum-told-2 : tie.Need-enum-told-2
-enum-told-2 c = search needs
-
-fails-requires : tie.Need-fails-requires
-fails-requires c κs = search needs
-
 returns : tie.Need-returns
-returns c = search at-places depth 3
+returns c = search at-set depth 3
 
 returns-2 : tie.Need-returns-2
-returns-2 c = search at-places depth 3
+returns-2 c = search at-as depth 3
 
 returns-3 : tie.Need-returns-3
-returns-3 c = search at-places depth 3
+returns-3 c = search at-as depth 3
 
 returns-4 : tie.Need-returns-4
-returns-4 c = search at-places depth 3
-
-returns-5 : tie.Need-returns-5
-returns-5 c = search at-places depth 3
+returns-4 c = search at-as depth 3
 
 pub at-place-spec : {M : Type 1} → statement M
 at-place-spec =
     tie.close
     (tie.spec
-    enum-known-act
+    enum-told
     worked-requires
     move-worked-requires
-    enum-told
-    put-requires
-    enum-known-act-2
-    count-at-requires
-    enum-known-act-3
-    case-at-requires
     enum-told-2
-    fails-requires
+    put-requires
+    enum-known-act
+    count-at-requires
+    enum-known-act-2
+    case-at-requires
     returns
     returns-2
     returns-3
-    returns-4
-    returns-5)
+    returns-4)

@@ -22,9 +22,6 @@ add-at c = search needs
 statement-of-requires : tie.Need-statement-of-requires Inv-loop μ-loop
 statement-of-requires c κs = search needs
 
-last-number-requires : tie.Need-last-number-requires Inv-loop μ-loop
-last-number-requires c κs = search needs
-
 put-target-requires : tie.Need-put-target-requires Inv-loop μ-loop
 put-target-requires c κs = search needs
 
@@ -50,7 +47,6 @@ put-targets-spec =
     returns
     add-at
     statement-of-requires
-    last-number-requires
     put-target-requires
     sub-left
     loop-less

@@ -1,64 +1,64 @@
--- `decode::statement_by` meets its contract: the arm of a `match` says which code it is, and the row of codes computes.
+-- `decode::verb_of` meets its contract: the arm of a `match` says which code it is, and the chain of codes computes.
 -- Assumes nothing.
 use Rattle.rules.proofs.Walk.{walk-match}
-use Rattle.rules_unit.specs.Decode.{statementBy}
-use Rattle.decode.proofs.statement_by.Statement.{statement}
-use Rattle.decode.proofs.statement_by.Tie as tie
+use Rattle.rules_unit.specs.Table.{verbOf}
+use Rattle.decode.proofs.verb_of.Statement.{statement}
+use Rattle.decode.proofs.verb_of.Tie as tie
 
 returns : tie.Need-returns
-unfolding statementBy
+unfolding verbOf
 returns c = rw (c .match .keys1)
 
 returns-2 : tie.Need-returns-2
-unfolding statementBy
+unfolding verbOf
 returns-2 c = rw (c .match .keys2)
 
 returns-3 : tie.Need-returns-3
-unfolding statementBy
+unfolding verbOf
 returns-3 c = rw (c .match .keys3)
 
 returns-4 : tie.Need-returns-4
-unfolding statementBy
+unfolding verbOf
 returns-4 c = rw (c .match .keys4)
 
 returns-5 : tie.Need-returns-5
-unfolding statementBy
+unfolding verbOf
 returns-5 c = rw (c .match .keys5)
 
 returns-6 : tie.Need-returns-6
-unfolding statementBy
+unfolding verbOf
 returns-6 c = rw (c .match .keys6)
 
 returns-7 : tie.Need-returns-7
-unfolding statementBy
+unfolding verbOf
 returns-7 c = rw (c .match .keys7)
 
 returns-8 : tie.Need-returns-8
-unfolding statementBy
+unfolding verbOf
 returns-8 c = rw (c .match .keys8)
 
 returns-9 : tie.Need-returns-9
-unfolding statementBy
+unfolding verbOf
 returns-9 c = rw (c .match .keys9)
 
 returns-10 : tie.Need-returns-10
-unfolding statementBy
+unfolding verbOf
 returns-10 c = rw (c .match .keys10)
 
 returns-11 : tie.Need-returns-11
-unfolding statementBy
+unfolding verbOf
 returns-11 c = rw (c .match .keys11)
 
 returns-12 : tie.Need-returns-12
-unfolding statementBy
+unfolding verbOf
 returns-12 c = rw (c .match .keys12)
 
 returns-13 : tie.Need-returns-13
-unfolding statementBy
+unfolding verbOf
 returns-13 c = search walk-match depth 26
 
-pub statement-by-spec : {M : Type 1} → statement M
-statement-by-spec =
+pub verb-of-spec : {M : Type 1} → statement M
+verb-of-spec =
     tie.close
     (tie.spec
     returns

@@ -1,0 +1,87 @@
+-- The statements, as one table (document 01, "The coded unit"): what each code does, and what its parts a, b and c are.
+--   verbOf code      what a statement of that code does
+--   rowOf v          what its parts are: a row of the table
+--   useOf r x        how the part x, of the role r, uses an expression; Nothing where it uses none
+--   usesOf s         the uses of a statement, one for each part
+-- What is checked of a part stands in Checks and Sound, by its role. Assumes nothing.
+use Prim.Native.Nat.{ℕ}
+use mathlib.Core.Bool.{true, false, cond}
+use mathlib.Core.List.{List, [], _∷_}
+use lib.Dec.{eqb}
+use Rattle.rules_unit.specs.declared.Act.the-variants.{Set, Clear, Count, Case}
+use Rattle.rules_unit.specs.declared.Verb.{Verb}
+use Rattle.rules_unit.specs.declared.Verb.the-variants.{At, Goto, IfZero, Call, Return, Stop, Computed, Bad}
+use Rattle.rules_unit.specs.declared.Want.the-variants.{Place, DecimalPlace, AlphaPlace, Source, Number}
+use Rattle.rules_unit.specs.declared.Role.{Role}
+use Rattle.rules_unit.specs.declared.Role.the-variants.{Unused, Written, Read, Target, Table, Never}
+use Rattle.rules_unit.specs.declared.Row.{Row}
+use Rattle.rules_unit.specs.declared.Use.{Use}
+use Rattle.rules_unit.specs.declared.Use.the-variants.{Nothing, Of}
+use Rattle.rules_unit.specs.declared.Statement.{Statement}
+
+-- ---- the codes
+
+-- "Codes in decimal"
+unfoldable pub verbOf : ℕ → Verb
+verbOf code =
+    -- "1 SET place a from source b (number or alpha source)"
+    cond (eqb code 1) (At Set)
+    -- "2 CLEAR a"
+    (cond (eqb code 2) (At Clear)
+    -- "3 INCR a"
+    (cond (eqb code 3) (At (Count true))
+    -- "4 DECR a (decimal places)"
+    (cond (eqb code 4) (At (Count false))
+    -- "5 UPCASE a"
+    (cond (eqb code 5) (At (Case true))
+    -- "6 LOCASE a (alpha places)"
+    (cond (eqb code 6) (At (Case false))
+    -- "7 GOTO c"
+    (cond (eqb code 7) Goto
+    -- "8 go to c if number b is zero"
+    (cond (eqb code 8) IfZero
+    -- "9 CALL c"
+    (cond (eqb code 9) Call
+    -- "10 RETURN"
+    (cond (eqb code 10) Return
+    -- "11 STOP"
+    (cond (eqb code 11) Stop
+    -- "12 computed GOTO, number b, a = n from 1 to 255"
+    (cond (eqb code 12) Computed
+    Bad)))))))))))
+
+-- ---- the parts
+
+abbrev pub rowWith : Role → Role → Role → Row
+rowWith a b c = record { a = a; b = b; c = c }
+
+-- What a, b and c are, as the words of the codes say. "Unused parts are zero." Where there is no such code, no part is right.
+abbrev pub rowOf : Verb → Row
+rowOf (At Set) = rowWith (Written Place) (Read Source) Unused
+rowOf (At Clear) = rowWith (Written Place) Unused Unused
+rowOf (At (Count up)) = rowWith (Written DecimalPlace) Unused Unused
+rowOf (At (Case upper)) = rowWith (Written AlphaPlace) Unused Unused
+rowOf Goto = rowWith Unused Unused Target
+rowOf IfZero = rowWith Unused (Read Number) Target
+rowOf Call = rowWith Unused Unused Target
+rowOf Return = rowWith Unused Unused Unused
+rowOf Stop = rowWith Unused Unused Unused
+rowOf Computed = rowWith Table (Read Number) Unused
+rowOf Bad = rowWith Never Never Never
+
+-- ---- the uses
+
+abbrev pub useOf : Role → ℕ → Use
+useOf Unused x = Nothing
+useOf (Written w) x = Of w x true
+useOf (Read w) x = Of w x false
+useOf Target x = Nothing
+useOf Table x = Nothing
+useOf Never x = Nothing
+
+-- "5 before a's 4 before b's 4"; "In a statement a is worked out before b"
+abbrev pub usesBy : Row → Statement → List Use
+usesBy r s = useOf (r .a) (s .a) ∷ (useOf (r .b) (s .b) ∷ (useOf (r .c) (s .c) ∷ []))
+
+abbrev pub usesOf : Statement → List Use
+usesOf s = usesBy (rowOf (verbOf (s .code))) s
