@@ -1,4 +1,5 @@
 pub mod Rows
+pub mod Example
 pub mod BenchValues
 pub mod Manual
 pub mod Units
