@@ -25,7 +25,8 @@ owner:
 	@rt check boxlever > build/check.log || { tail -n 20 build/check.log; exit 1; }
 	@tools/dibasm asm examples/slip-upcase.txt -o build/slip.unit
 
-# The proved library against the second interpreter: instructions and time for each statement of a settlement.
+# The proved library against the second interpreter: instructions and time for each statement of a settlement, instructions for those
+# of the seats.
 bench: second
 	@mkdir -p build
 	@command -v valgrind > /dev/null || { apt-get update && apt-get install -y valgrind; } > build/apt.log
