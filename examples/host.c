@@ -91,7 +91,7 @@ static int host(const uint8_t *unit, size_t unit_len, uint64_t slice)
     }
     printf("unit %zu bytes, data %" PRIu64 "\n", unit_len, answer[2]);
     print_fence(unit, unit_len);
-    data = malloc(answer[2]);
+    data = (uint8_t *)malloc(answer[2]);
     if (!data)
         return 3;
     memcpy(data, unit, answer[2]); /* the data image stands first in a unit */

@@ -268,6 +268,51 @@ static void pausing(void)
     SAME(answer[2], 0);
 }
 
+/* A finished state runs nothing, whatever is allowed; a state of zeros runs the unit anew. */
+static void starting_anew(void)
+{
+    uint8_t data[2] = {'4', '1'};
+    uint64_t answer[3], state[DIBOL_STATE_LEN] = {0};
+
+    SAME(dibol_run(EXAMPLE, 42, data, 2, state, DIBOL_STATE_LEN, 9, answer, 3), 0);
+    SAME_BYTES(data, "42", 2);
+    for (uint64_t allowance = 0; allowance < 3; allowance++) {
+        SAME(dibol_run(EXAMPLE, 42, data, 2, state, DIBOL_STATE_LEN, allowance, answer, 3), 0);
+        SAME(answer[1], 2);
+        SAME(answer[2], 0);
+        SAME(state[0], 2);
+        SAME_BYTES(data, "42", 2);
+    }
+    memset(state, 0, sizeof state);
+    SAME(dibol_run(EXAMPLE, 42, data, 2, state, DIBOL_STATE_LEN, 9, answer, 3), 0);
+    SAME(answer[2], 2);
+    SAME_BYTES(data, "43", 2);
+}
+
+/* A state that another unit left is accepted where it is in range, and the run goes on there. */
+static void foreign_states(void)
+{
+    const entry call[] = {{9, 0, 0, 1}, {11, 0, 0, 0}, {9, 0, 0, 3}, {11, 0, 0, 0}};
+    const coded other = unit_with("", 0, call, 4);
+    uint8_t data[sizeof IMAGE - 1], example[2] = {'4', '1'};
+    uint64_t answer[3], state[DIBOL_STATE_LEN] = {0};
+
+    memcpy(data, IMAGE, sizeof data);
+    SAME(dibol_run(other.bytes, other.len, data, sizeof data, state, DIBOL_STATE_LEN, 1, answer, 3),
+         30);
+    SAME(dibol_run(EXAMPLE, 42, example, 2, state, DIBOL_STATE_LEN, 9, answer, 3), 0);
+    SAME(answer[2], 1);
+    SAME(state[0], 2);
+    SAME(state[1], 1);
+    SAME(state[2], 1);
+    SAME_BYTES(example, "41", 2);
+    memset(state, 0, sizeof state);
+    state[0] = 2;
+    SAME(dibol_run(other.bytes, other.len, data, sizeof data, state, DIBOL_STATE_LEN, 1, answer, 3),
+         30);
+    SAME(dibol_run(EXAMPLE, 42, example, 2, state, DIBOL_STATE_LEN, 9, answer, 3), 7);
+}
+
 /* Expects the fence to name statement 1, behind a STOP, and the number of a rule. */
 static void fenced_off(const char *expressions, size_t length, entry statement, uint64_t rule)
 {
@@ -329,6 +374,8 @@ int main(void)
     refused_calls();
     run_errors();
     pausing();
+    starting_anew();
+    foreign_states();
     fence_rules();
     literals();
     versions();

@@ -1,0 +1,163 @@
+/* The times that docs/HOST.md speaks of, taken anew and printed: of a call before its first
+ * statement, and of statements. What is expected of them leaves room for a busy machine.
+ *
+ *     cost [FILES..]     of these units as well
+ */
+#include <stdlib.h>
+#include <time.h>
+
+#include "expect.h"
+
+#define UNIT_MOST 57353
+#define TRIALS 15
+#define ALLOWANCE 1000
+
+/* The unit that is asked about. */
+static uint8_t unit[UNIT_MOST + 1], data[UNIT_MOST];
+static size_t unit_len;
+
+static void put(const char *bytes, size_t length)
+{
+    memcpy(unit + unit_len, bytes, length);
+    unit_len += length;
+}
+
+static void put_words(size_t count, const size_t *words)
+{
+    for (size_t i = 0; i < count; i++) {
+        unit[unit_len++] = (uint8_t)(words[i] >> 8);
+        unit[unit_len++] = (uint8_t)words[i];
+    }
+}
+
+#define WORDS(...)                                                                                 \
+    put_words(sizeof((size_t[]){__VA_ARGS__}) / sizeof(size_t), (size_t[]){__VA_ARGS__})
+
+/* Kinds and codes, each with the zero byte behind it. */
+enum { DECIMAL = 0x0100, SET = 0x0100, GOTO = 0x0700, MARK = 0x4442 };
+
+/* A SET of A from a sum of so many terms B, and a GOTO back to it; both have seven digits. */
+static void loop_of(size_t terms)
+{
+    unit_len = 0;
+    put("0000000" "0000001", 14);
+    WORDS(DECIMAL, 0, 7, 1, DECIMAL, 7, 7, 1);
+    put("\2\0\0\0" "\2\0\1", 7);
+    for (size_t i = 1; i < terms; i++)
+        put("\2\0\1\20", 4);
+    put("\0", 1);
+    WORDS(SET, 0, 4, 0, GOTO, 0, 0, 0);
+    WORDS(14, 2, 4 * terms + 4, 0, 2, MARK);
+}
+
+/* The longest unit: 512 decimals, and 2,048 times a SET from a sum of literals of 18 digits. */
+static void longest(void)
+{
+    memset(unit, '0', 16383);
+    unit_len = 16383;
+    for (size_t i = 0; i < 512; i++)
+        WORDS(DECIMAL, 18 * i, 18, 1);
+    put("\2\0\0\0" "\1\0\0\22", 8);
+    for (size_t i = 1; i < 3275; i++)
+        put("\1\0\0\22\20", 5);
+    put("\0\0\0\0\0", 5);
+    memset(unit + unit_len, '1', 4095);
+    unit_len += 4095;
+    for (size_t i = 0; i < 2048; i++)
+        WORDS(SET, 0, 4, 0);
+    WORDS(16383, 512, 16383, 4095, 2048, MARK);
+}
+
+static void read_file(const char *name)
+{
+    FILE *file = fopen(name, "rb");
+
+    if (!file) {
+        perror(name);
+        exit(2);
+    }
+    unit_len = fread(unit, 1, sizeof unit, file);
+    fclose(file);
+}
+
+static void check(void)
+{
+    uint64_t answer[3];
+
+    dibol_check(unit, unit_len, answer, 3);
+}
+
+static void fence(void)
+{
+    uint64_t answer[2];
+
+    dibol_fence(unit, unit_len, answer, 2);
+}
+
+/* The statements that a run completed. */
+static uint64_t completed;
+
+static void run(void)
+{
+    uint64_t state[DIBOL_STATE_LEN] = {0}, answer[3];
+    size_t data_len = (size_t)unit[unit_len - 12] << 8 | unit[unit_len - 11];
+
+    memcpy(data, unit, data_len);
+    dibol_run(unit, unit_len, data, data_len, state, DIBOL_STATE_LEN, ALLOWANCE, answer, 3);
+    completed = answer[2];
+}
+
+/* The microseconds of the fastest of some calls. */
+static double fastest(void (*call)(void))
+{
+    double least = 1e9;
+
+    for (int i = 0; i < TRIALS; i++) {
+        struct timespec before, after;
+        double taken;
+
+        timespec_get(&before, TIME_UTC);
+        call();
+        timespec_get(&after, TIME_UTC);
+        taken = (double)(after.tv_sec - before.tv_sec) * 1e6 +
+                (double)(after.tv_nsec - before.tv_nsec) / 1e3;
+        least = taken < least ? taken : least;
+    }
+    return least;
+}
+
+/* Prints the times of the unit. */
+static void print_times(const char *name)
+{
+    uint64_t answer[3];
+
+    SAME(dibol_check(unit, unit_len, answer, 3), DIBOL_END);
+    printf("%s, %zu bytes: check %.1f microseconds, fence %.1f", name, unit_len, fastest(check),
+           fastest(fence));
+    printf(", a run %.1f", fastest(run));
+    printf(" with %" PRIu64 " statements\n", completed);
+}
+
+int main(int argc, char **argv)
+{
+    double short_check, short_run;
+
+    loop_of(1);
+    print_times("A = B");
+    SAME(completed, ALLOWANCE);
+    short_check = fastest(check);
+    short_run = fastest(run);
+    loop_of(4093);
+    print_times("4,093 terms");
+    SAME(completed, ALLOWANCE);
+    SAME(fastest(run) > 100 * short_run, 1);
+    longest();
+    SAME(unit_len, UNIT_MOST);
+    print_times("the longest");
+    SAME(fastest(check) > 10 * short_check, 1);
+    for (int i = 1; i < argc; i++) {
+        read_file(argv[i]);
+        print_times(argv[i]);
+    }
+    return told("cost");
+}
