@@ -1,31 +1,34 @@
 /* dibol.h -- checks and runs coded DIBOL units over a lent data buffer.
 
    The library is proved: for every input a call returns, touches nothing but
-   the lent memory, and gives the one outcome that the written rules allow
-   (docs/SETTLED.md names the theorems, docs/TRUST.md what they rest on). What
-   a coded unit is stands in docs/ENCODING.md. Nothing compares this header with
-   the library but the tests.
+   the memory that it is lent, and gives the one outcome that the written rules
+   allow (docs/SETTLED.md names the theorems, docs/TRUST.md what they rest on).
+   This header is not proved; the tests compare it with the library.
 
-   Any bytes may be given as a unit, as data or as a resume state, of any
-   length: what is no unit, no data for it or no state is refused by a number.
-   There is nothing to set up, to free or to lock. The library keeps nothing
-   between calls, and calls in several threads do not disturb each other.
+   docs/ENCODING.md describes the coded unit, docs/OWNER.md what each stop and
+   each fence rule means, docs/HOST.md how a host uses these calls and what
+   they cost.
+
+   Any bytes may be lent as a unit or as data, and any numbers as a resume
+   state: anything invalid is refused with a stop number. There is nothing to
+   set up, to free or to lock. The library keeps nothing between calls, and
+   calls in several threads do not disturb each other.
 
    The host's duties, for every call:
 
    - A pointer is valid for its length: that many bytes, or that many numbers,
-     may be read, and written where it is not const. A pointer to numbers is
-     aligned as uint64_t is.
-   - A pointer is never null. Where its length is 0 nothing is read or written
+     may be read, and written if it is not const.
+   - A pointer is never null. If its length is 0, nothing is read or written
      through it, and any other pointer will do.
+   - A pointer to numbers is aligned as uint64_t is. Bytes may lie anywhere.
    - Memory that is not const (`bytes`, `state`, `answer`, `text`) overlaps
      nothing else that the same call is lent.
-   - Nobody else writes to the lent memory during the call; nor reads it where
-     it is not const.
+   - During the call nobody else writes to the lent memory, or reads what is
+     not const.
 
-   Numbers in `answer` are put one after the other at its front, as many as fit:
-   a host that wants none of them hands a length of 0, and a longer answer keeps
-   its further numbers as they were. */
+   A call writes its numbers to the front of `answer`, as many as fit. A host
+   that wants none of them lends a length of 0; the rest of a longer answer
+   stays as it was. */
 
 #ifndef DIBOL_H
 #define DIBOL_H
@@ -46,25 +49,30 @@ extern "C" {
 /* How many numbers a resume state has. */
 #define DIBOL_STATE_LEN 52
 
-/* Why a call ended, and the place that it names. Later versions may add
-   numbers. */
+/* Why a call ended: the stop. Each has the words that dibol_words gives.
+
+   The place of a stop is N, the number of statements, for 0; the field entry
+   for 3; the statement for 4, 5 and 20 to 26; the next statement for 30; and 0
+   for 1, 2, 6 and 7. Fields and statements are counted from 0.
+
+   Later versions may add numbers. */
 enum dibol_stop {
-    DIBOL_END = 0,            /* the end was reached: N, the unit's statements */
-    DIBOL_NOT_FILLED = 1,     /* the length, the mark or the parts don't fit: 0 */
-    DIBOL_BAD_RANGE = 2,      /* a part is outside its range: 0 */
-    DIBOL_BAD_FIELD = 3,      /* a field entry breaks its rule: the entry */
-    DIBOL_BAD_EXPRESSION = 4, /* badly formed, or of the wrong sort: statement */
-    DIBOL_BAD_STATEMENT = 5,  /* wrong code, zero part, count or target: statement */
-    DIBOL_WRONG_SIZE = 6,     /* the data buffer hasn't the unit's D bytes: 0 */
-    DIBOL_UNSOUND = 7,        /* the resume state is unsound: 0 */
-    DIBOL_TOO_LONG = 20,      /* more than 18 digits: statement */
-    DIBOL_OUTSIDE = 21,       /* a subscript or substring: statement */
-    DIBOL_BAD_DIGIT = 22,     /* a bad digit: statement */
-    DIBOL_ZERO_DIVISOR = 23,  /* division by zero: statement */
-    DIBOL_CALLS_FULL = 24,    /* a CALL with 50 calls open: statement */
-    DIBOL_NO_CALL = 25,       /* a RETURN with none open: statement */
-    DIBOL_ROUND_COUNT = 26,   /* a rounding count not 0 to 18: statement */
-    DIBOL_SPENT = 30          /* the allowance was spent: the next statement */
+    DIBOL_END = 0,            /* The end was reached */
+    DIBOL_NOT_FILLED = 1,     /* The length, the mark or the parts do not fit */
+    DIBOL_BAD_RANGE = 2,      /* A part is outside its range */
+    DIBOL_BAD_FIELD = 3,      /* A field entry breaks its rule */
+    DIBOL_BAD_EXPRESSION = 4, /* An expression is badly formed or of the wrong sort */
+    DIBOL_BAD_STATEMENT = 5,  /* A statement's code, zero part, count or target is wrong */
+    DIBOL_WRONG_SIZE = 6,     /* The data buffer does not have the unit's D bytes */
+    DIBOL_UNSOUND = 7,        /* The resume state is unsound */
+    DIBOL_TOO_LONG = 20,      /* Arithmetic operand exceeds 18 digits */
+    DIBOL_OUTSIDE = 21,       /* Invalid subscript specified */
+    DIBOL_BAD_DIGIT = 22,     /* Bad digit encountered */
+    DIBOL_ZERO_DIVISOR = 23,  /* Attempt to divide by zero */
+    DIBOL_CALLS_FULL = 24,    /* Calls nested to a depth greater than 50 */
+    DIBOL_NO_CALL = 25,       /* RETURN with no CALL or XCALL */
+    DIBOL_ROUND_COUNT = 26,   /* The rounding count is not 0 to 18 */
+    DIBOL_SPENT = 30          /* The allowance was spent before the end */
 };
 
 /* What the fence check says. */
@@ -74,35 +82,40 @@ enum dibol_verdict {
     DIBOL_REFUSED = 2
 };
 
-/* The first fence rule that a statement breaks. */
+/* The fence rule that a statement breaks first. */
 enum dibol_breach {
     DIBOL_BREACH_NONE = 0,
-    DIBOL_BREACH_BOUND_NOT_LITERAL = 1, /* a bound is no number literal */
-    DIBOL_BREACH_BOUNDS_WRONG = 2,      /* the bounds give stop 21 */
+    DIBOL_BREACH_BOUND_NOT_LITERAL = 1, /* a bound is not a literal */
+    DIBOL_BREACH_BOUNDS_WRONG = 2,      /* the bounds give 21 */
     DIBOL_BREACH_LEAVES_FIELD = 3,      /* a span leaves its field */
-    DIBOL_BREACH_OVER_ELEMENTS = 4,     /* a decimal span leaves its element */
-    DIBOL_BREACH_STOPS_MID_ELEMENT = 5, /* a decimal destination ends inside it */
-    DIBOL_BREACH_ON_DECIMAL = 6         /* an alpha destination on a decimal */
+    DIBOL_BREACH_OVER_ELEMENTS = 4,     /* a decimal span is not in one element */
+    DIBOL_BREACH_STOPS_MID_ELEMENT = 5, /* a decimal destination ends inside its element */
+    DIBOL_BREACH_ON_DECIMAL = 6         /* an alpha destination shares a byte with a decimal field */
 };
 
 /* Runs a unit over a data buffer, from a resume state and for at most
-   `allowance` statements, and answers the stop. `answer` is given three
-   numbers: the stop, its place, and how many statements this call completed.
+   `allowance` statements, and gives the stop. `answer` gets three numbers: the
+   stop, its place, and how many statements this call completed.
 
    `state` holds DIBOL_STATE_LEN numbers: the statement to go on at, the number
-   of open calls, and 50 return numbers, unused ones 0. All zeros are the state
-   of a run that has not begun. The call rewrites it with the next state; a run
-   that ended in DIBOL_SPENT goes on as if it had not stopped when it is called
-   again with the same unit, buffer and state. The numbers are plain and may be
-   stored and brought back.
+   of open calls, and 50 return numbers, unused ones 0. The call rewrites it
+   with the next state. After DIBOL_SPENT, call again with the same unit, buffer
+   and state, and the run goes on as if it had not stopped.
 
-   First the unit is checked (1 to 5), then the buffer must have the unit's D
+   - Zero the state for a new run: a finished one, at the end, runs nothing and
+     gives DIBOL_END with the count 0.
+   - A state bears no mark of its unit: another unit's is accepted if it is in
+     range. Keep each state with its unit and its data.
+   - An allowance is not a time, and each call checks the unit first:
+     docs/HOST.md has figures. An allowance of 0 gives DIBOL_SPENT, or DIBOL_END
+     at the end.
+
+   The unit is checked first (1 to 5). Then the buffer must have the unit's D
    bytes (6) and the state must be sound for the unit (7). A `state` of another
    length, or with a number over 65,535, is 7. After 1 to 7 no byte of `bytes`
    and no number of `state` is changed, and the count is 0. A statement that
-   ends in 20 to 26 has changed nothing: the state stands at it, and it isn't
-   counted. An allowance of 0 gives DIBOL_SPENT, or DIBOL_END where the state is
-   at the end already.
+   ends in 20 to 26 has changed nothing: the state stands at it, and it is not
+   counted.
 
        uint64_t state[DIBOL_STATE_LEN] = {0}, answer[3];
        uint64_t stop;
@@ -117,48 +130,44 @@ uint64_t dibol_run(const uint8_t *unit, size_t unit_len,
                    uint64_t allowance,
                    uint64_t *answer, size_t answer_len);
 
-/* Checks a unit by the rules 1 to 5, and answers the stop: 0 where it passes.
-   `answer` is given three numbers: the stop, its place, and D, the size of the
-   unit's data; the place is 0 where the unit passes, and D is 0 where it is
-   refused. The first D bytes of a unit that passes are the data that its run
-   starts with. A run checks the unit by itself. */
+/* Checks a unit, and gives the stop: 0 if it is sound, else 1 to 5. `answer`
+   gets three numbers: the stop, its place, and D, the length of the unit's
+   data. The place of a sound unit is 0, and D of a refused one is 0. The first
+   D bytes of a sound unit are the data that its run starts with. A run checks
+   the unit by itself. */
 uint64_t dibol_check(const uint8_t *unit, size_t unit_len,
                      uint64_t *answer, size_t answer_len);
 
-/* Checks a unit, holds each of its statements to the fence rules, and answers a
-   verdict. `answer` is given two numbers: for DIBOL_NO the first statement that
-   breaks a rule and the breach, for DIBOL_REFUSED the stop (1 to 5) and its
-   place, for DIBOL_YES 0 and 0.
-
-   Take a unit with a yes, data whose decimals are all valid, a sound state and
-   any allowance. However that run stops, they are all valid again, no byte
-   outside the unit's destinations has changed, the stop was not 21, and it was
-   22 only where alpha text was moved to a decimal place. A unit with a no can
-   still be run. */
+/* Checks a unit, holds each of its statements to the fence rules, and gives a
+   verdict. `answer` gets two numbers: for DIBOL_NO the first statement that
+   breaks a rule and the number of the rule, for DIBOL_REFUSED the stop (1 to 5)
+   and its place, for DIBOL_YES 0 and 0. docs/OWNER.md says what a yes promises,
+   for data whose decimal fields are all valid. A unit with a no can still be
+   run. */
 uint64_t dibol_fence(const uint8_t *unit, size_t unit_len,
                      uint64_t *answer, size_t answer_len);
 
-/* The breach of a statement, counted from 0. It is DIBOL_BREACH_NONE where the
-   statement breaks no rule, where the unit is refused, and past the last
-   statement; so ask dibol_fence first. */
+/* The number of the fence rule that a statement, counted from 0, breaks first.
+   It is DIBOL_BREACH_NONE if the statement breaks none, if there is no such
+   statement, and if the unit is refused: so ask dibol_fence first. */
 uint64_t dibol_breach(const uint8_t *unit, size_t unit_len, size_t statement);
 
-/* The length of a statement's alpha literal, and 0 where there is none: the
-   unit is refused, it has no such statement, or that is no SET whose source is
-   an alpha literal and nothing more. `answer` is given two numbers: where the
-   literal starts in the unit, and its length; both are 0 where there is none.
-   The literal lies whole in the unit. */
+/* The length of the alpha literal of a statement, counted from 0. There is one
+   if the statement is a SET whose source is an alpha literal and nothing more;
+   otherwise, and if the unit is refused, the length is 0. `answer` gets two
+   numbers: where the literal starts in the unit, and its length; both are 0 if
+   there is none. */
 uint64_t dibol_literal(const uint8_t *unit, size_t unit_len, size_t statement,
                        uint64_t *answer, size_t answer_len);
 
-/* The words of a stop, in ASCII. The answer is their whole length, as snprintf's
-   is, and 0 for a number that is no stop. As many bytes as fit are put at the
-   front of `text`; the rest of it stays as it was, and no zero byte is put
-   behind them. No words are longer than 63 bytes. */
+/* Writes the words of a stop, in ASCII, to the front of `text`, as many bytes
+   as fit and no zero byte behind them; the rest of `text` stays as it was. It
+   gives their whole length, as snprintf does, and 0 for a number that is no
+   stop. No words are longer than 63 bytes. */
 uint64_t dibol_words(uint64_t stop, uint8_t *text, size_t text_len);
 
-/* The library's own DIBOL_VERSION_NUMBER and DIBOL_STATE_LEN. A host compares
-   them once with this header's. */
+/* The library's own DIBOL_VERSION_NUMBER and DIBOL_STATE_LEN, for a host to
+   compare once with this header's. */
 uint64_t dibol_version(void);
 uint64_t dibol_state_len(void);
 

@@ -42,15 +42,15 @@ impl fmt::Display for Verdict {
 #[derive(Clone, Copy, Debug, PartialEq, Eq, Hash)]
 #[non_exhaustive]
 pub enum Breach {
-    /// 1: a bound is neither a number literal nor one followed by negate, standing directly before.
+    /// 1: a bound is not a literal.
     BoundNotLiteral,
-    /// 2: the bounds are ones that 21 is given for.
+    /// 2: the bounds give 21.
     BoundsWrong,
-    /// 3: the span does not lie inside the field's size x count bytes.
+    /// 3: a span leaves its field.
     LeavesField,
-    /// 4: a decimal span does not lie in one element.
+    /// 4: a decimal span is not in one element.
     OverElements,
-    /// 5: a decimal destination does not end at its element's last character.
+    /// 5: a decimal destination ends inside its element.
     StopsMidElement,
     /// 6: an alpha destination shares a byte with a decimal field.
     OnDecimal,

@@ -17,37 +17,37 @@ use std::fmt;
 #[derive(Clone, Copy, Debug, PartialEq, Eq, Hash)]
 #[non_exhaustive]
 pub enum Stop {
-    /// 0: the end is reached.
+    /// 0: The end was reached.
     End,
-    /// 1: the length, the mark or the filling of the unit is wrong.
+    /// 1: The length, the mark or the parts do not fit.
     NotFilled,
-    /// 2: the length of a part is outside its range.
+    /// 2: A part is outside its range.
     BadRange,
-    /// 3: a field entry breaks its rule.
+    /// 3: A field entry breaks its rule.
     BadField,
-    /// 4: an expression is badly formed, or of the wrong sort for its use.
+    /// 4: An expression is badly formed or of the wrong sort.
     BadExpression,
-    /// 5: a statement's code, zero part, count or target is wrong.
+    /// 5: A statement's code, zero part, count or target is wrong.
     BadStatement,
-    /// 6: the data buffer is not as long as the unit's image.
+    /// 6: The data buffer does not have the unit's D bytes.
     WrongSize,
-    /// 7: the resume state is unsound.
+    /// 7: The resume state is unsound.
     Unsound,
-    /// 20: more than 18 digits.
+    /// 20: Arithmetic operand exceeds 18 digits.
     TooLong,
-    /// 21: a subscript or substring.
+    /// 21: Invalid subscript specified.
     Outside,
-    /// 22: a bad digit.
+    /// 22: Bad digit encountered.
     BadDigit,
-    /// 23: a zero divisor.
+    /// 23: Attempt to divide by zero.
     ZeroDivisor,
-    /// 24: a CALL with 50 calls open.
+    /// 24: Calls nested to a depth greater than 50.
     CallsFull,
-    /// 25: a RETURN with none open.
+    /// 25: RETURN with no CALL or XCALL.
     NoCall,
-    /// 26: a rounding count outside 0 to 18.
+    /// 26: The rounding count is not 0 to 18.
     RoundCount,
-    /// 30: the allowance is spent before the end; the run can go on.
+    /// 30: The allowance was spent before the end.
     Spent,
     /// A number that this version of the crate has no name for.
     Other(u64),
