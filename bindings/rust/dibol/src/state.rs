@@ -1,11 +1,15 @@
 //! The resume state, held by value.
 
 use crate::ffi::DIBOL_STATE_LEN;
+use crate::unit::Unit;
 
 /// Where a run goes on: the next statement, the number of open calls and 50 return numbers.
 ///
-/// A state is a value: [`Unit::run`](crate::Unit::run) takes it and hands back the next one. Any
-/// numbers can be made a state; a run refuses those that are unsound for its unit with 7.
+/// A state is a value: [`Unit::run`](crate::Unit::run) takes it and hands back the next one. A new
+/// run takes [`State::START`]; a finished state, as [`State::is_end`] says, runs nothing.
+///
+/// Any numbers can be made a state. A run refuses one that is unsound for its unit with 7, and
+/// accepts any other, even if another unit left it: keep each state with its unit and its data.
 ///
 /// ```
 /// use dibol::State;
@@ -18,7 +22,7 @@ pub struct State {
 }
 
 impl State {
-    /// The state from which a unit starts: statement 0, and no call open.
+    /// The state of a new run: statement 0, and no call open.
     pub const START: State = State {
         numbers: [0; DIBOL_STATE_LEN],
     };
@@ -26,6 +30,12 @@ impl State {
     /// The number of the next statement.
     pub fn statement(&self) -> u64 {
         self.numbers[0]
+    }
+
+    /// Whether the state stands at the end of a unit. A run from there runs nothing, changes nothing,
+    /// and gives [`Stop::End`](crate::Stop::End) with the count 0.
+    pub fn is_end(&self, unit: &Unit) -> bool {
+        self.statement() == unit.statements() as u64
     }
 
     /// The number of open calls.

@@ -161,6 +161,36 @@ fn an_allowance_of_0_is_30_and_at_the_end_0() {
 }
 
 #[test]
+fn a_finished_state_runs_nothing() {
+    let unit = Unit::check(&EXAMPLE).unwrap();
+    let mut data = *b"41";
+    let half = unit.run(&mut data, State::START, 1);
+    let end = unit.run(&mut data, half.state, 9);
+    let at_end = [State::START, half.state, end.state].map(|state| state.is_end(&unit));
+    assert_eq!(at_end, [false, false, true]);
+    let again = unit.run(&mut data, end.state, 9);
+    assert_eq!((again.stop, again.place, again.count), (Stop::End, 2, 0));
+    assert_eq!((again.state, data), (end.state, *b"42"));
+    let anew = unit.run(&mut data, State::START, 9);
+    assert_eq!((anew.stop, anew.count, data), (Stop::End, 2, *b"43"));
+}
+
+#[test]
+fn another_units_state_is_accepted_in_range() {
+    let bytes = calls();
+    let other = Unit::check(&bytes).unwrap();
+    let state = other.run(&mut [b'x'], State::START, 3).state;
+    let unit = Unit::check(&EXAMPLE).unwrap();
+    let mut data = *b"41";
+    let outcome = unit.run(&mut data, state, 1);
+    assert_eq!(
+        (outcome.stop, outcome.count, data),
+        (Stop::Spent, 1, *b"42")
+    );
+    assert_eq!(outcome.state.open_calls(), 3);
+}
+
+#[test]
 fn the_fence_names_statement_and_rule() {
     // UPCASE of the record, which covers the decimals.
     let bytes = one((5, 0, 0, 0), b"\x02\0\x02\0");
