@@ -6,6 +6,7 @@
  * The exit status is 0 when the run came to its end, 1 when it stopped otherwise, 2 when the unit
  * was refused, and 3 when there was nothing to run.
  */
+#include <errno.h>
 #include <inttypes.h>
 #include <stdio.h>
 #include <stdlib.h>
@@ -18,6 +19,19 @@
 
 /* The statements that the whole run may complete. */
 #define STATEMENTS_MOST UINT64_C(100000)
+
+/* Prints bytes that come from outside, so that none of them commands a terminal: printable ASCII as
+ * it is, but a backslash twice, and any other byte as \xHH. */
+static void print_bytes(FILE *file, const char *bytes, size_t length)
+{
+    for (size_t i = 0; i < length; i++)
+        if (bytes[i] == '\\')
+            fputs("\\\\", file);
+        else if (bytes[i] < ' ' || bytes[i] > '~')
+            fprintf(file, "\\x%02X", (unsigned)(uint8_t)bytes[i]);
+        else
+            fputc(bytes[i], file);
+}
 
 /* Prints a stop: its number, its place and the library's words for it. */
 static void print_stop(uint64_t stop, uint64_t place)
@@ -70,7 +84,10 @@ static long read_file(const char *name, uint8_t *bytes)
     if (file)
         length = (long)fread(bytes, 1, UNIT_MOST + 1, file);
     if (!file || ferror(file)) {
-        perror(name);
+        const char *reason = strerror(errno);
+
+        print_bytes(stderr, name, strlen(name));
+        fprintf(stderr, ": %s\n", reason);
         length = -1;
     }
     if (file)
@@ -96,7 +113,7 @@ static int host(const uint8_t *unit, size_t unit_len, uint64_t slice)
         return 3;
     memcpy(data, unit, answer[2]); /* the data image stands first in a unit */
     stop = run_in_slices(unit, unit_len, data, answer[2], slice);
-    fwrite(data, 1, answer[2], stdout);
+    print_bytes(stdout, (const char *)data, answer[2]);
     printf("\n");
     free(data);
     return stop == DIBOL_END ? 0 : 1;

@@ -3,9 +3,10 @@
 //! Nothing here is safe to call with pointers that do not fit their lengths; the crate `dibol` has
 //! the same functions for Rust's slices. Numbers of `size_t` are `usize` here.
 //!
-//! What every caller owes: each pointer is valid for its length, the lent buffers do not overlap,
-//! and nobody writes to them during the call. Of an answer, as many numbers are written as fit into
-//! the `answer_len` that are lent; the rest of a longer buffer stays as it was.
+//! What every caller owes: each pointer is valid for its length, not null, and aligned for what it
+//! points to; the lent buffers do not overlap, and nobody writes to them during the call. Of an
+//! answer, as many numbers are written as fit into the `answer_len` that are lent; the rest of a
+//! longer buffer stays as it was. `dibol.h` has all of it.
 
 #![no_std]
 #![warn(missing_docs)]

@@ -7,7 +7,6 @@
 
 use dibol::{Outcome, State, Stop, Unit, Verdict};
 use std::error::Error;
-use std::io::{self, Write};
 use std::{env, fs};
 
 /// The statements that the whole run may complete.
@@ -30,9 +29,20 @@ fn main() -> Result<(), Box<dyn Error>> {
     let mut data = unit.image().to_vec();
     let Outcome { stop, place, .. } = run_in_slices(&unit, &mut data, slice);
     println!("stop {} at {place}: {stop}", stop.number());
-    io::stdout().write_all(&data)?;
-    println!();
+    println!("{}", shown(&data));
     Ok(())
+}
+
+/// Bytes of the data so that none of them commands a terminal: printable ASCII as it is, but a
+/// backslash twice, and any other byte as \xHH.
+fn shown(data: &[u8]) -> String {
+    data.iter()
+        .map(|&byte| match byte {
+            b'\\' => "\\\\".to_string(),
+            b' '..=b'~' => char::from(byte).to_string(),
+            _ => format!("\\x{byte:02X}"),
+        })
+        .collect()
 }
 
 /// Runs a unit over its data in slices, and prints how many there were.

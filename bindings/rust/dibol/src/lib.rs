@@ -1,9 +1,9 @@
 //! Coded DIBOL units, checked and run by the proved runtime.
 //!
-//! A host lends a coded unit and a data buffer as slices of bytes. [`Unit::check`] refuses whatever
-//! is no sound unit; a [`Unit`] borrows the bytes it was made of, so they cannot change under a run.
-//! [`Unit::run`] works over the host's buffer for as many statements as are allowed, and hands back
-//! the [`State`] to go on from.
+//! A host lends a coded unit and a data buffer as slices of bytes. [`Unit::check`] refuses anything
+//! but a sound unit with a stop number. A [`Unit`] borrows the bytes that it was made from, so they
+//! cannot change under a run. [`Unit::run`] works over the host's buffer for at most as many
+//! statements as it is allowed, and hands back the [`State`] to go on from.
 //!
 //! ```
 //! use dibol::{State, Stop, Unit};
@@ -22,8 +22,9 @@
 //! # Ok::<(), dibol::Refusal>(())
 //! ```
 //!
-//! The functions of the C library stand in [`ffi`]; they are proved, and this crate, which only
-//! lends them slices, is tested.
+//! docs/OWNER.md says what each stop and each fence rule means, docs/HOST.md what a host owes and
+//! what a call costs. The functions of the C library stand in [`ffi`]; they are proved. This crate
+//! only lends them slices, and is tested.
 
 #![warn(missing_docs)]
 

@@ -45,7 +45,7 @@ impl<'a> Unit<'a> {
         }
     }
 
-    /// The bytes that the unit was made of.
+    /// The bytes that the unit was made from.
     pub fn bytes(&self) -> &'a [u8] {
         self.bytes
     }
@@ -65,8 +65,11 @@ impl<'a> Unit<'a> {
     ///
     /// The buffer must be as long as the image (6) and the state sound for this unit (7); a refused
     /// call changes nothing. A statement that ends in a run error has changed nothing: the state
-    /// stands at it. Where the allowance is spent before the end, a further call with the state
-    /// handed back and the same buffer goes on as if there had been no stop.
+    /// stands at it. If the allowance is spent before the end, a further call with the state handed
+    /// back and the same buffer goes on as if there had been no stop.
+    ///
+    /// A new run takes [`State::START`]: from a finished state nothing is run. An allowance is not a
+    /// time, and each call checks the unit first; docs/HOST.md has figures.
     ///
     /// ```
     /// # let bytes = *b"41\x01\0\0\0\0\x02\0\x01\x02\0\0\0\
@@ -108,7 +111,7 @@ impl<'a> Unit<'a> {
         }
     }
 
-    /// The fence check: whether the unit can slip.
+    /// The fence check: yes if the unit cannot slip.
     ///
     /// ```
     /// # let bytes = *b"41\x01\0\0\0\0\x02\0\x01\x02\0\0\0\
