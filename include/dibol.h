@@ -98,24 +98,24 @@ enum dibol_breach {
    stop, its place, and how many statements this call completed.
 
    `state` holds DIBOL_STATE_LEN numbers: the statement to go on at, the number
-   of open calls, and 50 return numbers, unused ones 0. The call rewrites it
-   with the next state. After DIBOL_SPENT, call again with the same unit, buffer
-   and state, and the run goes on as if it had not stopped.
+   of open calls, and 50 return numbers. The call rewrites it with the next
+   state. After DIBOL_SPENT, call again with the same unit, buffer and state,
+   and the run goes on as if it had not stopped.
 
    - Zero the state for a new run: a finished one, at the end, runs nothing and
      gives DIBOL_END with the count 0.
-   - A state bears no mark of its unit: another unit's is accepted if it is in
-     range. Keep each state with its unit and its data.
+   - Keep each state with its unit and its data. It bears no mark of its unit:
+     any state that is sound for the unit is accepted.
    - An allowance is not a time, and each call checks the unit first:
      docs/HOST.md has figures. An allowance of 0 gives DIBOL_SPENT, or DIBOL_END
      at the end.
 
    The unit is checked first (1 to 5). Then the buffer must have the unit's D
-   bytes (6) and the state must be sound for the unit (7). A `state` of another
-   length, or with a number over 65,535, is 7. After 1 to 7 no byte of `bytes`
-   and no number of `state` is changed, and the count is 0. A statement that
-   ends in 20 to 26 has changed nothing: the state stands at it, and it is not
-   counted.
+   bytes (6), and the state must be sound (7): DIBOL_STATE_LEN numbers, its
+   statement and the return numbers of its open calls at most N, at most 50
+   calls open, all other return numbers 0. After 1 to 7 no byte of `bytes` and
+   no number of `state` is changed, and the count is 0. A statement that ends in
+   20 to 26 has changed nothing: the state stands at it, and it is not counted.
 
        uint64_t state[DIBOL_STATE_LEN] = {0}, answer[3];
        uint64_t stop;
