@@ -1,6 +1,6 @@
 SHELL := /bin/bash
 .SHELLFLAGS := -eu -o pipefail -c
-.PHONY: run check fence list owner bench test rim stored reference programs pages units second
+.PHONY: run check fence list owner bench test rim assembler stored reference programs pages units second
 export CARGO_TARGET_DIR := $(CURDIR)/build/cargo
 
 # Cargo is not told of make's jobs, which it would try to join.
@@ -45,10 +45,13 @@ test:
 	$(MAKE) --no-print-directory --jobs=2 --output-sync rim
 	tail -n 1 build/ci.log
 
-# What is not proved: everything stored is what the texts and the second interpreter make; the second interpreter's own tests; the
+# What is not proved: dibasm has an answer to everything; everything stored is what the texts and the second interpreter make; the second interpreter's own tests; the
 # proved bench program writes what is expected of each stored run, and the owner's program answers each call and each stored unit as
 # expected; hosts in C and Rust; the library against the second interpreter; and what the pages show is what is seen.
-rim: stored reference programs hosts differential pages
+rim: assembler stored reference programs hosts differential pages
+
+assembler:
+	tools/test-dibasm
 
 stored:
 	tools/store-units --check

@@ -1,3 +1,4 @@
+#!/usr/bin/env python3
 """Coded DIBOL units as text, and back.
 
     dibasm asm FILE.txt -o FILE.unit     make a unit from its text
@@ -5,18 +6,26 @@
     dibasm dis FILE.unit [-o FILE.txt]   write the text of a unit
     dibasm test FILES..                  check that each unit comes back from its text
 
-docs/DIBASM.md tells the text form.
+docs/DIBASM.md has the text form. What is wrong with a file is reported as FILE: line N: WORDS; then the exit status is 1.
 """
 
+import difflib
 import functools
+import itertools
+import math
 import os
 import re
+import signal
 import sys
 
 KINDS = ["alpha", "decimal", "record"]
 WORDS = dict(enumerate(["set", "clear", "incr", "decr", "upcase", "locase", "goto", "ifzero",
                         "call", "return", "stop", "computed"], 1))
 CODES = {word: code for code, word in WORDS.items()}
+
+# The other words that begin a line.
+OTHERS = ["data", "field", "literals", "expr", "statement", "trailer", "patch", "raw"]
+REPEATS = ["repeat", "end"]
 
 # The parts of a statement that hold expressions, a target, and anything at all, by its word.
 PLACES = {"set": "ab", "ifzero": "b", "computed": "b"} | dict.fromkeys(list(CODES)[1:6], "a")
@@ -42,30 +51,79 @@ SIGN_CODES = {sign: code for code, sign in SIGNS.items()}
 BOUNDS = {2: "", 3: "()", 4: "(,)", 5: "(:)"}
 WIDTHS = {1: 3, 6: 4} | dict.fromkeys(BOUNDS, 2) | dict.fromkeys(SIGNS, 0)
 
-# Longer expressions are written in postfix order, so that none nests too deep to be read back.
-INFIX_MOST = 64
+# No expression nests deeper. Longer ones are written in postfix order, so that none nests too deep to be read back.
+DEPTH_MOST = INFIX_MOST = 64
 
-# A longer text is not tried: its statements share long expressions, and each would hold its own.
-TEXT_MOST = 1_000_000
+# No unit that is read, and no bytes that a text writes out, are longer; and no text is, repeats written out. The text of the longest
+# unit fits.
+UNIT_MOST = 1 << 20
+TEXT_MOST = 1 << 23
+
+# A longer text of a unit's parts is not tried: its statements share long expressions, and each would hold its own.
+TRIED_MOST = 1_000_000
+
+# Numbers have no more figures than these, and of a longer word so many bytes are shown; names among this many are looked for what a
+# wrong one may mean.
+FIGURES_MOST = 9
+SHOWN_MOST = 60
+NAMES_MOST = 1000
 
 TOKEN = re.compile(r"""\s*(?:
     (?P<comment>;.*) | (?P<string>"(?:[^"\\]|\\.)*") | (?P<hex><[0-9A-Fa-f\s]*>) |
     (?P<placed>(?:num|alpha)@\d+:\d+) | (?P<word>[A-Za-z_]\w*) | (?P<number>\d+) |
-    (?P<sign>\.[A-Z]+\. | \.\.\. | [-+*/\#()\[\],:=@%]))""", re.X)
+    (?P<sign>\.[A-Z]+\. | \.\.\. | [-+*/\#()\[\],:=@%]))""", re.X | re.A)
+BLANKS = " \t\r\f\v"
 ESCAPE = re.compile(r"\\(x[0-9A-Fa-f]{2}|.)")
-COUNTER = re.compile(r"\{(?:(\d+)\*)?i([+-]\d+)?\}")
+COUNTER = re.compile(r"\{(?:(\d+)\*)?i(?:([+-])(\d+))?\}", re.A)
 RUN = re.compile(rb"(.)\1{15,}", re.S)
 PIECE = re.compile(rb"[ -~]{1,60}|[^ -~]{1,20}")
+
+# How bytes are shown, by Latin-1: 20 to 7E as they are, but a backslash twice; all else in hex.
+SHOWN = {code: f"\\x{code:02X}" for code in range(256) if not 32 <= code <= 126} | {92: "\\\\"}
 
 
 class Fault(Exception):
     """What is wrong with a text."""
 
 
+class TooLong(Exception):
+    """A text of a unit takes more room than it has."""
+
+
+def escaped(data):
+    """Bytes as they are shown."""
+    return data.decode("latin-1").translate(SHOWN)
+
+
+def quoted(data):
+    return '"' + escaped(data).replace('"', '\\"') + '"'
+
+
+def shown(text):
+    """A piece of a text in quotes, its bytes as they stand in a file, and cut where it is long."""
+    data = text.encode(errors="replace")
+    return quoted(data[:SHOWN_MOST]) + ".." * (len(data) > SHOWN_MOST)
+
+
+def meant(word, names):
+    """A question for the nearest of some names, if one is near."""
+    few = {name.lower(): name for name in itertools.islice(names, NAMES_MOST) if len(name) <= SHOWN_MOST}
+    near = difflib.get_close_matches(word.lower(), few, 1) if len(word) <= SHOWN_MOST else []
+    return f"; did you mean {shown(few[near[0]])}?" if near else ""
+
+
+def number_of(text):
+    """The number that some figures are."""
+    figures = text.lstrip("0") or "0"
+    if len(figures) > FIGURES_MOST:
+        raise Fault(f"the number {shown(text)} is too great")
+    return int(figures)
+
+
 def big(number, width=2):
     """The bytes of a number."""
     if number >= 256 ** width:
-        raise Fault(f"{number} does not fit in {width} bytes")
+        raise Fault(f"{number} does not fit in {width} byte{'s' * (width > 1)}")
     return number.to_bytes(width, "big")
 
 
@@ -79,33 +137,48 @@ def entry(first, zero, *parts):
     return big(first, 1) + big(zero, 1) + b"".join(map(big, parts))
 
 
+TOO_MANY = f"the text writes out more than {UNIT_MOST} bytes"
+
+# What is wanted of a line, in words.
+SORTS = {"word": "a name", "number": "a number", "string": "a string or hex"}
+
+
 class Line:
     """The tokens of one line, taken from the left."""
 
     def __init__(self, text):
-        self.tokens, self.at, at, text = [], 0, 0, text.rstrip()
+        self.tokens, self.at, at, text = [], 0, 0, text.rstrip(BLANKS)
         while at < len(text):
             match = TOKEN.match(text, at)
             if not match:
-                raise Fault(f"cannot read {text[at:].strip()!r}")
+                raise Fault(f"{shown(text[at:].lstrip(BLANKS))} cannot be read")
             at = match.end()
             if match.lastgroup != "comment":
                 self.tokens.append((match.lastgroup, match[match.lastgroup]))
 
     def peek(self, ahead=0):
         at = self.at + ahead
-        return self.tokens[at] if at < len(self.tokens) else ("end", "the end of the line")
+        return self.tokens[at] if at < len(self.tokens) else ("end", "")
 
     def is_done(self):
         return self.peek()[0] == "end"
 
-    def take(self, wanted):
-        """Takes a token of a kind, or the very word or sign that is wanted."""
-        kind, text = self.peek()
-        if wanted != kind and not (kind in ("word", "sign") and wanted == text):
-            raise Fault(f"{wanted} is wanted where {text} stands")
+    def here(self):
+        """What stands here, in words."""
+        return "the line ends" if self.is_done() else f"{shown(self.peek()[1])} stands"
+
+    def take(self, kind):
+        """Takes a token of a kind."""
+        found, text = self.peek()
+        if found != kind:
+            raise Fault(f"{SORTS.get(kind, kind)} is wanted where {self.here()}")
         self.at += 1
         return text
+
+    def pass_by(self, text):
+        """Passes the very word or sign that is wanted."""
+        if not self.accept(text):
+            raise Fault(f"{shown(text)} is wanted where {self.here()}")
 
     def accept(self, text):
         found = self.peek() in (("sign", text), ("word", text))
@@ -113,7 +186,7 @@ class Line:
         return found
 
     def number(self):
-        return int(self.take("number"))
+        return number_of(self.take("number"))
 
     def name(self):
         return self.take("word")
@@ -125,13 +198,12 @@ class Line:
             try:
                 return bytes.fromhex(text[1:-1])
             except ValueError:
-                raise Fault(f"{text} is not hex") from None
-        text = self.take("string")[1:-1]
-        text = ESCAPE.sub(lambda m: chr(int(m[1][1:], 16)) if m[1][0] == "x" else m[1], text)
+                raise Fault(f"{shown(text)} is not hex: a byte has two figures") from None
+        text = ESCAPE.sub(unescaped, self.take("string")[1:-1])
         try:
             return text.encode("latin-1")
-        except UnicodeEncodeError:
-            raise Fault("a string holds characters of one byte only") from None
+        except UnicodeEncodeError as fault:
+            raise Fault(f"the character U+{ord(text[fault.start]):04X} is beyond Latin-1, and has no byte") from None
 
     def bytes(self):
         """Terms to the end of the line, each with a count before it or not."""
@@ -140,8 +212,11 @@ class Line:
             count = 1
             if self.peek()[0] == "number":
                 count = self.number()
-                self.take("*")
-            result += count * self.term()
+                self.pass_by("*")
+            term = self.term()
+            if len(result) + count * len(term) > UNIT_MOST:
+                raise Fault(TOO_MANY)
+            result += count * term
         return bytes(result)
 
     def changes(self, parts):
@@ -149,26 +224,55 @@ class Line:
         while not self.is_done():
             name = self.name()
             if name not in parts:
-                raise Fault(f"there is no {name} to change")
-            self.take("=")
+                raise Fault(f"unknown part {shown(name)}{meant(name, parts)}")
+            self.pass_by("=")
             parts[name] = self.term() if name == "mark" else self.number()
         return parts
 
 
 class Assembler:
-    """Takes the lines of a text and gives the unit."""
+    """Takes the lines of a text and gives the unit. `at` is the line that is looked at, and a fault is reported with it."""
 
     def __init__(self):
         self.image, self.fields = bytearray(), bytearray()
         self.expressions, self.literals, self.statements = bytearray(), bytearray(), []
         self.raw, self.trailer, self.patches = None, {}, []
-        self.field_names, self.labels, self.spots, self.placed = {}, {}, {}, {}
+        self.names, self.placed = {"field": {}, "label": {}, "expression": {}}, {}
+        self.at = self.written = self.repeated = self.depth = 0
+
+    def lines(self, lines):
+        """Takes all lines, repeats written out."""
+        number = 0
+        while number < len(lines):
+            self.at = number + 1
+            words = bare(lines[number])
+            if words[:1] == ["repeat"]:
+                number = self.repeat(lines, number + 1, words[1:])
+            else:
+                self.line(lines[number])
+            number += 1
+        self.at = len(lines) - (lines[-1] == "" != lines[0])
+
+    def repeat(self, lines, start, count):
+        """Takes the lines from `start` up to the end of a repeat, as often as it says, and gives where that stands."""
+        end = next((at for at in range(start, len(lines)) if bare(lines[at]) == ["end"]), 0)
+        if not end or len(count) != 1 or not re.fullmatch("[0-9]+", count[0]):
+            raise Fault("repeat has a count, and an end below it")
+        turns = number_of(count[0])
+        self.repeated += turns * sum(len(line) + 1 for line in lines[start:end])
+        if self.repeated > TEXT_MOST:
+            raise Fault(f"repeats write out more than {TEXT_MOST} characters")
+        for i in range(turns if end > start else 0):
+            for at in range(start, end):
+                self.at = at + 1
+                self.line(COUNTER.sub(functools.partial(counted, i), lines[at]))
+        return end
 
     def line(self, text):
         line = Line(text)
         while line.peek()[0] == "word" and line.peek(1) == ("sign", ":"):
-            self.labels[line.name()] = len(self.statements)
-            line.take(":")
+            self.add_name("label", line.name(), len(self.statements))
+            line.pass_by(":")
         if line.is_done():
             return
         word = line.name()
@@ -176,84 +280,106 @@ class Assembler:
             self.statement(word, line)
         elif word in KINDS:
             self.field(word, line)
-        elif hasattr(self, "do_" + word):
+        elif word in OTHERS:
             getattr(self, "do_" + word)(line)
+        elif word in REPEATS:
+            raise Fault(f"{shown(word)} stands alone, and no repeat inside another")
         else:
-            raise Fault(f"{word} begins no line")
+            raise Fault(f"unknown word {shown(word)}{meant(word, [*CODES, *KINDS, *OTHERS, *REPEATS])}")
         if not line.is_done():
-            raise Fault(f"{line.peek()[1]} is left over")
+            raise Fault(f"the line should end where {line.here()}")
+
+    def add_name(self, sort, name, value):
+        """Gives a name of a sort its value. It stands once."""
+        if name in self.names[sort]:
+            raise Fault(f"the {sort} {name[:SHOWN_MOST]} stands in line {self.names[sort][name][1]} already")
+        self.names[sort][name] = value, self.at
+
+    def value(self, sort, name):
+        """What a name of a sort stands for."""
+        names = self.names[sort]
+        if name not in names:
+            raise Fault(f"unknown {sort} {shown(name)}{meant(name, names)}")
+        return names[name][0]
+
+    def bytes(self, line):
+        """The bytes to the end of a line. All that are so written are counted."""
+        data = line.bytes()
+        self.written += len(data)
+        if self.written > UNIT_MOST:
+            raise Fault(TOO_MANY)
+        return data
 
     def do_data(self, line):
-        self.image += line.bytes()
+        self.image += self.bytes(line)
 
     def do_literals(self, line):
-        self.literals += line.bytes()
+        self.literals += self.bytes(line)
 
     def do_raw(self, line):
-        self.raw = (self.raw or bytearray()) + line.bytes()
+        self.raw = bytearray() if self.raw is None else self.raw
+        self.raw += self.bytes(line)
 
     def do_patch(self, line):
-        self.patches.append((line.number(), line.bytes()))
+        self.patches.append((self.at, line.number(), self.bytes(line)))
 
     def do_trailer(self, line):
         told = line.changes(dict.fromkeys(["D", "F", "E", "P", "N", "mark"]))
-        self.trailer |= {name: value for name, value in told.items() if value is not None}
+        self.trailer |= {name: (self.at, value) for name, value in told.items() if value is not None}
 
     def do_field(self, line):
         self.add_field(line.name(), self.eight(line))
 
     def do_statement(self, line):
-        self.statements.append(self.eight(line))
+        self.statements.append((self.at, self.eight(line)))
 
     def do_expr(self, line):
         name = line.name()
-        data = self.expression(line) if line.accept("=") else line.bytes()
-        self.spots[name] = len(self.expressions)
+        data = self.expression(line) if line.accept("=") else self.bytes(line)
+        self.add_name("expression", name, len(self.expressions))
         self.placed.setdefault(data, len(self.expressions))
         self.expressions += data
 
     def eight(self, line):
-        data = line.bytes()
+        data = self.bytes(line)
         if len(data) != 8:
-            raise Fault("an entry is eight bytes long")
+            raise Fault(f"an entry is 8 bytes long, and here are {len(data)}")
         return data
 
     def field(self, word, line):
         name, offset, size, count = line.name(), line.number(), line.number(), 1
-        if re.fullmatch(r"x\d+", line.peek()[1]):
-            count = int(line.name()[1:])
+        if re.fullmatch("x[0-9]+", line.peek()[1]):
+            count = number_of(line.name()[1:])
         parts = {"kind": KINDS.index(word), "zero": 0}
         if line.accept("with"):
             line.changes(parts)
         self.add_field(name, entry(parts["kind"], parts["zero"], offset, size, count))
 
     def add_field(self, name, data):
-        if name in self.field_names:
-            raise Fault(f"{name} is there already")
-        self.field_names[name] = len(self.fields) // 8
+        self.add_name("field", name, len(self.fields) // 8)
         self.fields += data
 
     def statement(self, word, line):
         parts, table = {"code": CODES[word], "zero": 0, "a": 0, "b": 0, "c": 0}, []
         for part in PLACES.get(word, ""):
             if word + part == "setb":
-                line.take("=")
+                line.pass_by("=")
             parts[part] = self.place(line)
         if word == "ifzero":
-            line.take("goto")
+            line.pass_by("goto")
         if word in TARGET:
             parts["c"] = self.target(line)
         if word == "computed" and line.accept("of"):
             parts["a"] = line.number()
         elif word == "computed":
-            line.take("goto")
+            line.pass_by("goto")
             while line.peek()[0] in ("number", "word") and line.peek()[1] != "with":
                 table.append(self.target(line))
             parts["a"] = len(table)
         if line.accept("with"):
             line.changes(parts)
-        self.statements.append(parts)
-        self.statements += [{"code": 7, "zero": 0, "a": 0, "b": 0, "c": c} for c in table]
+        self.statements.append((self.at, parts))
+        self.statements += [(self.at, {"code": 7, "zero": 0, "a": 0, "b": 0, "c": c}) for c in table]
 
     def target(self, line):
         return line.number() if line.peek()[0] == "number" else line.name()
@@ -263,7 +389,7 @@ class Assembler:
         if line.accept("@"):
             if line.peek()[0] == "number":
                 return line.number()
-            spot = known(self.spots, line.name())
+            spot = self.value("expression", line.name())
             return spot + line.number() if line.accept("+") else spot
         data = self.expression(line)
         if data not in self.placed:
@@ -272,12 +398,13 @@ class Assembler:
         return self.placed[data]
 
     def expression(self, line):
+        self.depth = 0
         if line.peek()[0] == "hex":
             return line.term()
-        return self.postfix(line) if line.accept("[") else self.infix(line) + b"\0"
+        return bytes(self.postfix(line) if line.accept("[") else self.infix(line) + b"\0")
 
     def postfix(self, line):
-        data, close = b"", b"\0"
+        data, close = bytearray(), b"\0"
         while not line.accept("]"):
             kind, text = line.peek()
             if line.accept("..."):
@@ -292,16 +419,25 @@ class Assembler:
                 number, form = self.field_number(line), 2
                 if line.accept("("):
                     form = 4 if line.accept(",") else 5 if line.accept(":") else 3
-                    line.take(")")
+                    line.pass_by(")")
                 data += big(form, 1) + big(number)
         return data + close
+
+    def deeper(self, read, line, *level):
+        """What is read inside of what is being read."""
+        self.depth += 1
+        if self.depth > DEPTH_MOST:
+            raise Fault(f"an expression nests deeper than {DEPTH_MOST}")
+        data = read(line, *level)
+        self.depth -= 1
+        return data
 
     def infix(self, line, level=0):
         if level == TIGHTEST:
             return self.primary(line)
         if level == NOT_LEVEL and line.accept(".NOT."):
-            return self.infix(line, level) + big(NOT, 1)
-        data = self.infix(line, level + 1)
+            return self.deeper(self.infix, line, level) + big(NOT, 1)
+        data = bytearray(self.infix(line, level + 1))
         while line.peek()[1] in LEVELS[level]:
             code = LEVELS[level][line.take("sign")]
             data += self.infix(line, level + 1) + big(code, 1)
@@ -309,31 +445,31 @@ class Assembler:
 
     def primary(self, line):
         if line.accept("-"):
-            return self.primary(line) + big(NEGATE, 1)
+            return self.deeper(self.primary, line) + big(NEGATE, 1)
         if line.accept("("):
-            data = self.infix(line)
-            line.take(")")
+            data = self.deeper(self.infix, line)
+            line.pass_by(")")
             return data
         if line.peek()[0] in ("string", "number", "placed"):
             return self.literal(line)
         number, form, bounds = self.field_number(line), 2, b""
         if line.accept("("):
-            form, bounds = 3, self.infix(line)
+            form, bounds = 3, self.deeper(self.infix, line)
             if line.peek()[1] in (",", ":"):
                 form = 4 if line.take("sign") == "," else 5
-                bounds += self.infix(line)
-            line.take(")")
+                bounds += self.deeper(self.infix, line)
+            line.pass_by(")")
         return bounds + big(form, 1) + big(number)
 
     def field_number(self, line):
-        return line.number() if line.accept("%") else known(self.field_names, line.name())
+        return line.number() if line.accept("%") else self.value("field", line.name())
 
     def literal(self, line):
         """An item 01 or 06. A literal without a place is found among the literals or added."""
         kind, text = line.peek()
         if kind == "placed":
             sort, place, length = re.split("[@:]", line.take(kind))
-            return literal_item(sort == "num", int(place), int(length))
+            return literal_item(sort == "num", number_of(place), number_of(length))
         data = line.take(kind).encode() if kind == "number" else line.term()
         place = self.literals.find(data)
         if place < 0:
@@ -345,28 +481,30 @@ class Assembler:
         if isinstance(statement, bytes):
             return statement
         code, zero, a, b, c = statement.values()
-        return entry(code, zero, a, b, known(self.labels, c) if isinstance(c, str) else c)
+        return entry(code, zero, a, b, self.value("label", c) if isinstance(c, str) else c)
+
+    def parts(self):
+        """The unit of all parts, with its trailer."""
+        end, statements = self.at, bytearray()
+        for self.at, statement in self.statements:
+            statements += self.resolved(statement)
+        unit = self.image + self.fields + self.expressions + self.literals + statements
+        lengths = {"D": len(self.image), "F": len(self.fields) // 8, "E": len(self.expressions),
+                   "P": len(self.literals), "N": len(self.statements), "mark": b"DB"}
+        for name, length in lengths.items():
+            self.at, value = self.trailer.get(name, (end, length))
+            if name != "mark" and value > 0xFFFF:
+                raise Fault(f"{name} is {value}, and the trailer has 2 bytes for it")
+            unit += value if name == "mark" else big(value)
+        return unit
 
     def unit(self):
-        unit = self.raw
-        if unit is None:
-            statements = b"".join(map(self.resolved, self.statements))
-            unit = self.image + self.fields + self.expressions + self.literals + statements
-            told = {"D": len(self.image), "F": len(self.fields) // 8, "E": len(self.expressions),
-                    "P": len(self.literals), "N": len(self.statements), "mark": b"DB"}
-            *lengths, mark = (told | self.trailer).values()
-            unit += b"".join(map(big, lengths)) + mark
-        for at, data in self.patches:
-            if at + len(data) > len(unit):
-                raise Fault(f"the patch at {at} leaves the unit")
-            unit[at:at + len(data)] = data
+        unit = self.parts() if self.raw is None else self.raw
+        for self.at, start, data in self.patches:
+            if start + len(data) > len(unit):
+                raise Fault(f"the patch at {start} leaves the unit, which has {len(unit)} bytes")
+            unit[start:start + len(data)] = data
         return bytes(unit)
-
-
-def known(names, name):
-    if name not in names:
-        raise Fault(f"{name} is not known")
-    return names[name]
 
 
 def literal_item(is_number, place, length):
@@ -375,43 +513,46 @@ def literal_item(is_number, place, length):
     return b"\6" + big(place) + big(length)
 
 
-def expand(lines):
-    """The lines with their numbers, repeats written out."""
-    number = 0
-    while number < len(lines):
-        if not lines[number].startswith("repeat "):
-            yield number + 1, lines[number]
-        else:
-            start, count = number + 1, lines[number].split()[1]
-            ends = [at for at in range(start, len(lines)) if lines[at].rstrip() == "end"]
-            if not count.isdecimal() or not ends:
-                raise Fault(f"line {start}: repeat has a count and an end")
-            number = ends[0]
-            for i in range(int(count)):
-                for at in range(start, number):
-                    yield at + 1, COUNTER.sub(
-                        lambda m: str(int(m[1] or 1) * i + int(m[2] or 0)), lines[at])
-        number += 1
+def bare(line):
+    """The words of a line without its comment."""
+    return line.split(";")[0].split()
+
+
+def counted(i, counter):
+    """What a counter like {8*i+1} comes to in turn i of a repeat."""
+    factor, sign, number = counter.groups()
+    return str(number_of(factor or "1") * i + number_of(number or "0") * (-1 if sign == "-" else 1))
+
+
+def unescaped(escape):
+    """The character that a backslash stands for with what follows it."""
+    text = escape[1]
+    if text in ('"', "\\"):
+        return text
+    if len(text) == 1:
+        raise Fault(f'\\{escaped(text.encode())} is no escape: a string has \\", \\\\ and \\xHH alone')
+    return chr(int(text[1:], 16))
 
 
 def asm(text):
+    """The unit that a text makes."""
     assembler = Assembler()
-    for number, line in expand(text.split("\n")):
-        try:
-            assembler.line(line)
-        except Fault as fault:
-            raise Fault(f"line {number}: {fault}") from None
-    return assembler.unit()
+    try:
+        assembler.lines(text.split("\n"))
+        return assembler.unit()
+    except Fault as fault:
+        raise Fault(f"line {assembler.at}: {fault}") from None
 
 
 class Disassembler:
     """Writes the text of a unit whose parts fill it.
 
     With `inline` the expressions stand in the statements, and the assembler is left to place
-    them and the literals. Without it each part is written out as it lies.
+    them and the literals. Without it each part is written out as it lies. Reading items and
+    writing them takes of the `room`, so that no unit is looked at for long.
     """
 
-    def __init__(self, unit, inline):
+    def __init__(self, unit, inline, room=math.inf):
         D, F, E, P, N = lengths_of(unit)
         ends = [0, D, D + 8 * F, D + 8 * F + E, D + 8 * F + E + P, len(unit) - 12]
         parts = [unit[start:end] for start, end in zip(ends, ends[1:])]
@@ -421,7 +562,12 @@ class Disassembler:
         self.statements = [statements[at:at + 8] for at in range(0, 8 * N, 8)]
         self.targets = {words_of(data)[3] for data in self.statements
                         if WORDS.get(data[0]) in TARGET}
-        self.mark, self.inline = unit[-2:], inline
+        self.mark, self.inline, self.room = unit[-2:], inline, room
+
+    def take(self, room):
+        self.room -= room
+        if self.room < 0:
+            raise TooLong
 
     def lines(self):
         yield from wrap("data", self.image)
@@ -441,8 +587,8 @@ class Disassembler:
         if data[0] >= len(KINDS):
             return f"field {name} {hexed(data)}"
         _, offset, size, count = words_of(data)
-        counted = f" x{count}" if count != 1 else ""
-        return f"{KINDS[data[0]]} {name} {offset} {size}{counted}{changed(zero=data[1])}"
+        times = f" x{count}" if count != 1 else ""
+        return f"{KINDS[data[0]]} {name} {offset} {size}{times}{changed(zero=data[1])}"
 
     def expression_lines(self):
         """The expressions, cut where the statements say that one starts."""
@@ -478,20 +624,20 @@ class Disassembler:
 
     def table(self, start, end):
         """The targets of these GOTOs, if they can be written with their computed GOTO."""
-        rows = self.statements[start:end]
-        plain = all(row[:6] == b"\7\0\0\0\0\0" for row in rows)
-        if start + len(rows) < end or not plain or self.targets & set(range(start, end)):
+        rows = range(start, end)
+        if end > len(self.statements) or not all(self.statements[i][:6] == b"\7\0\0\0\0\0" for i in rows):
             return []
-        return [self.target(words_of(row)[3]) for row in rows]
+        return [] if self.targets & set(rows) else [self.target(words_of(self.statements[i])[3]) for i in rows]
 
     def target(self, c):
         return f"L{c}" if c < len(self.statements) else str(c)
 
     @functools.cache
     def place(self, offset):
-        items, _, closed = self.items(offset, len(self.expressions))
-        if self.inline and items and closed:
-            return self.expression(items, closed)
+        if self.inline:
+            items, _, closed = self.items(offset, len(self.expressions))
+            if items and closed:
+                return self.expression(items, closed)
         return f"@X{offset}" if offset < len(self.expressions) else f"@{offset}"
 
     def items(self, at, end):
@@ -504,6 +650,7 @@ class Disassembler:
             if after > end:
                 return [], at, False
             items.append((code, self.expressions[at + 1:after]))
+            self.take(1)
             at = after
         return items, at + (at < end), at < end
 
@@ -550,6 +697,7 @@ class Disassembler:
             return name + BOUNDS[code]
         place, length = (int.from_bytes(half, "big") for half in (operands[:2], operands[2:]))
         data = self.literals[place:place + length]
+        self.take(length)
         if len(data) == length > 0 and (self.inline or self.literals.find(data) == place):
             if code == 6:
                 return quoted(data)
@@ -570,8 +718,9 @@ def figures(data):
     """A decimal as a number in figures: p to y at its end are 0 to 9 with a minus. Nothing where it is no number."""
     if not re.fullmatch(rb"[0-9]*[0-9p-y]", data):
         return ""
-    last = data[-1]
-    return str(int(data)) if last < 58 else str(-int(data[:-1] + bytes([last - 64])))
+    sign, last = ("", data[-1:]) if data[-1] < 58 else ("-", bytes([data[-1] - 64]))
+    found = (data[:-1] + last).lstrip(b"0").decode()
+    return sign + found if found else "0"
 
 
 def changed(**parts):
@@ -581,11 +730,6 @@ def changed(**parts):
 
 def hexed(data):
     return "<" + data.hex(" ").upper() + ">"
-
-
-def quoted(data):
-    text = data.decode("latin-1").replace("\\", "\\\\").replace('"', '\\"')
-    return '"' + re.sub(r"[^ -~]", lambda m: f"\\x{ord(m[0]):02X}", text) + '"'
 
 
 def terms(data):
@@ -611,10 +755,25 @@ def wrap(word, data):
         yield line
 
 
+def text_of(unit, inline):
+    """The text of a unit's parts, or nothing where it is too long to be tried."""
+    lines, left = [], TRIED_MOST
+    try:
+        for line in Disassembler(unit, inline, TRIED_MOST).lines():
+            lines.append(line)
+            left -= len(line) + 1
+            if left < 0:
+                raise TooLong
+    except TooLong:
+        return ""
+    return "\n".join(lines) + "\n"
+
+
 def dis(unit):
+    """The text of a unit, sound or not."""
     for inline in (True, False) if lengths_of(unit) else ():
-        text = "\n".join(Disassembler(unit, inline).lines()) + "\n"
-        if len(text) < TEXT_MOST and gives(text, unit):
+        text = text_of(unit, inline)
+        if text and gives(text, unit):
             return text
     return "\n".join(wrap("raw", unit) if unit else ["raw"]) + "\n"
 
@@ -626,30 +785,72 @@ def gives(text, unit):
         return False
 
 
-def read(name):
-    with open(name, "rb") as file:
-        return file.read()
+# ---- the program
+
+def decoded(data):
+    """The text that some bytes are in UTF-8."""
+    try:
+        return data.decode()
+    except UnicodeDecodeError as fault:
+        line = data.count(b"\n", 0, fault.start) + 1
+        raise Fault(f"line {line}: the byte {escaped(data[fault.start:fault.start + 1])} is not UTF-8") from None
 
 
-def write(name, data):
-    with open(name, "wb") as file:
-        file.write(data)
+def read(file, most):
+    with open(file, "rb") as source:
+        data = source.read(most + 1)
+    if len(data) > most:
+        raise Fault(f"the file is longer than {most} bytes")
+    return data
+
+
+def read_text(file):
+    """The text of a file."""
+    return decoded(read(file, TEXT_MOST))
+
+
+def write(file, data):
+    """Writes a file, which may be the number of an open one."""
+    with open(file, "wb", closefd=isinstance(file, str)) as out:
+        out.write(data)
+
+
+def about(name, work, *given):
+    """What some work on a file gives. Where it cannot be done, that is told of the file, and the program ends."""
+    try:
+        return work(*given)
+    except OSError as fault:
+        words = fault.strerror or type(fault).__name__
+    except Fault as fault:
+        words = fault
+    sys.exit(f"{escaped(os.fsencode(name))}: {words}")
 
 
 def asm_file(name, out):
     if os.path.isdir(out):
         out = os.path.join(out, os.path.splitext(os.path.basename(name))[0] + ".unit")
-    try:
-        write(out, asm(read(name).decode()))
-    except (Fault, UnicodeDecodeError) as fault:
-        sys.exit(f"{name}: {fault}")
+    unit = about(name, lambda: asm(read_text(name)))
+    about(out, write, out, unit)
+
+
+def dis_file(name):
+    return dis(about(name, read, name, UNIT_MOST)).encode()
+
+
+def put(data):
+    about("standard output", write, 1, data)
+
+
+def comes_back(name):
+    unit = about(name, read, name, UNIT_MOST)
+    return gives(dis(unit), unit)
 
 
 def test(names):
-    failed = [name for name in names if not gives(dis(read(name)), read(name))]
-    for name in failed:
-        print(f"{name}: the text gives another unit")
-    print(f"{len(names)} units: {len(names) - len(failed)} came back, {len(failed)} did not")
+    failed = [name for name in names if not comes_back(name)]
+    told = [f"{escaped(os.fsencode(name))}: the text gives another unit" for name in failed]
+    told.append(f"{len(names)} units: {len(names) - len(failed)} came back, {len(failed)} did not")
+    put("".join(line + "\n" for line in told).encode())
     return len(failed) > 0
 
 
@@ -659,11 +860,21 @@ def main(args):
             for name in names:
                 asm_file(name, out)
         case ["dis", name]:
-            sys.stdout.write(dis(read(name)))
+            put(dis_file(name))
         case ["dis", name, "-o", out]:
-            write(out, dis(read(name)).encode())
+            about(out, write, out, dis_file(name))
         case ["test", *names] if names:
             return test(names)
+        case ["-h" | "--help"]:
+            put((__doc__.strip() + "\n").encode())
         case _:
             sys.exit(__doc__.strip())
     return 0
+
+
+if __name__ == "__main__":
+    signal.signal(signal.SIGPIPE, signal.SIG_DFL)
+    try:
+        sys.exit(main(sys.argv[1:]))
+    except KeyboardInterrupt:
+        sys.exit(128 + signal.SIGINT)
