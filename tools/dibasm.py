@@ -54,16 +54,16 @@ WIDTHS = {1: 3, 6: 4} | dict.fromkeys(BOUNDS, 2) | dict.fromkeys(SIGNS, 0)
 # No expression nests deeper. Longer ones are written in postfix order, so that none nests too deep to be read back.
 DEPTH_MOST = INFIX_MOST = 64
 
-# No unit that is read, and no bytes that a text writes out, are longer; and no text is, repeats written out. The text of the longest
-# unit fits.
-UNIT_MOST = 1 << 20
-TEXT_MOST = 1 << 23
+# No unit that is read, and no bytes that a text writes out, are longer; and no text is, nor what its repeats write out. A text has room
+# for the longest unit.
+UNIT_MOST = 1 << 18
+TEXT_MOST = 1 << 21
 
 # A longer text of a unit's parts is not tried: its statements share long expressions, and each would hold its own.
 TRIED_MOST = 1_000_000
 
-# Numbers have no more figures than these, and of a longer word so many bytes are shown; names among this many are looked for what a
-# wrong one may mean.
+# A number has no more figures; of a longer word so many bytes are shown; and among so many names the one is looked for that a wrong
+# one may mean.
 FIGURES_MOST = 9
 SHOWN_MOST = 60
 NAMES_MOST = 1000
@@ -96,6 +96,7 @@ def escaped(data):
 
 
 def quoted(data):
+    """Bytes as they are shown in quotes."""
     return '"' + escaped(data).replace('"', '\\"') + '"'
 
 
