@@ -1,17 +1,21 @@
 // `boxlever check FILES..`: a row for each unit with the answer of the fence check, and a line of totals.
 use crate::say::Line;
+use crate::say::argument;
 use crate::say::fill_to;
 use crate::say::is_read;
 use crate::say::new_line;
 use crate::say::open;
 use crate::say::put;
 use crate::say::put_form;
+use crate::say::put_given;
 use crate::say::put_right;
 use crate::say::put_text;
-use crate::say::say;
 use crate::say::say_line;
-use crate::say::say_text;
 use crate::say::tell_unread;
+use crate::words::FAILED;
+use crate::words::GOOD;
+use crate::words::REFUSED;
+use crate::words::STOPPED;
 use crate::words::put_breach;
 use crate::words::put_refused;
 use rules_fence::Verdict;
@@ -66,21 +70,17 @@ fn put_length(l: Line, n: usize) -> Line {
     put_right(l, n as u64, 6)
 }
 
-// The row of a unit that was read. The path may be longer than a line.
+// The row of a unit that was read.
 fn say_unit(path: &[u8], unit: &[u8], v: Verdict) {
-    let start = put_length(new_line(), unit.len());
-    say_text(fill_to(start, 8));
-    say(path);
-    let l = put(new_line(), b' ');
-    say_line(put_answer(l, unit, v));
+    let mut l = put_length(new_line(), unit.len());
+    l = put_given(fill_to(l, 8), path);
+    say_line(put_answer(put(l, b' '), unit, v));
 }
 
-// The row of a file that cannot be read, and the tally with it.
+// The row of a file that cannot be read, and the tally with it; first the reason, of the call that failed.
 fn say_unread(path: &[u8], tally: Tally) -> Tally {
-    say(b"unreadable ");
-    say(path);
-    say(b"\n");
     tell_unread(path);
+    say_line(put_given(put_text(new_line(), b"unreadable "), path));
     let mut next = tally;
     next.unread = one_more(tally.unread);
     next
@@ -135,25 +135,40 @@ fn say_totals(tally: Tally) {
     say_line(put_unread(l, tally.unread));
 }
 
+// The exit status: the highest of the rows.
+fn status_of(tally: Tally) -> u8 {
+    if 0 < tally.unread {
+        return FAILED;
+    }
+    if 0 < tally.refused {
+        return REFUSED;
+    }
+    if 0 < tally.no {
+        return STOPPED;
+    }
+    GOOD
+}
+
 // The row of the file that the argument i names.
 fn say_argument(i: usize, tally: Tally) -> Tally {
     let mut path = io::buffer();
-    let n = os::arg(i, &mut path);
+    let n = argument(i, &mut path);
     say_file(&path[..n], tally)
 }
 
-// The rows of the files that the arguments from the second on name, and their totals.
-pub fn check_files(count: usize) {
+// The rows of the files that the arguments from one on name, and their totals; and the exit status.
+pub fn check_files(from: usize, count: usize) -> u8 {
     let mut tally = Tally {
         yes: 0,
         no: 0,
         refused: 0,
         unread: 0,
     };
-    let mut i = 2;
+    let mut i = from;
     while i < count {
         tally = say_argument(i, tally);
         i += 1;
     }
     say_totals(tally);
+    status_of(tally)
 }

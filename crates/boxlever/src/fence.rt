@@ -22,6 +22,7 @@ use crate::say::say_line;
 use crate::say::sum;
 use crate::words::put_breach;
 use crate::words::put_refusal;
+use crate::words::status_of;
 use rules_fence::Breach;
 use rules_fence::Seen;
 use rules_fence::Verdict;
@@ -339,10 +340,17 @@ fn say_refused(r: Refusal) {
 }
 
 // The answer of the fence check, with what an owner needs to find each breach.
-pub fn answer(unit: &[u8]) {
-    match dibol::fence(unit) {
+fn say_answer(unit: &[u8], v: Verdict) {
+    match v {
         Verdict::Yes => say(b"yes\n"),
         Verdict::No(i) => say_no(unit, i),
         Verdict::Refused(r) => say_refused(r),
     }
+}
+
+// Says the answer, and gives the exit status.
+pub fn answer(unit: &[u8]) -> u8 {
+    let v = dibol::fence(unit);
+    say_answer(unit, v);
+    status_of(v)
 }

@@ -15,8 +15,8 @@ use crate::say::piece;
 use crate::say::put;
 use crate::say::put_form;
 use crate::say::put_number;
+use crate::say::put_quoted;
 use crate::say::put_right;
-use crate::say::put_shown;
 use crate::say::put_text;
 use crate::say::say;
 use crate::say::say_line;
@@ -63,9 +63,7 @@ fn on_row(field: Field) -> usize {
 
 // Puts an element in quotes; of a longer one than the room only its first characters, and two dots.
 fn put_element(l: Line, s: &[u8]) -> Line {
-    let mut next = put(l, b'"');
-    next = put_shown(next, part(s, 0, ALPHA_ROOM));
-    next = put(next, b'"');
+    let next = put_quoted(l, part(s, 0, ALPHA_ROOM));
     if ALPHA_ROOM < s.len() {
         return put_text(next, b"..");
     }
@@ -135,7 +133,8 @@ fn put_held(l: Line, parts: Parts, data: &[u8], field: Field, i: u16, column: us
     let k = least(on_row(field), less(field.count as usize, i as usize));
     let next = put_elements(l, parts, data, start, size, k, false);
     if sorts::is_decimal(kind) {
-        return put_elements(fill_to(next, column), parts, data, start, size, k, true);
+        let filled = fill_to(put_text(next, b"  "), column);
+        return put_elements(filled, parts, data, start, size, k, true);
     }
     next
 }

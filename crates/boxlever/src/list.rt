@@ -2,11 +2,10 @@
 use crate::fields::put_span;
 use crate::fields::say_fields;
 use crate::parts::statement_of;
-use crate::phrase::put_hex;
 use crate::phrase::put_statement;
 use crate::say::Line;
 use crate::say::byte_at;
-use crate::say::cut;
+use crate::say::cut_to;
 use crate::say::fill_to;
 use crate::say::less;
 use crate::say::new_line;
@@ -14,12 +13,15 @@ use crate::say::part;
 use crate::say::piece;
 use crate::say::put;
 use crate::say::put_form;
+use crate::say::put_hex;
 use crate::say::put_right;
 use crate::say::put_text;
 use crate::say::same;
 use crate::say::say;
 use crate::say::say_line;
 use crate::say::sum;
+use crate::words::GOOD;
+use crate::words::REFUSED;
 use crate::words::put_breach;
 use crate::words::put_refused;
 use rules_fence::Verdict;
@@ -129,21 +131,13 @@ fn put_label(l: Line, i: u16, mark: u8) -> Line {
     put_form(l, b"L#:", i as u64, 0)
 }
 
-// The line with room for a mark: a text that leaves none is cut, and two dots follow it.
-fn with_room(l: Line) -> Line {
-    if l.at <= UNMARKED {
-        return l;
-    }
-    put_text(cut(l, UNMARKED - 2), b"..")
-}
-
 // Puts the rule that the statement i breaks, if it breaks one.
 fn put_broken(l: Line, unit: &[u8], i: u16) -> Line {
     let b = dibol::breach(unit, i as usize);
     if dibol::breach_number(b) == 0 {
         return l;
     }
-    put_breach(put_text(with_room(l), b"  ! "), b)
+    put_breach(put_text(cut_to(l, UNMARKED), b"  ! "), b)
 }
 
 // Where the statement i stands in the unit.
@@ -255,10 +249,16 @@ fn say_refused(unit: &[u8], r: Refusal) {
     say_trailer(unit);
 }
 
-// All that a unit holds, as far as its check lets it be read.
-pub fn answer(unit: &[u8]) {
+// All that a unit holds, as far as its check lets it be read; and the exit status.
+pub fn answer(unit: &[u8]) -> u8 {
     match dibol::check(unit) {
-        Checked::Passed(parts) => say_passed(unit, parts),
-        Checked::Refused(r) => say_refused(unit, r),
+        Checked::Passed(parts) => {
+            say_passed(unit, parts);
+            GOOD
+        }
+        Checked::Refused(r) => {
+            say_refused(unit, r);
+            REFUSED
+        }
     }
 }

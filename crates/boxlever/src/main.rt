@@ -9,14 +9,23 @@ mod run;
 mod say;
 mod words;
 
+use say::argument;
+use say::byte_at;
 use say::is_read;
+use say::new_line;
 use say::open;
+use say::part;
 use say::piece;
+use say::put_given;
+use say::put_text;
 use say::same;
-use say::tell;
+use say::sum;
+use say::tell_line;
 use say::tell_unread;
+use words::FAILED;
+use words::GOOD;
 
-// The words by their numbers. The first three take one file.
+// The words by their numbers. The first four take files, and the first three of them one.
 const RUN: u8 = 0;
 
 const FENCE: u8 = 1;
@@ -25,99 +34,207 @@ const CHECK: u8 = 3;
 
 const HELP: u8 = 4;
 
-const VERSION: u8 = 5;
+const VERSION: u8 = 6;
 
-const NONE: u8 = 6;
+const NONE: u8 = 7;
+
+// A run that gives the data as it is.
+const RAW: u8 = 8;
+
+// The descriptor that the exit status is written to, where the wrapper asks for it.
+const STATUS: i32 = 3;
+
+// A call as far as it is understood: its word, the argument that comes next, and whether that is no option.
+struct Call {
+    word: u8,
+    at: usize,
+    ready: bool,
+}
 
 // A call whose words are not those that `--help` tells: the word on standard output says so, the line on standard error why.
-fn usage(what: &[u8], why: &[u8]) {
+fn usage(what: &[u8], why: &[u8]) -> u8 {
     say::say(b"usage\n");
-    tell(b"boxlever: ");
-    tell(what);
-    tell(why);
-    tell(b"; try: boxlever --help\n");
+    let mut l = put_text(new_line(), b"boxlever: ");
+    l = put_given(l, what);
+    l = put_text(l, why);
+    tell_line(put_text(l, b"; try: boxlever --help"));
+    FAILED
 }
 
-// A file that cannot be read, told in the same way.
-fn unreadable(path: &[u8]) {
-    say::say(b"unreadable\n");
+// A file that cannot be read, first the reason, of the call that failed.
+fn unreadable(path: &[u8]) -> u8 {
     tell_unread(path);
+    say::say(b"unreadable\n");
+    FAILED
 }
 
-// What the word k says of a unit.
-fn answer_unit(k: u8, unit: &[u8]) {
-    if k == RUN {
-        run::answer(unit);
-        return;
+// What a word says of a unit, and the exit status.
+fn answer_unit(word: u8, unit: &[u8]) -> u8 {
+    match word {
+        RUN => run::answer(unit, false),
+        RAW => run::answer(unit, true),
+        FENCE => fence::answer(unit),
+        _ => list::answer(unit),
     }
-    if k == FENCE {
-        fence::answer(unit);
-        return;
-    }
-    list::answer(unit);
 }
 
-// What the word k says of the unit in a file that is open. More bytes than the longest unit has are read, so that a longer file is refused.
-fn answer_open(k: u8, path: &[u8], fd: i32) {
+// The same of the unit in a file that is open. More bytes than the longest unit has are read, so that a longer file is refused.
+fn answer_open(word: u8, path: &[u8], fd: i32) -> u8 {
     let mut buf = io::large_buffer();
     let n = io::read_full(fd, &mut buf);
     if is_read(fd, n) {
-        answer_unit(k, &buf[..n]);
-        return;
+        return answer_unit(word, &buf[..n]);
     }
-    unreadable(path);
+    unreadable(path)
 }
 
-// What the word k says of the unit in a file.
-fn answer_file(k: u8, path: &[u8]) {
+// The same of the unit in a file.
+fn answer_file(word: u8, path: &[u8]) -> u8 {
     let fd = open(path);
     if fd < 0 {
-        unreadable(path);
-        return;
+        return unreadable(path);
     }
-    answer_open(k, path, fd);
+    let status = answer_open(word, path, fd);
     let closed = libc::close(fd);
+    status
 }
 
-// What a word, the word k, says of the one file that is named.
-fn answer_one(word: &[u8], k: u8) {
-    if os::arg_count() != 3 {
-        usage(word, b": one FILE is wanted");
-        return;
-    }
+// The same of the unit in the file that an argument names.
+fn answer_argument(word: u8, at: usize) -> u8 {
     let mut path = io::buffer();
-    let n = os::arg(2, &mut path);
-    answer_file(k, &path[..n]);
+    let n = argument(at, &mut path);
+    answer_file(word, &path[..n])
+}
+
+// What a word says of the one file that is named.
+fn answer_one(name: &[u8], word: u8, at: usize) -> u8 {
+    if os::arg_count() != sum(at, 1) {
+        return usage(name, b": one FILE is wanted");
+    }
+    answer_argument(word, at)
 }
 
 // The table of the files that are named.
-fn answer_check() {
+fn answer_check(at: usize) -> u8 {
     let count = os::arg_count();
-    if count < 3 {
-        usage(b"check", b": FILES are wanted");
-        return;
+    if count <= at {
+        return usage(b"check", b": FILES are wanted");
     }
-    check::check_files(count);
+    check::check_files(at, count)
 }
+
+// ---- options
+
+// Whether an argument begins as an option does: a lone `-` is a file.
+fn is_option(arg: &[u8]) -> bool {
+    if arg.len() < 2 {
+        return false;
+    }
+    byte_at(arg, 0) == b'-'
+}
+
+// The word of a call after an option: a run becomes a raw one, and NONE says that the word has no such option.
+fn word_after(word: u8, arg: &[u8]) -> u8 {
+    if !same(arg, b"--raw") {
+        return NONE;
+    }
+    match word {
+        RUN | RAW => RAW,
+        _ => NONE,
+    }
+}
+
+// The call after its next argument. A `--` ends the options.
+fn taken(c: Call, arg: &[u8]) -> Call {
+    let mut next = c;
+    if !is_option(arg) {
+        next.ready = true;
+        return next;
+    }
+    if same(arg, b"--") {
+        next.ready = true;
+    } else {
+        next.word = word_after(c.word, arg);
+    }
+    if next.word != NONE {
+        next.at = sum(c.at, 1);
+    }
+    next
+}
+
+// The call after its next argument, if that may be an option.
+fn with_option(c: Call) -> Call {
+    if c.ready {
+        return c;
+    }
+    if c.word == NONE {
+        return c;
+    }
+    let mut arg = io::buffer();
+    let n = argument(c.at, &mut arg);
+    taken(c, &arg[..n])
+}
+
+// The call after all of its options, or before one that its word does not have.
+fn with_options(c: Call) -> Call {
+    let mut next = c;
+    let mut left = os::arg_count();
+    while 0 < left {
+        next = with_option(next);
+        left -= 1;
+    }
+    next
+}
+
+// An option that a word does not have.
+fn no_option(at: usize) -> u8 {
+    let mut arg = io::buffer();
+    let n = argument(at, &mut arg);
+    usage(&arg[..n], b": there is no such option")
+}
+
+// Answers a call by a word that takes files, whose options and files stand from an argument on.
+fn answer_call(name: &[u8], word: u8, from: usize) -> u8 {
+    let c = with_options(Call {
+        word: word,
+        at: from,
+        ready: false,
+    });
+    let k = c.word;
+    match k {
+        CHECK => answer_check(c.at),
+        NONE => no_option(c.at),
+        _ => answer_one(name, k, c.at),
+    }
+}
+
+// ---- words
 
 // Writes all that the program can be called with.
-fn help() {
+fn help() -> u8 {
     say::say(
-        b"usage: boxlever run FILE       run the unit, and show its fields after the run\n       boxlever fence FILE     tell whether the unit can slip, and where\n       boxlever list FILE      show its parts, its fields and its statements\n       boxlever check FILES..  a row with the fence's answer for each unit\n\nFILE is a coded DIBOL unit, or - for standard input. A run starts from the\nunit's own data and takes at most 100,000 statements.\n\nexample: boxlever fence fares.unit\n",
+        b"usage: boxlever run [--raw] FILE  run the unit, and show its fields after the run\n       boxlever fence FILE        show whether the unit can slip, and where\n       boxlever list FILE         show its parts, its fields and its statements\n       boxlever check FILES..     a row with the fence's answer for each unit\n\nFILE is a coded DIBOL unit, or - for standard input; -- ends the options. A run\nstarts from the unit's own data and takes at most 100,000 statements. Bytes that\ncannot be printed are shown as \\xHH, a backslash as \\\\; --raw leaves the data,\nthe second line of a run, as it is.\n\nexample: boxlever fence fares.unit\n",
     );
+    GOOD
 }
 
-// Whether a word is the word k.
-fn is_word(word: &[u8], k: u8) -> bool {
-    let words = b"run|fence|list|check|--help|--version|";
-    same(word, piece(words, k))
+// Writes the version.
+fn version() -> u8 {
+    say::say(b"boxlever 0.1.0\n");
+    GOOD
+}
+
+// Whether a name is that of the word k.
+fn is_word(name: &[u8], k: u8) -> bool {
+    let words = b"run|fence|list|check|--help|-h|--version|";
+    same(name, piece(words, k))
 }
 
 // The number of a word; NONE where there is no such word.
-fn number_of(word: &[u8]) -> u8 {
+fn number_of(name: &[u8]) -> u8 {
     let mut k = 0;
     while k < NONE {
-        if is_word(word, k) {
+        if is_word(name, k) {
             return k;
         }
         k += 1;
@@ -125,28 +242,46 @@ fn number_of(word: &[u8]) -> u8 {
     NONE
 }
 
-// Answers a call by its first word.
-fn answer(word: &[u8]) {
-    let k = number_of(word);
-    if k < CHECK {
-        answer_one(word, k);
-        return;
+// Answers a call by its word; what belongs to it stands from an argument on.
+fn answer_word(name: &[u8], from: usize) -> u8 {
+    let k = number_of(name);
+    if k < HELP {
+        return answer_call(name, k, from);
     }
     match k {
-        CHECK => answer_check(),
-        HELP => help(),
-        VERSION => say::say(b"boxlever 0.1.0\n"),
-        _ => usage(word, b": there is no such word"),
+        VERSION => version(),
+        NONE => usage(name, b": there is no such word"),
+        _ => help(),
     }
 }
 
-// A call without a word is told what is missing.
+// Answers a call whose word is an argument, and gives the exit status.
+fn answer(at: usize) -> u8 {
+    if os::arg_count() <= at {
+        return usage(b"no word", b" is given");
+    }
+    let mut name = io::buffer();
+    let n = argument(at, &mut name);
+    answer_word(&name[..n], sum(at, 1))
+}
+
+// Answers a call, and gives the exit status: an answer that is not written to its end has failed.
+fn status_of(at: usize) -> u8 {
+    let status = answer(at);
+    if say::end() {
+        return status;
+    }
+    FAILED
+}
+
+// A program of the kit has no exit status. By `--status` as its first argument the wrapper asks for it as a digit on another descriptor.
 fn main() {
-    if os::arg_count() < 2 {
-        usage(b"no word", b" is given");
+    let mut first = io::buffer();
+    let n = argument(1, &mut first);
+    if same(&first[..n], b"--status") {
+        let status = status_of(2);
+        let done = io::write_all(STATUS, part(b"0123", status as usize, 1));
         return;
     }
-    let mut word = io::buffer();
-    let n = os::arg(1, &mut word);
-    answer(&word[..n]);
+    let status = status_of(1);
 }

@@ -14,9 +14,9 @@ use crate::say::put;
 use crate::say::put_between;
 use crate::say::put_form;
 use crate::say::put_number;
+use crate::say::put_quoted;
 use crate::say::put_text;
 use crate::say::say_line;
-use crate::say::shown;
 use crate::say::sum;
 use rules_unit::Field;
 use rules_unit::How;
@@ -97,63 +97,7 @@ fn put_value(l: Line, h: Held, k: usize, asked: bool) -> Line {
     put_held(l, h, k)
 }
 
-// ---- literals and names
-
-// A digit of a number in hex.
-fn digit_of(n: u8) -> u8 {
-    if n < 10 {
-        return b'0' + n;
-    }
-    if n < 16 {
-        return b'A' + (n - 10);
-    }
-    b'?'
-}
-
-// Puts a byte as two digits in hex.
-pub fn put_hex(l: Line, b: u8) -> Line {
-    let next = put(l, digit_of(b / 16));
-    put(next, digit_of(b % 16))
-}
-
-// Whether a byte of a quoted text has a backslash before it.
-fn is_marked(b: u8) -> bool {
-    if b == b'"' {
-        return true;
-    }
-    b == b'\\'
-}
-
-// Puts a byte as it stands in a quoted text.
-fn put_quoted_byte(l: Line, b: u8) -> Line {
-    if shown(b) != b {
-        return put_hex(put_text(l, b"\\x"), b);
-    }
-    if is_marked(b) {
-        return put(put(l, b'\\'), b);
-    }
-    put(l, b)
-}
-
-// Puts the bytes of a quoted text, as many of them as there is room for.
-fn put_quoted(l: Line, s: &[u8]) -> Line {
-    let mut next = l;
-    let mut i = 0;
-    while i < s.len() {
-        if ROOM <= next.at {
-            break;
-        }
-        next = put_quoted_byte(next, s[i]);
-        i += 1;
-    }
-    next
-}
-
-// Puts an alpha literal, in quotes.
-fn put_literal(l: Line, s: &[u8]) -> Line {
-    let next = put_quoted(put(l, b'"'), s);
-    put(next, b'"')
-}
+// ---- names
 
 // The number of a field's kind.
 pub fn kind_number(kind: Kind) -> u8 {
@@ -288,7 +232,7 @@ pub fn hold_item(h: Held, unit: &[u8], parts: Parts, item: Item) -> Held {
         }
         Item::Reference { how, field } => hold_reference(h, unit, parts, how, field),
         Item::Text { place, len } => {
-            let l = put_literal(line, literal_of(unit, parts, place, len));
+            let l = put_quoted(line, literal_of(unit, parts, place, len));
             hold(h, 0, l, TIGHTEST)
         }
         Item::Operator(op) => hold_operator(h, op),

@@ -1,4 +1,4 @@
-// `boxlever run FILE`: what the bench program writes of the unit; then the stop in words, and what the fields hold after the run.
+// `boxlever run FILE`: what the bench program writes of the unit, with the data as it is shown; then the stop in words, and what the fields hold after the run.
 use crate::fields::say_fields;
 use crate::phrase::say_statement;
 use crate::say::Line;
@@ -8,6 +8,10 @@ use crate::say::put_number;
 use crate::say::put_text;
 use crate::say::say;
 use crate::say::say_line;
+use crate::say::say_shown;
+use crate::words::GOOD;
+use crate::words::REFUSED;
+use crate::words::STOPPED;
 use crate::words::put_place;
 use crate::words::put_stop;
 use rules_unit::Checked;
@@ -41,36 +45,43 @@ fn say_place(unit: &[u8], parts: Parts, place: u16) {
     }
 }
 
-// What is said of a run that is over.
-fn say_run(unit: &[u8], parts: Parts, data: &[u8], number: u8, place: u16, count: u64) {
-    say_numbers(number, place, count);
+// The data: as it is shown, or as it is.
+fn say_data(data: &[u8], raw: bool) {
+    if !raw {
+        say_shown(data);
+        return;
+    }
     say(data);
     say(b"\n");
+}
+
+// What is said of a run that is over.
+fn say_run(unit: &[u8], parts: Parts, data: &[u8], number: u8, place: u16, count: u64, raw: bool) {
+    say_numbers(number, place, count);
+    say_data(data, raw);
     say_stop(number, count);
     say_place(unit, parts, place);
     say_fields(unit, parts, data, true);
 }
 
-// Runs a unit over its data, which starts as its image, the first bytes of the unit.
-fn run_data(unit: &[u8], parts: Parts, data: &mut [u8]) {
+// Runs a unit over its data, which starts as its image, the first bytes of the unit; and gives the stop.
+fn run_data(unit: &[u8], parts: Parts, data: &mut [u8], raw: bool) -> u8 {
     letters::fit(data, unit);
     let out = dibol::run(unit, data, dibol::start(), 100000);
     let stop = out.stop;
-    say_run(
-        unit,
-        parts,
-        data,
-        dibol::stop_number(stop),
-        out.place,
-        out.count,
-    );
+    let number = dibol::stop_number(stop);
+    say_run(unit, parts, data, number, out.place, out.count, raw);
+    number
 }
 
-// Runs a unit that passes its check.
-fn run_unit(unit: &[u8], parts: Parts) {
+// Runs a unit that passes its check, and gives the exit status.
+fn run_unit(unit: &[u8], parts: Parts, raw: bool) -> u8 {
     let mut data = [0u8; 65536];
     let end = parts.d as usize;
-    run_data(unit, parts, &mut data[0..end]);
+    if run_data(unit, parts, &mut data[0..end], raw) == 0 {
+        return GOOD;
+    }
+    STOPPED
 }
 
 // Of a unit that is refused there is the first line and the reason.
@@ -83,10 +94,13 @@ fn say_refused(r: Refusal) {
     say_line(put_stop(l, number));
 }
 
-// Runs a unit from its own data, or tells why it is refused.
-pub fn answer(unit: &[u8]) {
+// Runs a unit from its own data, or tells why it is refused; and gives the exit status.
+pub fn answer(unit: &[u8], raw: bool) -> u8 {
     match dibol::check(unit) {
-        Checked::Passed(parts) => run_unit(unit, parts),
-        Checked::Refused(r) => say_refused(r),
+        Checked::Passed(parts) => run_unit(unit, parts, raw),
+        Checked::Refused(r) => {
+            say_refused(r);
+            REFUSED
+        }
     }
 }

@@ -1,8 +1,12 @@
 // What every word of the program writes by. A line in the making is a value: each function that puts something takes the line so far and
 // answers the line with that behind it, and `say_line` writes the whole. A line has room for so many bytes; a full one takes no more.
+ghost use Rattle.io.specs.Counts.{Counts};
 
 // The bytes that a line has room for.
 pub const ROOM: usize = 600;
+
+// The bytes of a line up to which a word of the call is put.
+const GIVEN: usize = 500;
 
 // The bytes that a file is read into, of which the longest unit takes less.
 pub const BUFFER: usize = 65536;
@@ -13,14 +17,43 @@ pub struct Line {
     pub text: [u8; 600],
 }
 
-// Writes to standard output.
-pub fn say(s: &[u8]) {
-    let done = io::write_all(libc::STDOUT_FILENO, s);
+// ---- files
+
+// Reports why standard output cannot be written, unless it is closed.
+fn tell_lost() {
+    if os::errno() == libc::EBADF {
+        return;
+    }
+    os::fail(b"boxlever: standard output");
 }
 
-// Writes to standard error.
-pub fn tell(s: &[u8]) {
-    let done = io::write_all(libc::STDERR_FILENO, s);
+// Writes to standard output. After a write that fails it is closed: the rest is not written, the reason is reported once, and `end` knows.
+pub fn say(s: &[u8]) {
+    if io::write_all(libc::STDOUT_FILENO, s) {
+        return;
+    }
+    tell_lost();
+    let closed = libc::close(libc::STDOUT_FILENO);
+}
+
+// Closes standard output, and answers whether all that was said has been written.
+pub fn end() -> bool {
+    if libc::close(libc::STDOUT_FILENO) == 0 {
+        return true;
+    }
+    tell_lost();
+    false
+}
+
+// Puts an argument at the start of a buffer, and answers its length. One that is too long fills it, and no file has such a name.
+pub fn argument(i: usize, buf: &mut [u8]) -> usize
+    ensures { λ r. ⌜ Counts r (now (buf .exit)) ⌝ }
+{
+    let n = os::arg(i, buf);
+    if os::errno() == libc::ENAMETOOLONG {
+        return io::count(isize::MAX, buf);
+    }
+    n
 }
 
 // Opens a file for reading, and answers its descriptor, or one below 0; `-` is standard input.
@@ -42,12 +75,14 @@ pub fn is_read(fd: i32, n: usize) -> bool {
     got == 0
 }
 
-// Says on standard error that a file cannot be read.
+// Reports why a file cannot be read, right after the call that failed.
 pub fn tell_unread(path: &[u8]) {
-    tell(b"boxlever: ");
-    tell(path);
-    tell(b": cannot be read\n");
+    let l = put_given(put_text(new_line(), b"boxlever: "), path);
+    let text = l.text;
+    os::fail(part(&text, 0, l.at));
 }
+
+// ---- numbers and texts
 
 // Whether two texts are the same.
 pub fn same(a: &[u8], b: &[u8]) -> bool {
@@ -245,27 +280,120 @@ pub fn put_right(l: Line, n: u64, column: usize) -> Line {
     put_number(next, n)
 }
 
-// A byte as it is shown: a dot for what cannot be printed.
-pub fn shown(b: u8) -> u8 {
-    if b < 32 {
-        return b'.';
+// ---- bytes as they are shown
+// The bytes 20 to 7E are shown as they are, but a backslash, and in quotes a quote, has a backslash before it; any other byte is `\x` and two digits in
+// hex. So nothing of a unit, of a name or of a call reaches a terminal but as these characters, and what is shown can be read back.
+
+// A digit of a number in hex.
+fn digit_of(n: u8) -> u8 {
+    if n < 10 {
+        return b'0' + n;
     }
-    if 126 < b {
-        return b'.';
+    if n < 16 {
+        return b'A' + (n - 10);
     }
-    b
+    b'?'
 }
 
-// Puts a text as it is shown.
-pub fn put_shown(l: Line, s: &[u8]) -> Line {
+// Puts a byte as two digits in hex.
+pub fn put_hex(l: Line, b: u8) -> Line {
+    let next = put(l, digit_of(b / 16));
+    put(next, digit_of(b % 16))
+}
+
+// Whether a byte is shown in hex.
+fn is_hidden(b: u8) -> bool {
+    if b < 32 {
+        return true;
+    }
+    126 < b
+}
+
+// Whether a byte is shown with a backslash before it.
+fn is_marked(b: u8, quoted: bool) -> bool {
+    if b == b'"' {
+        return quoted;
+    }
+    b == b'\\'
+}
+
+// Puts a byte as it is shown, inside quotes or not.
+fn put_byte(l: Line, b: u8, quoted: bool) -> Line {
+    if is_hidden(b) {
+        return put_hex(put_text(l, b"\\x"), b);
+    }
+    if is_marked(b, quoted) {
+        return put(put(l, b'\\'), b);
+    }
+    put(l, b)
+}
+
+// Puts a text as it is shown, as much of it as there is room for.
+fn put_shown(l: Line, s: &[u8], quoted: bool) -> Line {
     let mut next = l;
     let mut i = 0;
     while i < s.len() {
-        next = put(next, shown(s[i]));
+        if ROOM <= next.at {
+            break;
+        }
+        next = put_byte(next, s[i], quoted);
         i += 1;
     }
     next
 }
+
+// Puts a text in quotes.
+pub fn put_quoted(l: Line, s: &[u8]) -> Line {
+    let next = put_shown(put(l, b'"'), s, true);
+    put(next, b'"')
+}
+
+// Where the character ends that starts at an offset of a shown text.
+fn character_end(text: &[u8], at: usize) -> usize {
+    if byte_at(text, at) != b'\\' {
+        return sum(at, 1);
+    }
+    if byte_at(text, sum(at, 1)) != b'x' {
+        return sum(at, 2);
+    }
+    sum(at, 4)
+}
+
+// How many bytes of a shown text there are up to an offset without a character that goes beyond it.
+fn whole(text: &[u8], to: usize) -> usize {
+    let mut at = 0;
+    let mut left = to;
+    while 0 < left {
+        let end = character_end(text, at);
+        if to < end {
+            break;
+        }
+        at = end;
+        left -= 1;
+    }
+    at
+}
+
+// The line cut before a character that goes beyond an offset.
+fn cut_whole(l: Line, to: usize) -> Line {
+    let text = l.text;
+    cut(l, whole(&text, to))
+}
+
+// The line in a smaller room: a longer one is cut, and two dots follow.
+pub fn cut_to(l: Line, room: usize) -> Line {
+    if l.at <= room {
+        return l;
+    }
+    put_text(cut_whole(l, less(room, 2)), b"..")
+}
+
+// Puts a file's name or another word of the call, which leaves room for what is said of it.
+pub fn put_given(l: Line, s: &[u8]) -> Line {
+    cut_to(put_shown(l, s, false), GIVEN)
+}
+
+// ---- what is written
 
 // Puts the bytes of another line between two offsets.
 pub fn put_between(l: Line, other: Line, from: usize, to: usize) -> Line {
@@ -285,6 +413,33 @@ pub fn say_line(l: Line) {
         say_text(put(l, b'\n'));
         return;
     }
-    say_text(l);
+    say_text(cut_whole(l, ROOM));
     say(b"..\n");
+}
+
+// The line, or where it has no room for any character more an empty one, and it is written.
+fn drained(l: Line) -> Line {
+    if l.at < ROOM - 4 {
+        return l;
+    }
+    say_text(l);
+    new_line()
+}
+
+// Writes a text of any length as it is shown, and ends its line.
+pub fn say_shown(s: &[u8]) {
+    let mut l = new_line();
+    let mut i = 0;
+    while i < s.len() {
+        l = put_byte(drained(l), s[i], false);
+        i += 1;
+    }
+    say_line(l);
+}
+
+// Writes the line that is made to standard error.
+pub fn tell_line(l: Line) {
+    let next = put(l, b'\n');
+    let text = next.text;
+    let done = io::write_all(libc::STDERR_FILENO, part(&text, 0, next.at));
 }

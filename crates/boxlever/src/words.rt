@@ -1,4 +1,4 @@
-// Stops and breaches in words, each one sentence without its full stop.
+// Stops and breaches in words, each one sentence without its full stop; and the exit statuses.
 use crate::say::Line;
 use crate::say::ROOM;
 use crate::say::part;
@@ -6,7 +6,26 @@ use crate::say::piece;
 use crate::say::put_form;
 use crate::say::put_text;
 use rules_fence::Breach;
+use rules_fence::Verdict;
 use rules_unit::Refusal;
+
+// The exit statuses. A higher one is worse.
+pub const GOOD: u8 = 0;
+
+pub const STOPPED: u8 = 1;
+
+pub const REFUSED: u8 = 2;
+
+pub const FAILED: u8 = 3;
+
+// The exit status of an answer of the fence.
+pub fn status_of(v: Verdict) -> u8 {
+    match v {
+        Verdict::Yes => GOOD,
+        Verdict::No(_) => STOPPED,
+        Verdict::Refused(_) => REFUSED,
+    }
+}
 
 // The words of a stop's number.
 pub fn put_stop(l: Line, number: u8) -> Line {

@@ -6,10 +6,10 @@ use Rattle.boxlever.proofs.number_of.Statement.{statement}
 use Rattle.boxlever.proofs.number_of.Tie as tie
 
 abbrev Inv-loop : tie.InvT-loop
-Inv-loop word k₀ k = Unit {0}
+Inv-loop name k₀ k = Unit {0}
 
 abbrev μ-loop : tie.MeasureT-loop
-μ-loop word k₀ k = 6 - k
+μ-loop name k₀ k = 7 - k
 
 loop-holds : tie.Need-loop-holds Inv-loop μ-loop
 loop-holds c = search needs

@@ -6,10 +6,10 @@ use Rattle.boxlever.proofs.check.check_files.Statement.{statement}
 use Rattle.boxlever.proofs.check.check_files.Tie as tie
 
 abbrev Inv-loop : tie.InvT-loop
-Inv-loop count tally₀ i₀ tally i = Unit {0}
+Inv-loop from count tally₀ i₀ tally i = Unit {0}
 
 abbrev μ-loop : tie.MeasureT-loop
-μ-loop count tally₀ i₀ tally i = count - i
+μ-loop from count tally₀ i₀ tally i = count - i
 
 loop-holds : tie.Need-loop-holds Inv-loop μ-loop
 loop-holds c = search needs
@@ -29,6 +29,9 @@ loop-again c = search needs
 say-totals-requires : tie.Need-say-totals-requires Inv-loop μ-loop
 say-totals-requires c κs = search needs
 
+status-of-requires : tie.Need-status-of-requires Inv-loop μ-loop
+status-of-requires c κs = search needs
+
 returns : tie.Need-returns Inv-loop μ-loop
 returns c = search needs
 
@@ -44,4 +47,5 @@ check-files-spec =
     loop-less
     loop-again
     say-totals-requires
+    status-of-requires
     returns)

@@ -1,4 +1,4 @@
--- `boxlever::say::put_shown` ends: each turn shows one byte.
+-- `boxlever::say::put_shown` ends: each turn puts one byte.
 -- The invariant: nothing is kept. The measure: the bytes that are left. Assumes nothing.
 use Prim.Native.Nat.{_-_}
 use borrow.Author.Needs.{needs}
@@ -7,22 +7,19 @@ use Rattle.boxlever.proofs.say.put_shown.Statement.{statement}
 use Rattle.boxlever.proofs.say.put_shown.Tie as tie
 
 abbrev Inv-loop : tie.InvT-loop
-Inv-loop s next₀ i₀ next i = Unit {0}
+Inv-loop s quoted next₀ i₀ next i = Unit {0}
 
 abbrev μ-loop : tie.MeasureT-loop
-μ-loop s next₀ i₀ next i = length s - i
+μ-loop s quoted next₀ i₀ next i = length s - i
 
 loop-holds : tie.Need-loop-holds Inv-loop μ-loop
 loop-holds c = search needs
 
-shared-slice-read-shown : tie.Need-shared-slice-read-shown Inv-loop μ-loop
-shared-slice-read-shown c = search needs
+shared-slice-read-put-byte : tie.Need-shared-slice-read-put-byte Inv-loop μ-loop
+shared-slice-read-put-byte c = search needs
 
-shown-requires : tie.Need-shown-requires Inv-loop μ-loop
-shown-requires c κs = search needs
-
-put-requires : tie.Need-put-requires Inv-loop μ-loop
-put-requires c κs = search needs
+put-byte-requires : tie.Need-put-byte-requires Inv-loop μ-loop
+put-byte-requires c κs = search needs
 
 add-i : tie.Need-add-i Inv-loop μ-loop
 add-i c = search needs
@@ -36,6 +33,9 @@ loop-again c = search needs
 returns : tie.Need-returns Inv-loop μ-loop
 returns c = search needs
 
+returns-2 : tie.Need-returns-2 Inv-loop μ-loop
+returns-2 c = search needs
+
 pub put-shown-spec : {M : Type 1} → statement M
 put-shown-spec =
     tie.close
@@ -43,10 +43,10 @@ put-shown-spec =
     Inv-loop
     μ-loop
     loop-holds
-    shared-slice-read-shown
-    shown-requires
-    put-requires
+    shared-slice-read-put-byte
+    put-byte-requires
     add-i
     loop-less
     loop-again
-    returns)
+    returns
+    returns-2)
