@@ -1,8 +1,10 @@
 // `boxlever check FILES..`: a row for each unit with the answer of the fence check, and a line of totals.
 use crate::say::Line;
+use crate::say::Show;
 use crate::say::argument;
 use crate::say::fill_to;
 use crate::say::is_read;
+use crate::say::line_for;
 use crate::say::new_line;
 use crate::say::open;
 use crate::say::put;
@@ -71,40 +73,40 @@ fn put_length(l: Line, n: usize) -> Line {
 }
 
 // The row of a unit that was read.
-fn say_unit(path: &[u8], unit: &[u8], v: Verdict) {
-    let mut l = put_length(new_line(), unit.len());
+fn say_unit(path: &[u8], unit: &[u8], v: Verdict, show: Show) {
+    let mut l = put_length(line_for(show), unit.len());
     l = put_given(fill_to(l, 8), path);
     say_line(put_answer(put(l, b' '), unit, v));
 }
 
 // The row of a file that cannot be read, and the tally with it; first the reason, of the call that failed.
-fn say_unread(path: &[u8], tally: Tally) -> Tally {
+fn say_unread(path: &[u8], tally: Tally, show: Show) -> Tally {
     tell_unread(path);
-    say_line(put_given(put_text(new_line(), b"unreadable "), path));
+    say_line(put_given(put_text(line_for(show), b"unreadable "), path));
     let mut next = tally;
     next.unread = one_more(tally.unread);
     next
 }
 
 // The row of a file that is open, and the tally with it.
-fn say_open(path: &[u8], fd: i32, tally: Tally) -> Tally {
+fn say_open(path: &[u8], fd: i32, tally: Tally, show: Show) -> Tally {
     let mut buf = io::large_buffer();
     let n = io::read_full(fd, &mut buf);
     if !is_read(fd, n) {
-        return say_unread(path, tally);
+        return say_unread(path, tally, show);
     }
     let verdict = dibol::fence(&buf[..n]);
-    say_unit(path, &buf[..n], verdict);
+    say_unit(path, &buf[..n], verdict, show);
     counted(tally, verdict)
 }
 
 // The row of a file, and the tally with it. Standard input is closed like any other, since it is read once.
-fn say_file(path: &[u8], tally: Tally) -> Tally {
+fn say_file(path: &[u8], tally: Tally, show: Show) -> Tally {
     let fd = open(path);
     if fd < 0 {
-        return say_unread(path, tally);
+        return say_unread(path, tally, show);
     }
-    let next = say_open(path, fd, tally);
+    let next = say_open(path, fd, tally, show);
     let closed = libc::close(fd);
     next
 }
@@ -150,14 +152,14 @@ fn status_of(tally: Tally) -> u8 {
 }
 
 // The row of the file that the argument i names.
-fn say_argument(i: usize, tally: Tally) -> Tally {
+fn say_argument(i: usize, tally: Tally, show: Show) -> Tally {
     let mut path = io::buffer();
     let n = argument(i, &mut path);
-    say_file(&path[..n], tally)
+    say_file(&path[..n], tally, show)
 }
 
 // The rows of the files that the arguments from one on name, and their totals; and the exit status.
-pub fn check_files(from: usize, count: usize) -> u8 {
+pub fn check_files(from: usize, count: usize, show: Show) -> u8 {
     let mut tally = Tally {
         yes: 0,
         no: 0,
@@ -166,7 +168,7 @@ pub fn check_files(from: usize, count: usize) -> u8 {
     };
     let mut i = from;
     while i < count {
-        tally = say_argument(i, tally);
+        tally = say_argument(i, tally, show);
         i += 1;
     }
     say_totals(tally);

@@ -12,6 +12,7 @@ use crate::phrase::say_statement;
 use crate::phrase::start_of;
 use crate::say::Line;
 use crate::say::ROOM;
+use crate::say::Show;
 use crate::say::less;
 use crate::say::new_line;
 use crate::say::put_between;
@@ -296,7 +297,7 @@ fn say_breach(b: Breach) {
 }
 
 // The lines of the statement i, if it breaks a rule: its references in the order in which they are worked out.
-fn say_breaking(unit: &[u8], parts: Parts, i: u16)
+fn say_breaking(unit: &[u8], parts: Parts, i: u16, show: Show)
     requires { ⌜ Fills (now unit) parts ⌝ }
     requires { ⌜ Dialect parts ⌝ }
 {
@@ -305,28 +306,28 @@ fn say_breaking(unit: &[u8], parts: Parts, i: u16)
         return;
     }
     let s = statement_of(unit, parts, i);
-    say_statement(unit, parts, i);
+    say_statement(unit, parts, i, show);
     say_breach(b);
     say_uses(unit, parts, s);
 }
 
 // The lines of all breaking statements, the first of which is given.
-fn say_all(unit: &[u8], parts: Parts, first: u16)
+fn say_all(unit: &[u8], parts: Parts, first: u16, show: Show)
     requires { ⌜ Fills (now unit) parts ⌝ }
     requires { ⌜ Dialect parts ⌝ }
 {
     let mut i = first;
     while i < parts.n {
-        say_breaking(unit, parts, i);
+        say_breaking(unit, parts, i, show);
         i += 1;
     }
 }
 
 // The first statement that breaks a rule, then the lines of all that do.
-fn say_no(unit: &[u8], i: u16) {
+fn say_no(unit: &[u8], i: u16, show: Show) {
     say_line(put_form(new_line(), b"no #", i as u64, 0));
     match dibol::check(unit) {
-        Checked::Passed(parts) => say_all(unit, parts, i),
+        Checked::Passed(parts) => say_all(unit, parts, i, show),
         Checked::Refused(_) => (), // Never so: the fence has answered.
     }
 }
@@ -340,17 +341,17 @@ fn say_refused(r: Refusal) {
 }
 
 // The answer of the fence check, with what an owner needs to find each breach.
-fn say_answer(unit: &[u8], v: Verdict) {
+fn say_answer(unit: &[u8], v: Verdict, show: Show) {
     match v {
         Verdict::Yes => say(b"yes\n"),
-        Verdict::No(i) => say_no(unit, i),
+        Verdict::No(i) => say_no(unit, i, show),
         Verdict::Refused(r) => say_refused(r),
     }
 }
 
 // Says the answer, and gives the exit status.
-pub fn answer(unit: &[u8]) -> u8 {
+pub fn answer(unit: &[u8], show: Show) -> u8 {
     let v = dibol::fence(unit);
-    say_answer(unit, v);
+    say_answer(unit, v, show);
     status_of(v)
 }

@@ -4,10 +4,12 @@ use crate::parts::figures_of;
 use crate::phrase::kind_number;
 use crate::phrase::put_name;
 use crate::say::Line;
+use crate::say::Show;
 use crate::say::cut;
 use crate::say::fill_to;
 use crate::say::least;
 use crate::say::less;
+use crate::say::line_for;
 use crate::say::most;
 use crate::say::new_line;
 use crate::say::part;
@@ -21,6 +23,7 @@ use crate::say::put_text;
 use crate::say::say;
 use crate::say::say_line;
 use crate::say::sum;
+use crate::say::width;
 use rules_unit::Field;
 use rules_unit::Parts;
 
@@ -140,14 +143,14 @@ fn put_held(l: Line, parts: Parts, data: &[u8], field: Field, i: u16, column: us
 }
 
 // How many columns the stored characters of a decimal field take.
-fn stored_width(parts: Parts, data: &[u8], field: Field) -> usize {
+fn stored_width(parts: Parts, data: &[u8], field: Field, show: Show) -> usize {
     let kind = field.kind;
     if !sorts::is_decimal(kind) {
         return 0;
     }
     let start = start_of(field, 0);
     let l = put_elements(
-        new_line(),
+        line_for(show),
         parts,
         data,
         start,
@@ -155,15 +158,18 @@ fn stored_width(parts: Parts, data: &[u8], field: Field) -> usize {
         on_row(field),
         false,
     );
-    l.at
+    width(l)
 }
 
 // The widest of them, or that of the head.
-fn widest(unit: &[u8], parts: Parts, data: &[u8]) -> usize {
+fn widest(unit: &[u8], parts: Parts, data: &[u8], show: Show) -> usize {
     let mut width = 6;
     let mut i: u16 = 0;
     while i < parts.f {
-        width = most(width, stored_width(parts, data, field_of(unit, parts, i)));
+        width = most(
+            width,
+            stored_width(parts, data, field_of(unit, parts, i), show),
+        );
         i += 1;
     }
     width
@@ -222,19 +228,19 @@ fn begins(at: usize, k: usize) -> bool {
 }
 
 // The row of an element's characters from a count on, if a row begins there.
-fn say_characters(s: &[u8], at: usize) {
+fn say_characters(s: &[u8], at: usize, show: Show) {
     if !begins(at, ALPHA_ROOM) {
         return;
     }
-    let l = fill_to(new_line(), STORED);
+    let l = fill_to(line_for(show), STORED);
     say_line(put_element(l, part(s, at, s.len())));
 }
 
 // The rows of an element's characters behind its first row.
-fn say_tail(s: &[u8]) {
+fn say_tail(s: &[u8], show: Show) {
     let mut at = 1;
     while at < s.len() {
-        say_characters(s, at);
+        say_characters(s, at, show);
         at += 1;
     }
 }
@@ -249,45 +255,53 @@ fn put_subscript(l: Line, i: u16) -> Line {
 }
 
 // The rows from the element i on, if a row begins there: that of the element, and those of its further characters.
-fn say_element(parts: Parts, data: &[u8], field: Field, i: u16, column: usize) {
+fn say_element(parts: Parts, data: &[u8], field: Field, i: u16, column: usize, show: Show) {
     if !begins(i as usize, on_row(field)) {
         return;
     }
-    let l = put_subscript(new_line(), i);
+    let l = put_subscript(line_for(show), i);
     say_line(put_held(l, parts, data, field, i, column));
-    say_tail(element_of(data, field, i));
+    say_tail(element_of(data, field, i), show);
 }
 
 // The rows of a field's elements behind those of its first row.
-fn say_others(parts: Parts, data: &[u8], field: Field, column: usize) {
+fn say_others(parts: Parts, data: &[u8], field: Field, column: usize, show: Show) {
     let mut i: u16 = 1;
     while i < field.count {
-        say_element(parts, data, field, i, column);
+        say_element(parts, data, field, i, column, show);
         i += 1;
     }
 }
 
 // All rows of a field behind its first. A record has none, since it covers other fields.
-fn say_rest(parts: Parts, data: &[u8], field: Field, column: usize) {
+fn say_rest(parts: Parts, data: &[u8], field: Field, column: usize, show: Show) {
     let kind = field.kind;
     if kind_number(kind) == RECORD {
         return;
     }
-    say_tail(element_of(data, field, 0));
-    say_others(parts, data, field, column);
+    say_tail(element_of(data, field, 0), show);
+    say_others(parts, data, field, column, show);
 }
 
 // ---- the table
 
 // The rows of the field i over some data: all that it holds, or one with its first elements and how many more there are.
-fn say_field(unit: &[u8], parts: Parts, data: &[u8], i: u16, column: usize, whole: bool) {
+fn say_field(
+    unit: &[u8],
+    parts: Parts,
+    data: &[u8],
+    i: u16,
+    column: usize,
+    whole: bool,
+    show: Show,
+) {
     let field = field_of(unit, parts, i);
-    let mut l = put_entry(new_line(), field, i);
+    let mut l = put_entry(line_for(show), field, i);
     l = put_sizes(l, field);
     l = put_held(l, parts, data, field, 0, column);
     if whole {
         say_line(l);
-        say_rest(parts, data, field, column);
+        say_rest(parts, data, field, column, show);
         return;
     }
     say_line(put_more(l, field));
@@ -305,15 +319,15 @@ fn say_head(column: usize) {
 }
 
 // The fields of a unit, with what they hold in some data, the whole of it or its beginning. A unit without fields has no table.
-pub fn say_fields(unit: &[u8], parts: Parts, data: &[u8], whole: bool) {
+pub fn say_fields(unit: &[u8], parts: Parts, data: &[u8], whole: bool, show: Show) {
     if parts.f < 1 {
         return;
     }
-    let column = sum(STORED + 2, widest(unit, parts, data));
+    let column = sum(STORED + 2, widest(unit, parts, data, show));
     say_head(column);
     let mut i: u16 = 0;
     while i < parts.f {
-        say_field(unit, parts, data, i, column, whole);
+        say_field(unit, parts, data, i, column, whole, show);
         i += 1;
     }
 }

@@ -4,10 +4,12 @@ use crate::fields::say_fields;
 use crate::parts::statement_of;
 use crate::phrase::put_statement;
 use crate::say::Line;
+use crate::say::Show;
 use crate::say::byte_at;
 use crate::say::cut_to;
 use crate::say::fill_to;
 use crate::say::less;
+use crate::say::line_for;
 use crate::say::new_line;
 use crate::say::part;
 use crate::say::piece;
@@ -159,8 +161,8 @@ fn put_place(l: Line, unit: &[u8], parts: Parts, i: u16, mark: u8) -> Line {
 }
 
 // The row of the statement i. Before the first that breaks a rule none is asked for.
-fn say_statement(unit: &[u8], parts: Parts, i: u16, mark: u8, first: u16) {
-    let mut l = put_place(new_line(), unit, parts, i, mark);
+fn say_statement(unit: &[u8], parts: Parts, i: u16, mark: u8, first: u16, show: Show) {
+    let mut l = put_place(line_for(show), unit, parts, i, mark);
     l = put_statement(l, unit, parts, i);
     if first <= i {
         l = put_broken(l, unit, i);
@@ -169,21 +171,21 @@ fn say_statement(unit: &[u8], parts: Parts, i: u16, mark: u8, first: u16) {
 }
 
 // The rows of the statements, the targets among them being marked.
-fn say_rows(unit: &[u8], parts: Parts, marks: &[u8], first: u16) {
+fn say_rows(unit: &[u8], parts: Parts, marks: &[u8], first: u16, show: Show) {
     let mut i: u16 = 0;
     while i < parts.n {
-        say_statement(unit, parts, i, byte_at(marks, i as usize), first);
+        say_statement(unit, parts, i, byte_at(marks, i as usize), first, show);
         i += 1;
     }
 }
 
 // The statements of a unit, of which the first that breaks a rule is given. A unit has at most 2,048 of them.
-fn say_statements(unit: &[u8], parts: Parts, first: u16) {
+fn say_statements(unit: &[u8], parts: Parts, first: u16, show: Show) {
     let mut space = [0u8; 2048];
     let marks: &mut [u8] = &mut space;
     say(b"\nstmt     at  coded                           reads as\n");
     mark_targets(unit, parts, marks);
-    say_rows(unit, parts, marks, first);
+    say_rows(unit, parts, marks, first, show);
 }
 
 // ---- the whole
@@ -212,12 +214,12 @@ fn first_of(v: Verdict, n: u16) -> u16 {
 }
 
 // A unit that passes its check: what the fence says, its parts, its fields over its own data, and its statements.
-fn say_passed(unit: &[u8], parts: Parts) {
+fn say_passed(unit: &[u8], parts: Parts, show: Show) {
     let v = dibol::fence(unit);
     say_head(unit, v);
     let end = say_parts(parts);
-    say_fields(unit, parts, part(unit, 0, parts.d as usize), false);
-    say_statements(unit, parts, first_of(v, parts.n));
+    say_fields(unit, parts, part(unit, 0, parts.d as usize), false, show);
+    say_statements(unit, parts, first_of(v, parts.n), show);
 }
 
 // Says that the parts that the trailer names do not end where the unit does.
@@ -250,10 +252,10 @@ fn say_refused(unit: &[u8], r: Refusal) {
 }
 
 // All that a unit holds, as far as its check lets it be read; and the exit status.
-pub fn answer(unit: &[u8]) -> u8 {
+pub fn answer(unit: &[u8], show: Show) -> u8 {
     match dibol::check(unit) {
         Checked::Passed(parts) => {
-            say_passed(unit, parts);
+            say_passed(unit, parts, show);
             GOOD
         }
         Checked::Refused(r) => {

@@ -9,6 +9,7 @@ mod run;
 mod say;
 mod words;
 
+use say::Show;
 use say::argument;
 use say::byte_at;
 use say::is_read;
@@ -38,15 +39,13 @@ const VERSION: u8 = 6;
 
 const NONE: u8 = 7;
 
-// A run that gives the data as it is.
-const RAW: u8 = 8;
-
 // The descriptor that the exit status is written to, where the wrapper asks for it.
 const STATUS: i32 = 3;
 
-// A call as far as it is understood: its word, the argument that comes next, and whether that is no option.
+// A call as far as it is understood: its word, what its options say, the argument that comes next, and whether that is no option.
 struct Call {
     word: u8,
+    show: Show,
     at: usize,
     ready: bool,
 }
@@ -69,58 +68,59 @@ fn unreadable(path: &[u8]) -> u8 {
 }
 
 // What a word says of a unit, and the exit status.
-fn answer_unit(word: u8, unit: &[u8]) -> u8 {
+fn answer_unit(word: u8, show: Show, unit: &[u8]) -> u8 {
     match word {
-        RUN => run::answer(unit, false),
-        RAW => run::answer(unit, true),
-        FENCE => fence::answer(unit),
-        _ => list::answer(unit),
+        RUN => run::answer(unit, show),
+        FENCE => fence::answer(unit, show),
+        _ => list::answer(unit, show),
     }
 }
 
 // The same of the unit in a file that is open. More bytes than the longest unit has are read, so that a longer file is refused.
-fn answer_open(word: u8, path: &[u8], fd: i32) -> u8 {
+fn answer_open(word: u8, show: Show, path: &[u8], fd: i32) -> u8 {
     let mut buf = io::large_buffer();
     let n = io::read_full(fd, &mut buf);
     if is_read(fd, n) {
-        return answer_unit(word, &buf[..n]);
+        return answer_unit(word, show, &buf[..n]);
     }
     unreadable(path)
 }
 
 // The same of the unit in a file.
-fn answer_file(word: u8, path: &[u8]) -> u8 {
+fn answer_file(word: u8, show: Show, path: &[u8]) -> u8 {
     let fd = open(path);
     if fd < 0 {
         return unreadable(path);
     }
-    let status = answer_open(word, path, fd);
+    let status = answer_open(word, show, path, fd);
     let closed = libc::close(fd);
     status
 }
 
 // The same of the unit in the file that an argument names.
-fn answer_argument(word: u8, at: usize) -> u8 {
+fn answer_argument(c: Call) -> u8 {
     let mut path = io::buffer();
-    let n = argument(at, &mut path);
-    answer_file(word, &path[..n])
+    let show = c.show;
+    let n = argument(c.at, &mut path);
+    answer_file(c.word, show, &path[..n])
 }
 
 // What a word says of the one file that is named.
-fn answer_one(name: &[u8], word: u8, at: usize) -> u8 {
-    if os::arg_count() != sum(at, 1) {
+fn answer_one(name: &[u8], c: Call) -> u8 {
+    if os::arg_count() != sum(c.at, 1) {
         return usage(name, b": one FILE is wanted");
     }
-    answer_argument(word, at)
+    answer_argument(c)
 }
 
 // The table of the files that are named.
-fn answer_check(at: usize) -> u8 {
+fn answer_check(c: Call) -> u8 {
     let count = os::arg_count();
-    if count <= at {
+    if count <= c.at {
         return usage(b"check", b": FILES are wanted");
     }
-    check::check_files(at, count)
+    let show = c.show;
+    check::check_files(c.at, count, show)
 }
 
 // ---- options
@@ -133,15 +133,33 @@ fn is_option(arg: &[u8]) -> bool {
     byte_at(arg, 0) == b'-'
 }
 
-// The word of a call after an option: a run becomes a raw one, and NONE says that the word has no such option.
-fn word_after(word: u8, arg: &[u8]) -> u8 {
-    if !same(arg, b"--raw") {
-        return NONE;
+// Whether a word has an option.
+fn has_option(word: u8, arg: &[u8]) -> bool {
+    if same(arg, b"--latin1") {
+        return true;
     }
-    match word {
-        RUN | RAW => RAW,
-        _ => NONE,
+    if word != RUN {
+        return false;
     }
+    same(arg, b"--raw")
+}
+
+// The call after an option; NONE is its word where the word has no such option.
+fn after_option(c: Call, arg: &[u8]) -> Call {
+    let mut next = c;
+    if !has_option(c.word, arg) {
+        next.word = NONE;
+        return next;
+    }
+    let mut show = c.show;
+    if same(arg, b"--raw") {
+        show.raw = true;
+    } else {
+        show.letters = true;
+    }
+    next.show = show;
+    next.at = sum(c.at, 1);
+    next
 }
 
 // The call after its next argument. A `--` ends the options.
@@ -151,14 +169,11 @@ fn taken(c: Call, arg: &[u8]) -> Call {
         next.ready = true;
         return next;
     }
-    if same(arg, b"--") {
-        next.ready = true;
-    } else {
-        next.word = word_after(c.word, arg);
+    if !same(arg, b"--") {
+        return after_option(c, arg);
     }
-    if next.word != NONE {
-        next.at = sum(c.at, 1);
-    }
+    next.ready = true;
+    next.at = sum(c.at, 1);
     next
 }
 
@@ -197,14 +212,18 @@ fn no_option(at: usize) -> u8 {
 fn answer_call(name: &[u8], word: u8, from: usize) -> u8 {
     let c = with_options(Call {
         word: word,
+        show: Show {
+            raw: false,
+            letters: false,
+        },
         at: from,
         ready: false,
     });
     let k = c.word;
     match k {
-        CHECK => answer_check(c.at),
+        CHECK => answer_check(c),
         NONE => no_option(c.at),
-        _ => answer_one(name, k, c.at),
+        _ => answer_one(name, c),
     }
 }
 
@@ -213,7 +232,7 @@ fn answer_call(name: &[u8], word: u8, from: usize) -> u8 {
 // Writes all that the program can be called with.
 fn help() -> u8 {
     say::say(
-        b"usage: boxlever run [--raw] FILE  run the unit, and show its fields after the run\n       boxlever fence FILE        show whether the unit can slip, and where\n       boxlever list FILE         show its parts, its fields and its statements\n       boxlever check FILES..     a row with the fence's answer for each unit\n\nFILE is a coded DIBOL unit, or - for standard input; -- ends the options. A run\nstarts from the unit's own data and takes at most 100,000 statements. Bytes that\ncannot be printed are shown as \\xHH, a backslash as \\\\; --raw leaves the data,\nthe second line of a run, as it is.\n\nexample: boxlever fence fares.unit\n",
+        b"usage: boxlever run [OPTIONS] FILE       run the unit, then show its fields\n       boxlever fence [OPTIONS] FILE     show whether it can slip, and where\n       boxlever list [OPTIONS] FILE      show its parts, fields and statements\n       boxlever check [OPTIONS] FILES..  a row with the fence's answer for each\n\nFILE is a coded DIBOL unit, or - for standard input. A run starts from the\nunit's own data and takes at most 100,000 statements. A byte that cannot be\nprinted is shown as \\xHH, a backslash as \\\\.\n\noptions: --latin1  show the bytes A1 to FF, but AD, as the letters of Latin-1\n         --raw     of a run: leave the data, its second line, as it is\n         --        ends the options\n\nexample: boxlever fence fares.unit\n",
     );
     GOOD
 }

@@ -5,10 +5,11 @@ use crate::parts::literal_of;
 use crate::parts::statement_of;
 use crate::say::Line;
 use crate::say::ROOM;
+use crate::say::Show;
 use crate::say::byte_at;
 use crate::say::cut;
 use crate::say::less;
-use crate::say::new_line;
+use crate::say::line_for;
 use crate::say::piece;
 use crate::say::put;
 use crate::say::put_between;
@@ -365,7 +366,7 @@ pub fn put_statement(l: Line, unit: &[u8], parts: Parts, i: u16) -> Line {
 }
 
 // The statement i as text, with its number.
-pub fn say_statement(unit: &[u8], parts: Parts, i: u16) {
-    let l = put_form(new_line(), b"statement #: ", i as u64, 0);
+pub fn say_statement(unit: &[u8], parts: Parts, i: u16, show: Show) {
+    let l = put_form(line_for(show), b"statement #: ", i as u64, 0);
     say_line(put_statement(l, unit, parts, i));
 }

@@ -2,6 +2,7 @@
 use crate::fields::say_fields;
 use crate::phrase::say_statement;
 use crate::say::Line;
+use crate::say::Show;
 use crate::say::new_line;
 use crate::say::put_form;
 use crate::say::put_number;
@@ -39,16 +40,16 @@ fn say_stop(number: u8, count: u64) {
 }
 
 // The statement that could not be completed, or that would be the next; there is none at the end.
-fn say_place(unit: &[u8], parts: Parts, place: u16) {
+fn say_place(unit: &[u8], parts: Parts, place: u16, show: Show) {
     if place < parts.n {
-        say_statement(unit, parts, place);
+        say_statement(unit, parts, place, show);
     }
 }
 
 // The data: as it is shown, or as it is.
-fn say_data(data: &[u8], raw: bool) {
-    if !raw {
-        say_shown(data);
+fn say_data(data: &[u8], show: Show) {
+    if !show.raw {
+        say_shown(data, show);
         return;
     }
     say(data);
@@ -56,29 +57,29 @@ fn say_data(data: &[u8], raw: bool) {
 }
 
 // What is said of a run that is over.
-fn say_run(unit: &[u8], parts: Parts, data: &[u8], number: u8, place: u16, count: u64, raw: bool) {
+fn say_run(unit: &[u8], parts: Parts, data: &[u8], number: u8, place: u16, count: u64, show: Show) {
     say_numbers(number, place, count);
-    say_data(data, raw);
+    say_data(data, show);
     say_stop(number, count);
-    say_place(unit, parts, place);
-    say_fields(unit, parts, data, true);
+    say_place(unit, parts, place, show);
+    say_fields(unit, parts, data, true, show);
 }
 
 // Runs a unit over its data, which starts as its image, the first bytes of the unit; and gives the stop.
-fn run_data(unit: &[u8], parts: Parts, data: &mut [u8], raw: bool) -> u8 {
+fn run_data(unit: &[u8], parts: Parts, data: &mut [u8], show: Show) -> u8 {
     letters::fit(data, unit);
     let out = dibol::run(unit, data, dibol::start(), 100000);
     let stop = out.stop;
     let number = dibol::stop_number(stop);
-    say_run(unit, parts, data, number, out.place, out.count, raw);
+    say_run(unit, parts, data, number, out.place, out.count, show);
     number
 }
 
 // Runs a unit that passes its check, and gives the exit status.
-fn run_unit(unit: &[u8], parts: Parts, raw: bool) -> u8 {
+fn run_unit(unit: &[u8], parts: Parts, show: Show) -> u8 {
     let mut data = [0u8; 65536];
     let end = parts.d as usize;
-    if run_data(unit, parts, &mut data[0..end], raw) == 0 {
+    if run_data(unit, parts, &mut data[0..end], show) == 0 {
         return GOOD;
     }
     STOPPED
@@ -95,9 +96,9 @@ fn say_refused(r: Refusal) {
 }
 
 // Runs a unit from its own data, or tells why it is refused; and gives the exit status.
-pub fn answer(unit: &[u8], raw: bool) -> u8 {
+pub fn answer(unit: &[u8], show: Show) -> u8 {
     match dibol::check(unit) {
-        Checked::Passed(parts) => run_unit(unit, parts, raw),
+        Checked::Passed(parts) => run_unit(unit, parts, show),
         Checked::Refused(r) => {
             say_refused(r);
             REFUSED

@@ -11,9 +11,17 @@ const GIVEN: usize = 500;
 // The bytes that a file is read into, of which the longest unit takes less.
 pub const BUFFER: usize = 65536;
 
-// A line in the making: its bytes up to `at`.
+// How a unit and its name are shown: the data of a run as it is; Latin-1's letters as letters.
+pub struct Show {
+    pub raw: bool,
+    pub letters: bool,
+}
+
+// A line in the making: its bytes up to `at`, how many of them take no column of their own, and whether it shows letters.
 pub struct Line {
     pub at: usize,
+    pub beyond: usize,
+    pub letters: bool,
     pub text: [u8; 600],
 }
 
@@ -186,12 +194,22 @@ pub fn piece(pieces: &[u8], k: u8) -> &[u8] {
 
 // ---- lines
 
-// A line with nothing in it.
-pub fn new_line() -> Line {
+// A line with nothing in it, for a unit or its name.
+pub fn line_for(show: Show) -> Line {
     Line {
         at: 0,
+        beyond: 0,
+        letters: show.letters,
         text: [0u8; 600],
     }
+}
+
+// A line with nothing in it, for all else.
+pub fn new_line() -> Line {
+    line_for(Show {
+        raw: false,
+        letters: false,
+    })
 }
 
 // The line up to an offset.
@@ -262,10 +280,15 @@ pub fn put_form(l: Line, form: &[u8], x: u64, y: u64) -> Line {
     next
 }
 
+// How many columns a line takes.
+pub fn width(l: Line) -> usize {
+    less(l.at, l.beyond)
+}
+
 // Puts spaces up to a column.
 pub fn fill_to(l: Line, column: usize) -> Line {
     let mut next = l;
-    let mut i = l.at;
+    let mut i = width(l);
     while i < column {
         next = put(next, b' ');
         i += 1;
@@ -282,7 +305,8 @@ pub fn put_right(l: Line, n: u64, column: usize) -> Line {
 
 // ---- bytes as they are shown
 // The bytes 20 to 7E are shown as they are, but a backslash, and in quotes a quote, has a backslash before it; any other byte is `\x` and two digits in
-// hex. So nothing of a unit, of a name or of a call reaches a terminal but as these characters, and what is shown can be read back.
+// hex. So nothing of a unit, of a name or of a call reaches a terminal but as these characters, and what is shown can be read back. Where it is asked
+// for, the letters and signs of Latin-1 beyond 7E are shown as UTF-8 writes them; 80 to 9F are controls and never are.
 
 // A digit of a number in hex.
 fn digit_of(n: u8) -> u8 {
@@ -317,10 +341,38 @@ fn is_marked(b: u8, quoted: bool) -> bool {
     b == b'\\'
 }
 
+// Whether a byte is a letter or a sign of Latin-1 beyond 7E: AD is none that can be seen.
+fn is_latin(b: u8) -> bool {
+    if b == 173 {
+        return false;
+    }
+    160 < b
+}
+
+// Puts such a byte as UTF-8 writes it: two bytes in one column.
+fn put_latin(l: Line, b: u8) -> Line {
+    let mut next = l;
+    next.beyond = sum(l.beyond, 1);
+    if b < 192 {
+        return put(put(next, 194), b);
+    }
+    put(put(next, 195), b - 64)
+}
+
+// Puts a byte that is not printed as it is.
+fn put_hidden(l: Line, b: u8) -> Line {
+    if l.letters {
+        if is_latin(b) {
+            return put_latin(l, b);
+        }
+    }
+    put_hex(put_text(l, b"\\x"), b)
+}
+
 // Puts a byte as it is shown, inside quotes or not.
 fn put_byte(l: Line, b: u8, quoted: bool) -> Line {
     if is_hidden(b) {
-        return put_hex(put_text(l, b"\\x"), b);
+        return put_hidden(l, b);
     }
     if is_marked(b, quoted) {
         return put(put(l, b'\\'), b);
@@ -350,7 +402,11 @@ pub fn put_quoted(l: Line, s: &[u8]) -> Line {
 
 // Where the character ends that starts at an offset of a shown text.
 fn character_end(text: &[u8], at: usize) -> usize {
-    if byte_at(text, at) != b'\\' {
+    let b = byte_at(text, at);
+    if 126 < b {
+        return sum(at, 2);
+    }
+    if b != b'\\' {
         return sum(at, 1);
     }
     if byte_at(text, sum(at, 1)) != b'x' {
@@ -423,12 +479,12 @@ fn drained(l: Line) -> Line {
         return l;
     }
     say_text(l);
-    new_line()
+    cut(l, 0)
 }
 
-// Writes a text of any length as it is shown, and ends its line.
-pub fn say_shown(s: &[u8]) {
-    let mut l = new_line();
+// Writes data of any length as it is shown, and ends its line.
+pub fn say_shown(s: &[u8], show: Show) {
+    let mut l = line_for(show);
     let mut i = 0;
     while i < s.len() {
         l = put_byte(drained(l), s[i], false);

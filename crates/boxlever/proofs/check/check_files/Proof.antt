@@ -6,10 +6,10 @@ use Rattle.boxlever.proofs.check.check_files.Statement.{statement}
 use Rattle.boxlever.proofs.check.check_files.Tie as tie
 
 abbrev Inv-loop : tie.InvT-loop
-Inv-loop from count tally₀ i₀ tally i = Unit {0}
+Inv-loop from count show tally₀ i₀ tally i = Unit {0}
 
 abbrev μ-loop : tie.MeasureT-loop
-μ-loop from count tally₀ i₀ tally i = count - i
+μ-loop from count show tally₀ i₀ tally i = count - i
 
 loop-holds : tie.Need-loop-holds Inv-loop μ-loop
 loop-holds c = search needs

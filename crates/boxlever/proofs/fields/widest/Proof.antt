@@ -6,10 +6,10 @@ use Rattle.boxlever.proofs.fields.widest.Statement.{statement}
 use Rattle.boxlever.proofs.fields.widest.Tie as tie
 
 abbrev Inv-loop : tie.InvT-loop
-Inv-loop unit parts «data» width₀ i₀ width i = Unit {0}
+Inv-loop unit parts «data» show width₀ i₀ width i = Unit {0}
 
 abbrev μ-loop : tie.MeasureT-loop
-μ-loop unit parts «data» width₀ i₀ width i = parts .f - i
+μ-loop unit parts «data» show width₀ i₀ width i = parts .f - i
 
 loop-holds : tie.Need-loop-holds Inv-loop μ-loop
 loop-holds c = search needs

@@ -11,6 +11,9 @@ Inv-loop column next₀ i₀ next i = Unit {0}
 abbrev μ-loop : tie.MeasureT-loop
 μ-loop column next₀ i₀ next i = column - i
 
+width-requires : tie.Need-width-requires Inv-loop μ-loop
+width-requires c κs = search needs
+
 loop-holds : tie.Need-loop-holds Inv-loop μ-loop
 loop-holds c = search needs
 
@@ -31,4 +34,4 @@ returns c = search needs
 
 pub fill-to-spec : {M : Type 1} → statement M
 fill-to-spec =
-    tie.close (tie.spec Inv-loop μ-loop loop-holds put-requires add-i loop-less loop-again returns)
+    tie.close (tie.spec Inv-loop μ-loop width-requires loop-holds put-requires add-i loop-less loop-again returns)

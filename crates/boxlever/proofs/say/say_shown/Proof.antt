@@ -12,8 +12,8 @@ Inv-loop s l₀ i₀ l i = Unit {0}
 abbrev μ-loop : tie.MeasureT-loop
 μ-loop s l₀ i₀ l i = length s - i
 
-new-line-requires : tie.Need-new-line-requires Inv-loop μ-loop
-new-line-requires c κs = search needs
+line-for-requires : tie.Need-line-for-requires Inv-loop μ-loop
+line-for-requires c κs = search needs
 
 loop-holds : tie.Need-loop-holds Inv-loop μ-loop
 loop-holds c = search needs
@@ -48,7 +48,7 @@ say-shown-spec =
     (tie.spec
     Inv-loop
     μ-loop
-    new-line-requires
+    line-for-requires
     loop-holds
     drained-requires
     shared-slice-read-put-byte
