@@ -212,7 +212,7 @@ pub fn new_line() -> Line {
     })
 }
 
-// The line up to an offset.
+// The line up to an offset. What is cut off has no letters where columns still count.
 pub fn cut(l: Line, at: usize) -> Line {
     let mut next = l;
     next.at = at;
@@ -473,7 +473,7 @@ pub fn say_line(l: Line) {
     say(b"..\n");
 }
 
-// The line, or where it has no room for any character more an empty one, and it is written.
+// The line, if it has room for any character; else it is written, and an empty one goes on.
 fn drained(l: Line) -> Line {
     if l.at < ROOM - 4 {
         return l;

@@ -9,7 +9,7 @@ use rules_fence::Breach;
 use rules_fence::Verdict;
 use rules_unit::Refusal;
 
-// The exit statuses. A higher one is worse.
+// The exit statuses, as tools/boxlever has them: the answer is no or the run has stopped, and so on. A higher one is worse.
 pub const GOOD: u8 = 0;
 
 pub const STOPPED: u8 = 1;

@@ -1,4 +1,4 @@
--- `boxlever::with_options` ends: each turn takes one of as many as there are arguments.
+-- `boxlever::with_options` ends: there are as many turns as arguments.
 -- The invariant: nothing is kept. The measure: the turns that are left. Assumes nothing.
 use borrow.Author.Needs.{needs}
 use Rattle.boxlever.proofs.with_options.Statement.{statement}
