@@ -1,19 +1,19 @@
 -- Laws of text that is written from the right, and of a number's width: each character goes by its place counted from the right.
 -- Assumes nothing.
 use mathlib.Core.Path.{_≡_, refl, sym, ap, ap₂, _∙_}
-use mathlib.Core.Bool.{Bool, true, false, cond, _&&_}
+use mathlib.Core.Bool.{true, false}
 use mathlib.Core.List.{List, [], _∷_}
 use Prim.Native.Nat.{ℕ, zero, suc, _+_, _-_, _/_, _%_, _^_, _≤_, _<_}
 use native.Mathlib.Nat.{pow-suc, div-div-eq-div-mul, div-one, le-refl, sub-self, sub-zero, mod-lt}
 use native.Mathlib.Numerals.{add-one}
 use native.Mathlib.Omega.{arith}
-use lib.Dec.{ltb, eqb, lit<}
+use lib.Dec.{lit<}
 use lib.IntN.{ℤ, natAbs}
 use lib.ListN.{length, set, drop, length-set, drop-of-length-le}
 use lib.Seq.{drop-cons, getD-set-same, drop-set-lt}
 use borrow.Author.Tests.{lt-ltb, le-ltb}
 use Rattle.rules.specs.Values.{isNeg}
-use Rattle.rules.specs.Moves.{zeroAt, placed, digitAt, written, widthFrom, shownAt}
+use Rattle.rules.specs.Moves.{zeroAt, placed, digitAt, written, widthFrom}
 
 -- ---- a loop from the right: what stands from i on is the last of the whole
 
@@ -55,12 +55,6 @@ zero-48 (suc k) = refl
 
 pub digit-left : (m left k : ℕ) → left ≡ m / 10 ^ k → 48 + left % 10 ≡ digitAt 48 m k
 digit-left m left k q = ap₂ (λ (z x : ℕ). z + x % 10) (sym (zero-48 k)) q
-
-pub shown-left : (neg : Bool) (m left w n i : ℕ) {b : ℕ} → 0 < i → i ≤ n → left ≡ m / 10 ^ (n - i)
-    → b ≡ cond (ltb (n - 1 - (i - 1)) w) (48 + left % 10) (cond (neg && eqb (n - 1 - (i - 1)) w) 45 32) → b ≡ shownAt neg m w (n - i)
-shown-left neg m left w n i h g q e =
-    let k : n - 1 - (i - 1) ≡ n - i = omega arith in
-    rw (k, q) at e
 
 -- ---- the sign
 

@@ -2,12 +2,11 @@
 use rules::Fault;
 use rules::Num;
 ghost use mathlib.Core.Path.{_≡_};
-ghost use mathlib.Core.Bool.{cond, _&&_};
-ghost use Prim.Native.Nat.{_+_, _%_, _^_, _≤_, _<_};
-ghost use lib.Dec.{ltb, eqb};
+ghost use Prim.Native.Nat.{_^_, _≤_, _<_};
 ghost use lib.ListN.{length};
 ghost use Rattle.rules.specs.Values.{Val, Top, Limit, Letters, lastOf, readOf};
-ghost use Rattle.rules.specs.Moves.{placed, digitAt, written, width, shown, alphaOf};
+ghost use Rattle.rules.specs.Arithmetic.{Powers};
+ghost use Rattle.rules.specs.Moves.{placed, digitAt, written, width, shownAt, shown, alphaOf};
 
 // A byte as a number that a sum may be made with.
 fn wide(x: u8) -> u64
@@ -99,7 +98,7 @@ pub fn write(base: u8, s: &mut [u8], v: i64)
 
 // How many digits m has.
 fn width_of(m: u64) -> usize
-    ensures { λ r. ⌜ r ≡ width m ⌝ }
+    ensures { λ r. ⌜ (r ≡ width m) × (r ≤ 18) ⌝ }
 {
     let t = number::powers();
     let mut w = 1;
@@ -112,12 +111,14 @@ fn width_of(m: u64) -> usize
     w
 }
 
-// What stands at the place k, counted from the right, where a number of w digits is shown; left is the number without its last k digits.
-fn shown_at(neg: bool, left: u64, w: usize, k: usize) -> u8
-    ensures { λ r. ⌜ r ≡ cond (ltb k w) (48 + left % 10) (cond (neg && eqb k w) 45 32) ⌝ }
+// What stands at the place k, counted from the right, where a number of w digits is shown: a digit is found by the power of its place.
+fn shown_at(powers: &[u64; 19], neg: bool, m: u64, w: usize, k: usize) -> u8
+    requires { ⌜ Powers (now powers) ⌝ }
+    requires { ⌜ w ≤ 18 ⌝ }
+    ensures { λ r. ⌜ r ≡ shownAt neg m w k ⌝ }
 {
     if k < w {
-        return (48 + left % 10) as u8;
+        return (48 + m / powers[k] % 10) as u8;
     }
     if neg {
         if k == w {
@@ -136,12 +137,11 @@ pub fn show(s: &mut [u8], v: i64)
     let neg = number::is_neg(v);
     let m = number::magnitude(v);
     let w = width_of(m);
-    let mut left = m;
+    let powers = number::powers();
     let mut i = n;
     while 0 < i {
         i -= 1;
-        s[i] = shown_at(neg, left, w, n - 1 - i);
-        left = left / 10;
+        s[i] = shown_at(&powers, neg, m, w, n - 1 - i);
     }
 }
 

@@ -1,9 +1,9 @@
 -- `text::show` meets its contract: each turn writes the character of its place counted from the right.
--- The invariant: left is m without its last digits, as many as places are written, and what stands from i on is the last of the whole.
+-- The invariant: what stands from i on is the last of the whole.
 -- The measure: the places still to be written.
 -- Assumes nothing.
 use mathlib.Core.Path.{_≡_, refl, ap, _∙_}
-use Prim.Native.Nat.{_-_, _/_, _^_, _≤_}
+use Prim.Native.Nat.{_-_, _≤_}
 use native.Mathlib.Omega.{arith}
 use borrow.Author.Needs.{needs}
 use lib.IntN.{natAbs}
@@ -11,16 +11,15 @@ use lib.ListN.{length, drop, length-set}
 use Rattle.rules.specs.Values.{isNeg}
 use Rattle.rules.specs.Moves.{placed, shownAt, width}
 use Rattle.rules.proofs.Signed.{back}
-use Rattle.text.proofs.Writing.{right-start, right-next, right-end, left-start, left-next, shown-left}
+use Rattle.text.proofs.Writing.{right-start, right-next, right-end}
 use Rattle.text.proofs.show.Statement.{statement}
 use Rattle.text.proofs.show.Tie as tie
 
 abbrev Inv-loop : tie.InvT-loop
-Inv-loop s₀ v n neg m w left₀ i₀ s left i =
-    (i ≤ n) × (length s ≡ n) × (left ≡ m / 10 ^ (n - i)) × (drop i s ≡ placed (shownAt neg m w) (n - i))
+Inv-loop s₀ v n neg m w powers i₀ s i = (i ≤ n) × (length s ≡ n) × (drop i s ≡ placed (shownAt neg m w) (n - i))
 
 abbrev μ-loop : tie.MeasureT-loop
-μ-loop s₀ v n neg m w left₀ i₀ s left i = i
+μ-loop s₀ v n neg m w powers i₀ s i = i
 
 -- the magnitude that is shown is the number's
 m-is : (c : tie.After-magnitude Inv-loop μ-loop) → c .magnitude .result ≡ natAbs (c .before .before .before .args .v)
@@ -35,11 +34,13 @@ magnitude-requires c κs = let s = c .before .before in rw (back (s .fits .v)) (
 width-of-requires : tie.Need-width-of-requires Inv-loop μ-loop
 width-of-requires c κs = search needs
 
+powers-requires : tie.Need-powers-requires Inv-loop μ-loop
+powers-requires c κs = search needs
+
 loop-holds : tie.Need-loop-holds Inv-loop μ-loop
 loop-holds c =
-    let s = c .before .before .before .before .args .s .now in
-    let m = c .before .magnitude .result in
-    (omega arith, refl, left-start m (length s), right-start (shownAt (c .before .before .is-neg .result) m (c .width-of .result)) s)
+    let a = c .before in
+    (omega arith, refl, right-start (shownAt (a .before .before .is-neg .result) (a .before .magnitude .result) (a .width-of .result)) (a .before .before .before .before .args .s .now))
 
 sub-i : tie.Need-sub-i Inv-loop μ-loop
 sub-i c = search needs
@@ -61,17 +62,15 @@ loop-less c = omega arith
 
 loop-again : tie.Need-loop-again Inv-loop μ-loop
 loop-again c =
-    let l = c .before .before .loop in
-    let a = c .before .before .before in
+    let l = c .before .before .before .loop in
+    let a = c .before .before .before .before .before in
     let n = length (a .before .before .before .before .args .s .now) in
-    let neg = a .before .before .is-neg .result in
-    let m = a .before .magnitude .result in
-    let w = a .width-of .result in
-    let h = c .before .loop-test .taken in (
+    let at = shownAt (a .before .before .is-neg .result) (a .before .magnitude .result) (a .width-of .result) in
+    let h = c .before .before .loop-test .taken in
+    let k : n - 1 - (l .i - 1) ≡ n - l .i = omega arith in (
       omega arith,
       length-set (l .s) (l .i - 1) _ ∙ l .inv .1,
-      left-next m n (l .left) (l .i) h (l .inv .0) (l .inv .2),
-      right-next (shownAt neg m w) n (l .s) (l .i) _ h (l .inv .0) (l .inv .1) (shown-left neg m (l .left) w n (l .i) h (l .inv .0) (l .inv .2) (c .shown-at .ensures)) (l .inv .3),
+      right-next at n (l .s) (l .i) _ h (l .inv .0) (l .inv .1) (c .shown-at .ensures ∙ ap at k) (l .inv .2),
     )
 
 same-length : tie.Need-same-length Inv-loop μ-loop
@@ -80,13 +79,13 @@ same-length c = c .before .loop .inv .1
 returns : tie.Need-returns Inv-loop μ-loop
 returns c =
     let l = c .before .loop in
-    let a = c .before .before in
+    let a = c .before .before .before in
     let s = a .before .before .before .before in
     let n : a .before .before .is-neg .result ≡ isNeg (s .args .v) = a .before .before .is-neg .ensures ∙ ap isNeg (back (s .fits .v)) in
     let m = m-is (a .before) in
-    let w : a .width-of .result ≡ width (natAbs (s .args .v)) = a .width-of .ensures ∙ ap width m in
-    right-end (shownAt (a .before .before .is-neg .result) (a .before .magnitude .result) (a .width-of .result)) (l .s) (length (s .args .s .now)) (l .i) (c .loop-test .left) (l .inv .3)
+    let w : a .width-of .result ≡ width (natAbs (s .args .v)) = a .width-of .ensures .0 ∙ ap width m in
+    right-end (shownAt (a .before .before .is-neg .result) (a .before .magnitude .result) (a .width-of .result)) (l .s) (length (s .args .s .now)) (l .i) (c .loop-test .left) (l .inv .2)
     ∙ rw (n, m, w)
 
 pub show-spec : {M : Type 1} → statement M
-show-spec = tie.close (tie.spec Inv-loop μ-loop is-neg-requires magnitude-requires width-of-requires loop-holds sub-i sub-shown-at sub-shown-at-2 shown-at-requires slice-write-s loop-less loop-again same-length returns)
+show-spec = tie.close (tie.spec Inv-loop μ-loop is-neg-requires magnitude-requires width-of-requires powers-requires loop-holds sub-i sub-shown-at sub-shown-at-2 shown-at-requires slice-write-s loop-less loop-again same-length returns)

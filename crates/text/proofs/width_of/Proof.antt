@@ -38,7 +38,7 @@ returns : tie.Need-returns Inv-loop μ-loop
 returns c =
     let l = c .before .before .loop in
     let m = c .before .before .before .before .args .m in
-    sym (l .inv .1 ∙ width-hit (l .w) m (c .before .loop-test .taken) (rw (entry (c .before)) at (c .if1 .taken)))
+    (sym (l .inv .1 ∙ width-hit (l .w) m (c .before .loop-test .taken) (rw (entry (c .before)) at (c .if1 .taken))), l .inv .0)
 
 add-w : tie.Need-add-w Inv-loop μ-loop
 add-w c = omega arith
@@ -53,7 +53,7 @@ loop-again c =
     (omega arith, l .inv .1 ∙ width-miss (l .w) m (c .before .loop-test .taken) (rw (entry (c .before)) at (c .if1 .left)))
 
 returns-2 : tie.Need-returns-2 Inv-loop μ-loop
-returns-2 c = let l = c .before .loop in sym (l .inv .1 ∙ width-end (l .w) (c .before .before .before .args .m) (c .loop-test .left))
+returns-2 c = let l = c .before .loop in (sym (l .inv .1 ∙ width-end (l .w) (c .before .before .before .args .m) (c .loop-test .left)), l .inv .0)
 
 pub width-of-spec : {M : Type 1} → statement M
 width-of-spec = tie.close (tie.spec Inv-loop μ-loop powers-requires loop-holds mul-if1 array-read-if1 returns add-w loop-less loop-again returns-2)
