@@ -63,10 +63,10 @@ returns c =
     let p = k .before .before .before in
     let m = m-is (p .before .before) in
     let a = p .before .before .before .before .args in
-    let kept = rw (m, c .before .power .ensures) at (c .if2 .taken) in
+    let kept = rw (c .before .power .ensures) at (c .if2 .taken) in
     rw (s-is p, m)
     (sign-set (a .base) (length (a .s .now)) (natAbs (a .v)) (room c)
-    ∙ sym (written-minus (a .base) (length (a .s .now)) (a .v) (sym (neg-is k) ∙ c .before .before .if1 .taken) (omega (arith, kept))))
+    ∙ sym (written-minus (a .base) (length (a .s .now)) (a .v) (sym (neg-is k) ∙ c .before .before .if1 .taken) (rw (sym m) kept)))
 
 same-length-2 : tie.Need-same-length-2
 same-length-2 c = search needs
@@ -76,8 +76,8 @@ returns-2 c =
     let k = c .before .before .before in
     let p = k .before .before .before in
     let a = p .before .before .before .before .args in
-    let lost = rw (m-is (p .before .before), c .before .power .ensures) at (c .if2 .left) in
-    s-is p ∙ sym (written-zero (a .base) (length (a .s .now)) (a .v) (sym (neg-is k) ∙ c .before .before .if1 .taken) (omega (arith, lost)))
+    let lost = rw (c .before .power .ensures) at (c .if2 .left) in
+    s-is p ∙ sym (written-zero (a .base) (length (a .s .now)) (a .v) (sym (neg-is k) ∙ c .before .before .if1 .taken) (rw (sym (m-is (p .before .before))) lost))
 
 same-length-3 : tie.Need-same-length-3
 same-length-3 c = search needs
