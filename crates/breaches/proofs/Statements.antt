@@ -21,6 +21,7 @@ use Rattle.rules_unit.specs.Expressions.{useb}
 use Rattle.rules_unit.specs.Table.{usesOf}
 use Rattle.rules_unit.specs.Checks.{checkOf}
 use Rattle.rules_unit.proofs.Sound.{passed-sound, passed-fills}
+use Rattle.rules_unit.proofs.Statements.{uses-good}
 use Rattle.rules_run.proofs.Lengths.{passed-dialect}
 use Rattle.rules_fence.specs.declared.Breach.{Breach}
 use Rattle.rules_fence.specs.declared.Breach.the-variants as breach
@@ -79,7 +80,7 @@ module _ (u : List ℕ) (p : Parts) (i : ℕ) (s : Statement) (es : s ≡ codeOf
     where
       by : (t : Bool) → ltb k (length (usesOf (codeOf u p .statement i))) ≡ t
           → useb (codeOf u p) (getD (usesOf (codeOf u p .statement i)) k use-of.Nothing) ≡ true
-      by true q = passed-sound u p e .code .statements i h .uses .each k (ltb-true k (length (usesOf (codeOf u p .statement i))) q)
+      by true q = uses-good (codeOf u p) i (passed-sound u p e .code .statements i h .uses) k (ltb-true k (length (usesOf (codeOf u p .statement i))) q)
       by false q = rw (List·getD-eq-default (usesOf (codeOf u p .statement i)) use-of.Nothing (ltb-false k (length (usesOf (codeOf u p .statement i))) q))
 
   -- before the first use

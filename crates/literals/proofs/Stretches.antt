@@ -30,6 +30,7 @@ use Rattle.rules_unit.proofs.Items.{items-step}
 use Rattle.rules_unit.proofs.Table.{verb-set}
 use Rattle.rules_unit.proofs.Tells.{Tells, tells-le, tells-and}
 use Rattle.rules_unit.proofs.Sound.{passed-sound, passed-fills}
+use Rattle.rules_unit.proofs.Statements.{uses-good}
 
 -- ---- an expression, of which the code has read the item i
 
@@ -168,7 +169,7 @@ inside-in u i (checked.Passed p) e = by (ltb i (p .n)) refl
     by : (t : Bool) → ltb i (p .n) ≡ t
         → cond t (stretchBy (codeOf u p) (literalsAt p) (codeOf u p .statement i)) nowhere .at
         + cond t (stretchBy (codeOf u p) (literalsAt p) (codeOf u p .statement i)) nowhere .len ≤ length u
-    by true q = inside-by (codeOf u p) (literalsAt p) (length u) literals (codeOf u p .statement i) (passed-sound u p e .code .statements i (ltb-true i (p .n) q) .uses .each)
+    by true q = inside-by (codeOf u p) (literalsAt p) (length u) literals (codeOf u p .statement i) (uses-good (codeOf u p) i (passed-sound u p e .code .statements i (ltb-true i (p .n) q) .uses))
     by false q = omega arith
 
 -- where the code has found the stretch s

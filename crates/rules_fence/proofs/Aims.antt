@@ -1,29 +1,123 @@
--- The store of a fenced statement over valid data (document 01, "Fence rules"): what it touches lies in a destination, and it leaves every decimal
--- element valid.
+-- Destinations, and the store of a fenced statement over valid data (document 01, "Fence rules"): what it touches lies in a destination, and it
+-- leaves every decimal element valid.
 -- Assumes nothing.
-use Prim.Native.Nat.{ℕ, _<_}
+use Prim.Native.Nat.{ℕ, zero, suc, _<_, _≤_}
 use native.Mathlib.Omega.{arith}
-use mathlib.Core.Path.{_≡_, sym, _∙_, subst}
+use mathlib.Core.Path.{_≡_, refl, sym, ap, _∙_, subst}
+use mathlib.Core.Bool.{Bool, true, false, false≢true}
+use mathlib.Core.Logic.{_↔_, _⊎_, inl, inr}
 use mathlib.Core.List.{List}
 use lib.ListN.{length, getD}
+use Rattle.rules_unit.specs.declared.Act.the-variants as act
+use Rattle.rules_unit.specs.declared.Verb.{Verb}
+use Rattle.rules_unit.specs.declared.Verb.the-variants as verb
+use Rattle.rules_unit.specs.declared.Role.{Role}
+use Rattle.rules_unit.specs.declared.Role.the-variants as role
 use Rattle.rules_unit.specs.declared.Statement.{Statement}
 use Rattle.rules_unit.specs.declared.Use.the-variants as use-of
 use Rattle.rules_unit.specs.Codes.{Code}
-use Rattle.rules_unit.specs.Table.{usesOf}
+use Rattle.rules_unit.specs.Table.{verbOf, rowOf, useOf, usesOf}
+use Rattle.rules_unit.proofs.Table.{codeBack, verb-code}
 use Rattle.rules_unit.specs.Sound.{SoundCode}
 use Rattle.rules_run.specs.declared.Span.{Span}
 use Rattle.rules_run.specs.declared.Write.{Write}
 use Rattle.rules_run.specs.declared.Write.the-variants as write
 use Rattle.rules_run.specs.Turns.{applied, Room}
 use Rattle.rules_run.proofs.Outside.{Touches, newOf, startOf, lenOf, applied-stored, length-new}
-use Rattle.rules_fence.specs.Destinations.{Covers, useSpan, AllValid}
+use Rattle.rules_fence.specs.Destinations.{PlaceNames, Writes, Covers, Destination, InPlaceA, AllValid}
+use Rattle.rules_fence.proofs.PlaceSpans.{use-writes}
 use Rattle.rules_fence.proofs.Elements.{store-valid}
 use Rattle.rules_fence.proofs.Moves.{Aimed, still, aims}
 use Rattle.rules_fence.proofs.Turns.{aimOf}
 
--- The destination of a statement is one of the uses that it writes.
-pub aim-used : (c : Code) (b : ℕ) (t : Statement) → Covers (aimOf c t) b → (k : ℕ) × (k < length (usesOf t)) × Covers (useSpan c (getD (usesOf t) k use-of.Nothing)) b
-aim-used c b t h = (0, omega arith, h)
+-- ---- destinations
+
+abbrev writtenb : Role → Bool
+writtenb role.Unused = false
+writtenb (role.Written w) = true
+writtenb (role.Read w) = false
+writtenb role.Target = false
+writtenb role.Table = false
+writtenb role.Never = false
+
+role-writes : (c : Code) (r : Role) (x : ℕ) (span : Span) → Writes c (useOf r x) span → (writtenb r ≡ true) × PlaceNames c (c .items x) span
+role-writes c role.Unused x span r = absurd r
+role-writes c (role.Written w) x span r = (refl, r .1)
+role-writes c (role.Read w) x span r = absurd (false≢true (r .0))
+role-writes c role.Target x span r = absurd r
+role-writes c role.Table x span r = absurd r
+role-writes c role.Never x span r = absurd r
+
+-- Of a statement's parts only a is written, and that by the codes 1 to 6.
+record OnlyA (v : Verb) : Type 0 where
+  codes : writtenb (rowOf v .a) ≡ true → (1 ≤ codeBack v) × (codeBack v ≤ 6)
+  not-b : writtenb (rowOf v .b) ≡ false
+  not-c : writtenb (rowOf v .c) ≡ false
+
+only-a : (v : Verb) → OnlyA v
+only-a (verb.At act.Set) = record { codes = λ e. (omega arith, omega arith); not-b = refl; not-c = refl }
+only-a (verb.At act.Clear) = record { codes = λ e. (omega arith, omega arith); not-b = refl; not-c = refl }
+only-a (verb.At (act.Count true)) = record { codes = λ e. (omega arith, omega arith); not-b = refl; not-c = refl }
+only-a (verb.At (act.Count false)) = record { codes = λ e. (omega arith, omega arith); not-b = refl; not-c = refl }
+only-a (verb.At (act.Case true)) = record { codes = λ e. (omega arith, omega arith); not-b = refl; not-c = refl }
+only-a (verb.At (act.Case false)) = record { codes = λ e. (omega arith, omega arith); not-b = refl; not-c = refl }
+only-a verb.Goto = record { codes = λ e. absurd (false≢true e); not-b = refl; not-c = refl }
+only-a verb.IfZero = record { codes = λ e. absurd (false≢true e); not-b = refl; not-c = refl }
+only-a verb.Call = record { codes = λ e. absurd (false≢true e); not-b = refl; not-c = refl }
+only-a verb.Return = record { codes = λ e. absurd (false≢true e); not-b = refl; not-c = refl }
+only-a verb.Stop = record { codes = λ e. absurd (false≢true e); not-b = refl; not-c = refl }
+only-a verb.Computed = record { codes = λ e. absurd (false≢true e); not-b = refl; not-c = refl }
+only-a verb.Bad = record { codes = λ e. absurd (false≢true e); not-b = refl; not-c = refl }
+
+-- What a statement writes is named by its part a.
+a-writes : (c : Code) (t : Statement) (k : ℕ) (span : Span) → k < length (usesOf t) → Writes c (getD (usesOf t) k use-of.Nothing) span
+    → (writtenb (rowOf (verbOf (t .code)) .a) ≡ true) × PlaceNames c (c .items (t .a)) span
+a-writes c t zero span l r = role-writes c (rowOf (verbOf (t .code)) .a) (t .a) span r
+a-writes c t (suc zero) span l r =
+    let v = verbOf (t .code) in absurd (false≢true (sym (only-a v .not-b) ∙ role-writes c (rowOf v .b) (t .b) span r .0))
+a-writes c t (suc (suc zero)) span l r =
+    let v = verbOf (t .code) in absurd (false≢true (sym (only-a v .not-c) ∙ role-writes c (rowOf v .c) (t .c) span r .0))
+a-writes c t (suc (suc (suc k))) span l r = absurd (omega arith)
+
+codes-a : (c : Code) (code x : ℕ) (span : Span) → 1 ≤ code → code ≤ 6 → PlaceNames c (c .items x) span → Writes c (useOf (rowOf (verbOf code) .a) x) span
+unfolding verbOf
+codes-a c zero x span l m p = absurd (omega arith)
+codes-a c (suc zero) x span l m p = (refl, p)
+codes-a c (suc (suc zero)) x span l m p = (refl, p)
+codes-a c (suc (suc (suc zero))) x span l m p = (refl, p)
+codes-a c (suc (suc (suc (suc zero)))) x span l m p = (refl, p)
+codes-a c (suc (suc (suc (suc (suc zero))))) x span l m p = (refl, p)
+codes-a c (suc (suc (suc (suc (suc (suc zero)))))) x span l m p = (refl, p)
+codes-a c (suc (suc (suc (suc (suc (suc (suc code))))))) x span l m p = absurd (omega arith)
+
+-- "A destination is the span named by place a of codes 1 to 6."
+pub destination-exactly : (c : Code) (b : ℕ) → Destination c b ↔ InPlaceA c b
+destination-exactly c b = (to, of)
+  where
+    code-is : (code : ℕ) → (verbOf code ≡ verb.Bad) ⊎ (codeBack (verbOf code) ≡ code) → 1 ≤ codeBack (verbOf code) → codeBack (verbOf code) ≡ code
+    code-is code (inl e) h = absurd (omega (arith, h, ap codeBack e))
+    code-is code (inr e) h = e
+
+    to : Destination c b → InPlaceA c b
+    to d =
+        let t = c .statement (d .statement-number) in
+        let p = a-writes c t (d .use-number) (d .span) (d .used) (d .writes) in
+        let q = only-a (verbOf (t .code)) .codes (p .0) in
+        let e = code-is (t .code) (verb-code (t .code)) (q .0) in
+        record { statement-number = d .statement-number; low = d .low; least = omega (arith, q .0, e); most = omega (arith, q .1, e); span = d .span; names = p .1; covers = d .covers }
+
+    of : InPlaceA c b → Destination c b
+    of d =
+        let t = c .statement (d .statement-number) in
+        record { statement-number = d .statement-number; low = d .low; use-number = 0; used = omega arith; span = d .span; writes = codes-a c (t .code) (t .a) (d .span) (d .least) (d .most) (d .names); covers = d .covers }
+
+-- What a statement stores at is its destination.
+pub aim-destination : (c : Code) (i : ℕ) → i < c .statements → (b : ℕ) → Covers (aimOf c (c .statement i)) b → Destination c b
+aim-destination c i h b z =
+    let t = c .statement i in
+    record { statement-number = i; low = h; use-number = 0; used = omega arith; span = aimOf c t; writes = use-writes c b (useOf (rowOf (verbOf (t .code)) .a) (t .a)) z; covers = z }
+
+-- ---- the store
 
 module _ (c : Code) (s : SoundCode c) (d : List ℕ) (e : length d ≡ c .size) (v : AllValid c d) (span : Span) (w : Write) (room : Room c (length d) w) where
   pub applied-valid : Aimed c d span w → AllValid c (applied c d w)

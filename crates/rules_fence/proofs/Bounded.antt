@@ -277,7 +277,7 @@ module _ (c : Code) where
 
   -- ---- a reference
 
-  unbounded : (f : ℕ) (h : How) (s : Seen) → boundedb h s ≡ false → fixedSpan c h f s ≡ Outside
+  pub unbounded : (f : ℕ) (h : How) (s : Seen) → boundedb h s ≡ false → fixedSpan c h f s ≡ Outside
   unfolding fixedSpan
   unbounded f how.First s e = absurd (true≢false e)
   unbounded f how.Element seen.Nothing e = refl

@@ -21,14 +21,15 @@ use Rattle.rules_run.specs.declared.Span.the-variants.{Outside}
 use Rattle.rules_run.specs.declared.Worked.{Worked}
 use Rattle.rules_run.specs.declared.Worked.the-variants as worked
 use Rattle.rules_run.specs.Evaluation.{calc, literalNumber, apply, stepBy, onHeld, left, lastOf, workedFrom, workedOf}
-use Rattle.rules_run.proofs.Faults.{calc-passes}
+use Rattle.rules_run.proofs.Faults.{calc-passes, literal-passes, on-room, step-any}
 use Rattle.rules_fence.specs.declared.Seen.{Seen}
 use Rattle.rules_fence.specs.declared.Seen.the-variants as seen
 use Rattle.rules_fence.specs.Bounds.{isNegate, seenNumber, seenNegate, seenAfter}
-use Rattle.rules_fence.specs.Destinations.{spanFrom, placeSpan, lastSpan, AllValid}
+use Rattle.rules_fence.specs.Destinations.{AllValid}
 use Rattle.rules_fence.proofs.Bounded.{negate-is}
 use Rattle.rules_fence.proofs.Exact.{ItemFenced, AllFenced}
-use Rattle.rules_fence.proofs.Mild.{mildb, mild-literal, Mild, on-room, step-any}
+use Rattle.rules_fence.proofs.Mild.{mildb, Mild}
+use Rattle.rules_fence.proofs.PlaceSpans.{spanFrom, placeSpan, lastSpan}
 use Rattle.rules_fence.proofs.Places.{Held, WorkedOk, place-ok}
 use Rattle.rules_fence.proofs.References.{ref-step}
 
@@ -57,14 +58,14 @@ module _ (c : Code) (d : List ℕ) where
     number-step : (p l : ℕ) (b : Seen) (st : List ℤ) (k : List ℤ → Worked) → Held b st → ((st′ : List ℤ) → Held (seenAfter c b (item.Number p l)) st′ → P (k st′))
         → P (onHeld (stepBy 0 (apply c d (item.Number p l)) st) k)
     unfolding stepBy
-    number-step p l b st k t h = on-room P w st (literalNumber c p l) k (mild-literal false c p l) (λ z q. h (z ∷ st) (rw q (held-number b st z t)))
+    number-step p l b st k t h = on-room (mildb false) refl P w st (literalNumber c p l) k (literal-passes (mildb false) refl c p l) (λ z q. h (z ∷ st) (rw q (held-number b st z t)))
 
     negate-step : (b : Seen) (st : List ℤ) (k : List ℤ → Worked) → Held b st → ((st′ : List ℤ) → Held (seenNegate b) st′ → P (k st′))
         → P (onHeld (stepBy 1 (apply c d (item.Operator op.Negate)) st) k)
     unfolding stepBy calc
     negate-step b [] k t h = w fault.Malformed refl
     negate-step b (x ∷ st) k t h =
-        on-room P w st (Value (negℤ x)) k refl (λ z q. let g : negℤ x ≡ z = cc in h (z ∷ st) (subst (λ (y : ℤ). Held (seenNegate b) (y ∷ st)) g (held-negate b x st t)))
+        on-room (mildb false) refl P w st (Value (negℤ x)) k refl (λ z q. let g : negℤ x ≡ z = cc in h (z ∷ st) (subst (λ (y : ℤ). Held (seenNegate b) (y ∷ st)) g (held-negate b x st t)))
 
     operator-step : (o : Op) (b : Seen) (st : List ℤ) (k : List ℤ → Worked) → Held b st → ((st′ : List ℤ) → Held (seenAfter c b (item.Operator o)) st′ → P (k st′))
         → P (onHeld (stepBy (opTakes o) (apply c d (item.Operator o)) st) k)
@@ -74,7 +75,7 @@ module _ (c : Code) (d : List ℕ) where
         by true p =
             subst (λ (o : Op). ((st′ : List ℤ) → Held (seenAfter c b (item.Operator o)) st′ → P (k st′)) → P (onHeld (stepBy (opTakes o) (apply c d (item.Operator o)) st) k))
             (sym (negate-is o p)) (negate-step b st k t) h
-        by false p = step-any P w (opTakes o) (apply c d (item.Operator o)) st k (λ x y. calc-passes (mildb false) refl refl refl (c .top) o x y) (λ st′. h st′ (rw p tt))
+        by false p = step-any (mildb false) refl P w (opTakes o) (apply c d (item.Operator o)) st k (λ x y. calc-passes (mildb false) refl refl refl (c .top) o x y) (λ st′. h st′ (rw p tt))
 
   module _ (s : SoundCode c) (e : length d ≡ c .size) (v : AllValid c d) (dest : Bool) where
     left-ok : (span : Span) (st : List ℤ) → WorkedOk c dest span (left st)
@@ -103,10 +104,10 @@ module _ (c : Code) (d : List ℕ) where
         → ((st′ : List ℤ) → Held (seenAfter c b i) st′ → P (k st′)) → P (onHeld (stepBy (takes i) (apply c d i) st) k)
     item-ok P w (item.Number p l) j is b st k r t h = number-step P w p l b st k t h
     item-ok P w (item.Reference g f) j is b st k r t h = ref-step c s d e v f P w g b st k r t (λ st′. h st′ tt)
-    item-ok P w (item.Text p l) j is b st k r t h = step-any P w 0 (apply c d (item.Text p l)) st k (λ x y. refl) (λ st′. h st′ tt)
+    item-ok P w (item.Text p l) j is b st k r t h = step-any (mildb false) refl P w 0 (apply c d (item.Text p l)) st k (λ x y. refl) (λ st′. h st′ tt)
     item-ok P w (item.Operator o) j is b st k r t h = operator-step P w o b st k t h
-    item-ok P w item.End j is b st k r t h = step-any P w 0 (apply c d item.End) st k (λ x y. refl) (λ st′. h st′ tt)
-    item-ok P w item.Bad j is b st k r t h = step-any P w 0 (apply c d item.Bad) st k (λ x y. refl) (λ st′. h st′ tt)
+    item-ok P w item.End j is b st k r t h = step-any (mildb false) refl P w 0 (apply c d item.End) st k (λ x y. refl) (λ st′. h st′ tt)
+    item-ok P w item.Bad j is b st k r t h = step-any (mildb false) refl P w 0 (apply c d item.Bad) st k (λ x y. refl) (λ st′. h st′ tt)
 
     from-ok : (i : Item) (is : List Item) (b : Seen) (st : List ℤ) → AllFenced c dest b (i ∷ is) → Held b st → WorkedOk c dest (spanFrom c b i is) (workedFrom c d i is st)
     unfolding workedFrom spanFrom

@@ -15,6 +15,7 @@ use Rattle.rules_unit.specs.Codes.{Code}
 use Rattle.rules_unit.specs.Expressions.{itemb, useb}
 use Rattle.rules_unit.specs.Table.{usesOf}
 use Rattle.rules_unit.specs.Sound.{SoundCode}
+use Rattle.rules_unit.proofs.Statements.{uses-good}
 use Rattle.rules_run.specs.declared.Span.{Span}
 use Rattle.rules_run.specs.declared.Span.the-variants.{At, Outside}
 use Rattle.rules_fence.specs.declared.Breach.{Breach}
@@ -198,8 +199,8 @@ module _ (c : Code) (s : SoundCode c) where
   module _ (i : ℕ) (l : i < c .statements) where
     pub statement-breaks : (breachOf c i ≡ breach.None → ⊥) → StatementBreaks c (c .statement i) (breachOf c i)
     unfolding breachOf
-    statement-breaks z = uses-break (usesOf (c .statement i)) (s .statements i l .uses .each) (some-breach (breachOf c i) z)
+    statement-breaks z = uses-break (usesOf (c .statement i)) (uses-good c i (s .statements i l .uses)) (some-breach (breachOf c i) z)
 
     pub statement-named : (b : Breach) → (b ≡ breach.None → ⊥) → StatementBreaks c (c .statement i) b → breachOf c i ≡ b
     unfolding breachOf
-    statement-named b z r = uses-named (usesOf (c .statement i)) b (s .statements i l .uses .each) (some-breach b z) (r .k) (r .low) (r .earlier) (r .here)
+    statement-named b z r = uses-named (usesOf (c .statement i)) b (uses-good c i (s .statements i l .uses)) (some-breach b z) (r .k) (r .low) (r .earlier) (r .here)

@@ -2,6 +2,7 @@ pub mod Parts
 pub mod Elements
 pub mod Sorts
 pub mod Bounded
+pub mod PlaceSpans
 pub mod Exact
 pub mod Mild
 pub mod Places
@@ -18,4 +19,5 @@ pub mod Tests
 pub mod Reasons
 pub mod First
 pub mod Verdicts
+pub mod BadTexts
 pub mod Demand

@@ -23,9 +23,9 @@ use Rattle.rules_fence.specs.declared.Breach.{Breach}
 use Rattle.rules_fence.specs.declared.Breach.the-variants as breach
 use Rattle.rules_fence.specs.declared.Seen.the-variants as seen
 use Rattle.rules_fence.specs.Bounds.{seenIn, boundedb, fixedSpan}
-use Rattle.rules_fence.specs.Fence.{Bounds, InElement}
+use Rattle.rules_fence.specs.Fence.{Bounds, Names, InElement}
 use Rattle.rules_fence.specs.Breaches.{keepsb, elementBreach, apartOf, apartFrom, alphaBreach, spanBreach, referenceBreach}
-use Rattle.rules_fence.specs.Reasons.{Inside, Shares, SpanBreaks, Names, NamedBreaks, RefBreaks}
+use Rattle.rules_fence.specs.Reasons.{Inside, Shares, SpanBreaks, NamedBreaks, RefBreaks}
 use Rattle.rules_fence.proofs.Bounded.{bounds-seen, seen-bounds}
 use Rattle.rules_fence.proofs.Spans.{elementOf, elementEnd, element-in, element-last, apart-from}
 

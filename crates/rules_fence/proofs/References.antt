@@ -22,12 +22,13 @@ use Rattle.rules_run.specs.declared.Worked.{Worked}
 use Rattle.rules_run.specs.Spans.{spanIn}
 use Rattle.rules_run.specs.Evaluation.{readSpan, reference, apply, stepBy, onHeld}
 use Rattle.rules_run.proofs.Windows.{span-some}
+use Rattle.rules_run.proofs.Faults.{on-room}
 use Rattle.rules_fence.specs.declared.Seen.{Seen}
 use Rattle.rules_fence.specs.Bounds.{fixedSpan}
 use Rattle.rules_fence.specs.Fence.{SpanKept}
 use Rattle.rules_fence.specs.Destinations.{AllValid}
 use Rattle.rules_fence.proofs.Elements.{span-reads}
-use Rattle.rules_fence.proofs.Mild.{mildNum, mild-value, Mild, on-room}
+use Rattle.rules_fence.proofs.Mild.{mildb, mildNum, mild-value, Mild}
 use Rattle.rules_fence.proofs.Places.{Held, fixed-whole, fixed-element, fixed-range, fixed-length}
 
 module _ (c : Code) (s : SoundCode c) (d : List ℕ) (e : length d ≡ c .size) (v : AllValid c d) (f : ℕ) where
@@ -49,15 +50,15 @@ module _ (c : Code) (s : SoundCode c) (d : List ℕ) (e : length d ≡ c .size) 
       → ((st′ : List ℤ) → P (k st′)) → P (onHeld (stepBy (howTakes h) (apply c d (item.Reference h f)) st) k)
   unfolding stepBy
   ref-step P w how.First b st k r t g =
-      on-room P w st (reference c d how.First f (pos 0) (pos 0)) k (ref-mild how.First (pos 0) (pos 0) (fixedSpan c how.First f b) (fixed-whole c s d e f b) r) (λ z q. g (z ∷ st))
+      on-room (mildb false) refl P w st (reference c d how.First f (pos 0) (pos 0)) k (ref-mild how.First (pos 0) (pos 0) (fixedSpan c how.First f b) (fixed-whole c s d e f b) r) (λ z q. g (z ∷ st))
   ref-step P w how.Element b [] k r t g = w fault.Malformed refl
   ref-step P w how.Element b (x ∷ st) k r t g =
-      on-room P w st (reference c d how.Element f x (pos 0)) k (ref-mild how.Element x (pos 0) (fixedSpan c how.Element f b) (fixed-element c s d e false f b x st r t) r) (λ z q. g (z ∷ st))
+      on-room (mildb false) refl P w st (reference c d how.Element f x (pos 0)) k (ref-mild how.Element x (pos 0) (fixedSpan c how.Element f b) (fixed-element c s d e false f b x st r t) r) (λ z q. g (z ∷ st))
   ref-step P w how.Range b [] k r t g = w fault.Malformed refl
   ref-step P w how.Range b (y ∷ []) k r t g = w fault.Malformed refl
   ref-step P w how.Range b (y ∷ (x ∷ st)) k r t g =
-      on-room P w st (reference c d how.Range f x y) k (ref-mild how.Range x y (fixedSpan c how.Range f b) (fixed-range c s d e false f b y x st r t) r) (λ z q. g (z ∷ st))
+      on-room (mildb false) refl P w st (reference c d how.Range f x y) k (ref-mild how.Range x y (fixedSpan c how.Range f b) (fixed-range c s d e false f b y x st r t) r) (λ z q. g (z ∷ st))
   ref-step P w how.Length b [] k r t g = w fault.Malformed refl
   ref-step P w how.Length b (y ∷ []) k r t g = w fault.Malformed refl
   ref-step P w how.Length b (y ∷ (x ∷ st)) k r t g =
-      on-room P w st (reference c d how.Length f x y) k (ref-mild how.Length x y (fixedSpan c how.Length f b) (fixed-length c s d e false f b y x st r t) r) (λ z q. g (z ∷ st))
+      on-room (mildb false) refl P w st (reference c d how.Length f x y) k (ref-mild how.Length x y (fixedSpan c how.Length f b) (fixed-length c s d e false f b y x st r t) r) (λ z q. g (z ∷ st))

@@ -23,14 +23,14 @@ use Rattle.rules_run.specs.declared.Write.{Write}
 use Rattle.rules_run.specs.States.{called, returned}
 use Rattle.rules_run.specs.Stops.{stopNumber}
 use Rattle.rules_run.specs.Turns.{Room, turnOf}
-use Rattle.rules_run.specs.Runs.{Moved, to, stuck, movedBy, Ran, ended, runFrom}
+use Rattle.rules_run.specs.Runs.{Moved, to, stuck, movedBy, dataAfter, Ran, ended, runFrom}
 use Rattle.rules_run.proofs.Outside.{applied-length, applied-outside}
 use Rattle.rules_run.proofs.Room.{turn-room}
-use Rattle.rules_run.proofs.Steps.{dataAfter, every-run}
+use Rattle.rules_run.proofs.Steps.{every-run}
 use Rattle.rules_fence.specs.Fence.{Fenced}
-use Rattle.rules_fence.specs.Destinations.{Covers, Destination, AllValid, BadText}
+use Rattle.rules_fence.specs.Destinations.{AllValid, BadText}
 use Rattle.rules_fence.specs.Safety.{Safe}
-use Rattle.rules_fence.proofs.Aims.{aim-used, applied-valid, touches-covered}
+use Rattle.rules_fence.proofs.Aims.{aim-destination, applied-valid, touches-covered}
 use Rattle.rules_fence.proofs.Mild.{MildFault}
 use Rattle.rules_fence.proofs.Moves.{MildFlow, TurnOk}
 use Rattle.rules_fence.proofs.Turns.{aimOf, turn-ok}
@@ -90,7 +90,7 @@ module _ (c : Code) (s : SoundCode c) (limit : Limit (c .limit)) (letters : Lett
   through d t x e v h more =
       record {
         length-kept = next .length-kept ∙ len;
-        outside = λ b o. next .outside b o ∙ applied-outside c d w room b (λ z. o (aims-at b (touches-covered c s d e v (aimOf c (c .statement (t .at))) w room (ok .aimed) b z)));
+        outside = λ b o. next .outside b o ∙ applied-outside c d w room b (λ z. o (aim-destination c (t .at) h b (touches-covered c s d e v (aimOf c (c .statement (t .at))) w room (ok .aimed) b z)));
         valid = next .valid;
         no-21 = next .no-21;
         only-22 = next .only-22;
@@ -110,11 +110,6 @@ module _ (c : Code) (s : SoundCode c) (limit : Limit (c .limit)) (letters : Lett
 
       next : Safe c (dataAfter c t d) x
       next = more (len ∙ e) (applied-valid c s d e v (aimOf c (c .statement (t .at))) (turnOf c (t .at) d .write) room (ok .aimed))
-
-      aims-at : (b : ℕ) → Covers (aimOf c (c .statement (t .at))) b → Destination c b
-      aims-at b z =
-          let u = aim-used c b (c .statement (t .at)) z in
-          record { statement-number = t .at; low = h; use-number = u .0; used = u .1; covers = u .2 }
 
   pub run-safe : (m : ℕ) (t : State) (d : List ℕ) (k : ℕ) → length d ≡ c .size → AllValid c d → Safe c d (runFrom c m t d k)
   run-safe =

@@ -18,6 +18,7 @@ use Rattle.rules_unit.specs.Codes.{Code}
 use Rattle.rules_unit.specs.Expressions.{itemb, useb}
 use Rattle.rules_unit.specs.Table.{usesOf}
 use Rattle.rules_unit.specs.Sound.{SoundCode}
+use Rattle.rules_unit.proofs.Statements.{uses-good}
 use Rattle.rules_run.specs.declared.Span.{Span}
 use Rattle.rules_run.specs.declared.Span.the-variants.{At, Outside}
 use Rattle.rules_run.specs.Spans.{spanIn}
@@ -96,4 +97,4 @@ module _ (c : Code) (s : SoundCode c) where
 
   pub statement-tells : (i : ℕ) → i < c .statements → Kept (breachOf c i) (StatementFenced c (c .statement i))
   unfolding breachOf
-  statement-tells i h = kept-as (λ r. record { each = r }) (λ r. r .each) (uses-tell (usesOf (c .statement i)) (s .statements i h .uses .each))
+  statement-tells i h = kept-as (λ r. record { each = r }) (λ r. r .each) (uses-tell (usesOf (c .statement i)) (uses-good c i (s .statements i h .uses)))

@@ -27,6 +27,7 @@ use Rattle.rules_unit.specs.Table.{verbOf, rowOf, useOf, usesBy}
 use Rattle.rules_unit.specs.Codes.{Code}
 use Rattle.rules_unit.specs.Expressions.{placeSort, sortAt, suits, useb}
 use Rattle.rules_unit.specs.Sound.{SoundCode}
+use Rattle.rules_unit.proofs.Statements.{uses-good}
 use Rattle.rules_run.specs.declared.Span.{Span}
 use Rattle.rules_run.specs.declared.Span.the-variants.{Outside}
 use Rattle.rules_run.specs.declared.Flow.{Flow}
@@ -37,11 +38,12 @@ use Rattle.rules_run.specs.Turns.{moveWorked, onPlace, clearAt, countAt, caseAt
 use Rattle.rules_run.proofs.Comes.{Comes}
 use Rattle.rules_run.proofs.Sorted.{sort-comes}
 use Rattle.rules_fence.specs.Fence.{ExprFenced, UseFenced, StatementFenced}
-use Rattle.rules_fence.specs.Destinations.{placeSpan, useSpan, alphaSort, textOf, AllValid, BadText}
+use Rattle.rules_fence.specs.Destinations.{alphaSort, textOf, AllValid, BadText}
 use Rattle.rules_fence.proofs.Exact.{expr-to}
 use Rattle.rules_fence.proofs.Expressions.{worked-ok}
 use Rattle.rules_fence.proofs.Jumps.{if-mild, choose-mild, number-mild, on-number}
 use Rattle.rules_fence.proofs.Moves.{MildFlow, TurnOk, failed-ok, goes-ok, on-place, source-ok, clear-ok, count-ok, case-ok}
+use Rattle.rules_fence.proofs.PlaceSpans.{placeSpan, useSpan}
 use Rattle.rules_fence.proofs.Places.{PlaceOk, WorkedOk}
 use Rattle.rules_fence.proofs.Sorts.{suits-right}
 
@@ -110,4 +112,4 @@ module _ (c : Code) (s : SoundCode c) (letters : Letters (c .base)) (d : List �
 
   pub turn-ok : (i : ℕ) → i < c .statements → StatementFenced c (c .statement i) → TurnOk c d (aimOf c (c .statement i)) (BadText c d (c .statement i)) (turnOf c i d)
   unfolding turnOf
-  turn-ok i h r = by-verb i (c .statement i) (verbOf (c .statement i .code)) refl (s .statements i h .uses .each) (r .each)
+  turn-ok i h r = by-verb i (c .statement i) (verbOf (c .statement i .code)) refl (uses-good c i (s .statements i h .uses)) (r .each)

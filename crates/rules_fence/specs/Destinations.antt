@@ -1,21 +1,22 @@
 -- What demand 3 speaks of: destinations, valid data, alpha text moved to a decimal place (document 01, "Fence rules").
---   placeSpan c is        the span that the place is names, by the bounds written in it; Outside where it names none
+--   PlaceNames c is span  the place is names the span, by the bounds written in it
+--   Writes c x span       the use x is written, and its place names the span
 --   Covers span b         the byte b lies in the span
---   useSpan c x           the span of a use that is written
---   Destination c b       the byte b lies in a destination of the unit
+--   Destination c b       the byte b lies in a destination of the unit; InPlaceA c b says the same by the codes
 --   AllValid c d          every element of every decimal field is valid
 --   BadText c d s         over the data d the statement s moves alpha text to a decimal place, and that text is no number
 -- The spans are those that the bounds written in the unit give. Of a unit without a yes a destination may depend on the run, and nothing is said here.
 -- Assumes nothing.
 use Prim.Native.Nat.{ℕ, _+_, _<_, _≤_}
 use mathlib.Core.Path.{_≡_}
-use mathlib.Core.Bool.{Bool, true, false, cond}
-use mathlib.Core.List.{List, [], _∷_}
+use mathlib.Core.Bool.{Bool, true, false}
+use mathlib.Core.List.{List, [], _∷_, _++_}
 use lib.ListN.{length, take, drop, getD}
 use Rattle.rules.specs.declared.Fault.the-variants as fault
 use Rattle.rules.specs.declared.Num.the-variants.{Failed}
 use Rattle.rules.specs.Values.{Valid}
 use Rattle.rules.specs.Moves.{alphaOf}
+use Rattle.rules_unit.specs.declared.How.{How}
 use Rattle.rules_unit.specs.declared.Item.{Item}
 use Rattle.rules_unit.specs.declared.Item.the-variants as item
 use Rattle.rules_unit.specs.declared.Statement.{Statement}
@@ -33,46 +34,47 @@ use Rattle.rules_run.specs.declared.Span.the-variants.{At, Outside}
 use Rattle.rules_run.specs.declared.Worked.{Worked}
 use Rattle.rules_run.specs.declared.Worked.the-variants as worked
 use Rattle.rules_run.specs.Evaluation.{workedOf}
-use Rattle.rules_fence.specs.declared.Seen.{Seen}
-use Rattle.rules_fence.specs.declared.Seen.the-variants as seen
-use Rattle.rules_fence.specs.Bounds.{seenAfter, fixedSpan}
+use Rattle.rules_fence.specs.Fence.{Names}
 
 -- ---- destinations
 
--- A last reference, where the bounds s stand before it.
-abbrev pub lastSpan : Code → Seen → Item → Span
-lastSpan c s (item.Number place len) = Outside
-lastSpan c s (item.Reference h field) = fixedSpan c h field s
-lastSpan c s (item.Text place len) = Outside
-lastSpan c s (item.Operator o) = Outside
-lastSpan c s item.End = Outside
-lastSpan c s item.Bad = Outside
+-- "A *place* ends with a reference (02 to 05)": the span that it names.
+pub record PlaceNames (c : Code) (is : List Item) (span : Span) : Type 0 where
+  pub before : List Item
+  pub h : How
+  pub f : ℕ
+  pub items : is ≡ before ++ (item.Reference h f ∷ [])
+  pub names : Names c h f before span
 
--- "A *place* ends with a reference": the item i and those after it.
-unfoldable pub spanFrom : Code → Seen → Item → List Item → Span
-spanFrom c s i [] = lastSpan c s i
-spanFrom c s i (j ∷ is) = spanFrom c (seenAfter c s i) j is
-
-unfoldable pub placeSpan : Code → List Item → Span
-placeSpan c [] = Outside
-placeSpan c (i ∷ is) = spanFrom c seen.Nothing i is
+-- A use that is written names it; one that is read names no destination.
+abbrev pub Writes : Code → Use → Span → Type 0
+Writes c use-of.Nothing span = ⊥
+Writes c (use-of.Of w at written) span = (written ≡ true) × PlaceNames c (c .items at) span
 
 abbrev pub Covers : Span → ℕ → Type 0
 Covers (At a n) b = (a ≤ b) × (b < a + n)
 Covers Outside b = ⊥
 
--- "A destination is the span named by place a of codes 1 to 6."
-abbrev pub useSpan : Code → Use → Span
-useSpan c use-of.Nothing = Outside
-useSpan c (use-of.Of w at written) = cond written (placeSpan c (c .items at)) Outside
-
--- The byte b lies in the destination of the statement whose number is given, reachable or not.
+-- "A destination is the span named by place a of codes 1 to 6": by the table, a use that is written. The byte b lies in that of the statement whose
+-- number is given, reachable or not.
 pub record Destination (c : Code) (b : ℕ) : Type 0 where
   pub statement-number : ℕ
   pub low : statement-number < c .statements
   pub use-number : ℕ
   pub used : use-number < length (usesOf (c .statement statement-number))
-  pub covers : Covers (useSpan c (getD (usesOf (c .statement statement-number)) use-number use-of.Nothing)) b
+  pub span : Span
+  pub writes : Writes c (getD (usesOf (c .statement statement-number)) use-number use-of.Nothing) span
+  pub covers : Covers span b
+
+-- The same by the codes, as document 01 has it.
+pub record InPlaceA (c : Code) (b : ℕ) : Type 0 where
+  pub statement-number : ℕ
+  pub low : statement-number < c .statements
+  pub least : 1 ≤ c .statement statement-number .code
+  pub most : c .statement statement-number .code ≤ 6
+  pub span : Span
+  pub names : PlaceNames c (c .items (c .statement statement-number .a)) span
+  pub covers : Covers span b
 
 -- ---- valid data
 

@@ -1,6 +1,7 @@
 -- The fence rules (document 01, "Fence rules"), as statements. Breaches has the same rules as tests.
 --   Bound c is v                 the items is are a bound with the value v
 --   Bounds c how before x y      the bounds x and y that a reference takes end the items before it
+--   Names c how f before span    the span that a reference names by its bounds
 --   InElement c dest f a n k     n bytes from a on lie in the element k of the field f, and end with it where they are a destination
 --   SpanFenced c dest f a n      the rules of the span of a reference to the field f
 --   SpanKept c dest f span       the same, where the span may be none
@@ -73,6 +74,13 @@ Bounds c how.First before x y = (x ≡ pos 0) × (y ≡ pos 0)
 Bounds c how.Element before x y = OneBound c before x × (y ≡ pos 0)
 Bounds c how.Range before x y = TwoBounds c before x y
 Bounds c how.Length before x y = TwoBounds c before x y
+
+-- The span that a reference names by its bounds.
+pub record Names (c : Code) (h : How) (f : ℕ) (before : List Item) (span : Span) : Type 0 where
+  pub x : ℤ
+  pub y : ℤ
+  pub bounds : Bounds c h before x y
+  pub is-span : spanIn 0 (c .size) (c .field f) h x y ≡ span
 
 -- ---- one span
 

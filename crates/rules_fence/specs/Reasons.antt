@@ -18,12 +18,10 @@ use Rattle.rules_unit.specs.declared.Use.{Use}
 use Rattle.rules_unit.specs.declared.Use.the-variants as use-of
 use Rattle.rules_unit.specs.Codes.{Code, decimalb, offsetOf, sizeOf, elementAt, endOf}
 use Rattle.rules_unit.specs.Table.{usesOf}
-use Rattle.rules_run.specs.declared.Span.{Span}
 use Rattle.rules_run.specs.declared.Span.the-variants.{At, Outside}
-use Rattle.rules_run.specs.Spans.{spanIn}
 use Rattle.rules_fence.specs.declared.Breach.{Breach}
 use Rattle.rules_fence.specs.declared.Breach.the-variants as breach
-use Rattle.rules_fence.specs.Fence.{Bounds, InElement, destb, ExprFenced, UseFenced}
+use Rattle.rules_fence.specs.Fence.{Bounds, Names, InElement, destb, ExprFenced, UseFenced}
 
 -- ---- one span
 
@@ -56,13 +54,6 @@ SpanBreaks c dest f a n breach.StopsMidElement =
 SpanBreaks c dest f a n breach.OnDecimal = Inside c f a n × (decimalb c f ≡ false) × (dest ≡ true) × Shares c a n
 
 -- ---- references
-
--- The span that a reference names by its bounds.
-pub record Names (c : Code) (h : How) (f : ℕ) (before : List Item) (span : Span) : Type 0 where
-  pub x : ℤ
-  pub y : ℤ
-  pub bounds : Bounds c h before x y
-  pub is-span : spanIn 0 (c .size) (c .field f) h x y ≡ span
 
 -- The span that it names breaks a rule.
 pub record NamedBreaks (c : Code) (dest : Bool) (h : How) (f : ℕ) (before : List Item) (b : Breach) : Type 0 where

@@ -1,14 +1,14 @@
 -- Which faults a number can come to, once for every test p of faults (document 01, "Moves and arithmetic").
 --   passes p r    r is a number, or a fault that passes p
 -- Assumes nothing.
-use Prim.Native.Nat.{ℕ, suc, _+_, _-_, _*_}
+use Prim.Native.Nat.{ℕ, zero, suc, _+_, _-_, _*_}
 use mathlib.Core.Path.{_≡_, refl}
 use mathlib.Core.Bool.{Bool, true, false, cond}
 use mathlib.Core.List.{List, [], _∷_}
 use lib.Dec.{ltb, leb, eqb}
 use lib.IntN.{ℤ, pos, negsuc, natAbs, _+ℤ_, _-ℤ_, _*ℤ_}
 use lib.Signed.{quotZ}
-use lib.ListN.{length}
+use lib.ListN.{length, take, drop}
 use Rattle.rules.specs.declared.Fault.{Fault}
 use Rattle.rules.specs.declared.Fault.the-variants as fault
 use Rattle.rules.specs.declared.Num.{Num}
@@ -18,7 +18,11 @@ use Rattle.rules.specs.Arithmetic.{kept, rounded, roundOf}
 use Rattle.rules.specs.Moves.{alphaFrom, alphaOf}
 use Rattle.rules_unit.specs.declared.Op.{Op}
 use Rattle.rules_unit.specs.declared.Op.the-variants as op
-use Rattle.rules_run.specs.Evaluation.{calc}
+use Rattle.rules_unit.specs.Codes.{Code}
+use Rattle.rules_unit.specs.Expressions.{digitsb}
+use Rattle.rules_run.specs.declared.Worked.{Worked}
+use Rattle.rules_run.specs.declared.Worked.the-variants as worked
+use Rattle.rules_run.specs.Evaluation.{calc, digitsFrom, plainNumber, literalNumber, halt, push, room, stepBy, onHeld}
 
 abbrev pub passes : (Fault → Bool) → Num → Bool
 passes p (Value v) = true
@@ -84,3 +88,36 @@ module _ (p : Fault → Bool) where
     -- What alpha to number answers.
     pub alpha-passes : (top : ℕ) (s : List ℕ) → passes p (alphaOf top s) ≡ true
     alpha-passes top s = after-passes top false 0 s
+
+-- ---- items, for any test that lets Malformed through
+
+module _ (p : Fault → Bool) (malformed : p fault.Malformed ≡ true) where
+  -- What a number literal answers.
+  pub literal-passes : (c : Code) (place len : ℕ) → passes p (literalNumber c place len) ≡ true
+  unfolding literalNumber plainNumber
+  literal-passes c place len =
+      let s = take len (drop place (c .literals)) in
+      pass-cond p (leb 1 len) _ (Failed fault.Malformed)
+      (pass-cond p (leb len (c .limit)) _ (Failed fault.Malformed)
+      (pass-cond p (leb (place + len) (length (c .literals))) _ (Failed fault.Malformed)
+      (pass-cond p (digitsb s) (Value (pos (digitsFrom 0 s))) (Failed fault.Malformed) refl malformed) malformed) malformed) malformed
+
+  module _ (P : Worked → Type 0) (w : (e : Fault) → p e ≡ true → P (worked.Failed e)) where
+    pub on-room : (st : List ℤ) (g : Num) (k : List ℤ → Worked) → passes p g ≡ true → ((v : ℤ) → g ≡ Value v → P (k (v ∷ st))) → P (onHeld (room st g) k)
+    on-room st g k m f = by (ltb (length st) 16) g m f
+      where
+        by : (t : Bool) (g : Num) → passes p g ≡ true → ((v : ℤ) → g ≡ Value v → P (k (v ∷ st))) → P (onHeld (cond t (push g st) (halt fault.Malformed)) k)
+        by true (Value v) m f = f v refl
+        by true (Failed e) m f = w e m
+        by false g m f = w fault.Malformed malformed
+
+    -- An item, whatever it takes, where nothing is asked of the values after it.
+    pub step-any : (n : ℕ) (f : ℤ → ℤ → Num) (st : List ℤ) (k : List ℤ → Worked) → ((x y : ℤ) → passes p (f x y) ≡ true) → ((st′ : List ℤ) → P (k st′))
+        → P (onHeld (stepBy n f st) k)
+    unfolding stepBy
+    step-any zero f st k m h = on-room st (f (pos 0) (pos 0)) k (m (pos 0) (pos 0)) (λ v q. h (v ∷ st))
+    step-any (suc zero) f [] k m h = w fault.Malformed malformed
+    step-any (suc zero) f (x ∷ st) k m h = on-room st (f x (pos 0)) k (m x (pos 0)) (λ v q. h (v ∷ st))
+    step-any (suc (suc n)) f [] k m h = w fault.Malformed malformed
+    step-any (suc (suc n)) f (y ∷ []) k m h = w fault.Malformed malformed
+    step-any (suc (suc n)) f (y ∷ (x ∷ st)) k m h = on-room st (f x y) k (m x y) (λ v q. h (v ∷ st))

@@ -23,6 +23,7 @@ use Rattle.rules_unit.specs.declared.Use.the-variants as use-of
 use Rattle.rules_unit.specs.Codes.{Code}
 use Rattle.rules_unit.specs.Expressions.{placeSort, sortAt, suits, useb}
 use Rattle.rules_unit.specs.Sound.{RowSound, StatementSound}
+use Rattle.rules_unit.proofs.Statements.{uses-good}
 use Rattle.rules_run.specs.declared.Worked.{Worked}
 use Rattle.rules_run.specs.declared.Worked.the-variants as worked
 use Rattle.rules_run.specs.declared.Write.the-variants as write
@@ -105,4 +106,4 @@ module _ (c : Code) (d : List ℕ) where
 
   pub turn-formed : (i : ℕ) → StatementSound c i → formedFlow (turnOf c i d .flow) ≡ true
   unfolding turnOf
-  turn-formed i s = formed-by i (verbOf (c .statement i .code)) (c .statement i) (s .shape .parts) (s .uses .each) .formed
+  turn-formed i s = formed-by i (verbOf (c .statement i .code)) (c .statement i) (s .shape .parts) (uses-good c i (s .uses)) .formed

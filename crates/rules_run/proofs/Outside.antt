@@ -116,7 +116,7 @@ module _ (c : Code) (d : List ℕ) where
 pub error-stores-nothing : (c : Code) (i : ℕ) (d : List ℕ) (e : Fault) → turnOf c i d .flow ≡ flow.Bad e → turnOf c i d .write ≡ write.Nothing
 unfolding turnOf
 error-stores-nothing c i d =
-    turn-case Quiet (λ e f q. refl) (λ w e q. let z : _≡_ {A = ℕ} 0 1 = cc in absurd (omega arith)) c d i (verbOf (c .statement i .code)) (c .statement i)
+    turn-case Quiet (λ e m f q. refl) (λ w e q. let z : _≡_ {A = ℕ} 0 1 = cc in absurd (omega arith)) c d i (verbOf (c .statement i .code)) (c .statement i)
     (λ f l e q. refl)
   where
     Quiet : Turn → Type 0

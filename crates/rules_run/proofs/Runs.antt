@@ -2,7 +2,6 @@
 -- to what one run with both allowances comes to.
 --   StopSays c m k r e    what the stop e says of the run r, with the allowance m after k completed statements
 --   Counts m k r          how many statements r has completed
---   counted j r           r, with j more completed
 -- Assumes nothing.
 use Prim.Native.Nat.{ℕ, suc, _+_, _<_, _≤_}
 use native.Mathlib.Nat.{zero-add, suc-add}
@@ -13,8 +12,8 @@ use Rattle.rules_unit.specs.Codes.{Code}
 use Rattle.rules_run.specs.declared.State.{State}
 use Rattle.rules_run.specs.declared.Stop.{Stop}
 use Rattle.rules_run.specs.declared.Stop.the-variants as stop
-use Rattle.rules_run.specs.Runs.{stuck, Ran, runFrom}
-use Rattle.rules_run.proofs.Steps.{nextOf, run-ends, run-spent, run-fails, run-goes, every-run}
+use Rattle.rules_run.specs.Runs.{stuck, nextOf, Ran, counting, runFrom}
+use Rattle.rules_run.proofs.Steps.{run-ends, run-spent, run-fails, run-goes, every-run}
 
 -- ---- what each stop says
 
@@ -53,14 +52,10 @@ run-counts c =
     (λ s d k h. record { least = omega arith; most = omega arith }) (λ m s d k f h q. record { least = omega arith; most = omega arith })
     (λ m s s′ d k r h q x. record { least = omega arith; most = omega arith })
 
-abbrev pub counted : ℕ → Ran → Ran
-counted j r =
-    record { outcome = record { stop = r .outcome .stop; place = r .outcome .place; count = j + r .outcome .count; state = r .outcome .state }; bytes = r .bytes }
-
 -- A run that starts with j more completed ends with j more, and else as it would.
-pub run-counted : (c : Code) (j m : ℕ) (s : State) (d : List ℕ) (k : ℕ) → runFrom c m s d (j + k) ≡ counted j (runFrom c m s d k)
+pub run-counted : (c : Code) (j m : ℕ) (s : State) (d : List ℕ) (k : ℕ) → runFrom c m s d (j + k) ≡ counting j (runFrom c m s d k)
 run-counted c j =
-    every-run c (λ m s d k r. runFrom c m s d (j + k) ≡ counted j r) (λ m s d k h. run-ends c s d (j + k) m h) (λ s d k h. run-spent c s d (j + k) h)
+    every-run c (λ m s d k r. runFrom c m s d (j + k) ≡ counting j r) (λ m s d k h. run-ends c s d (j + k) m h) (λ s d k h. run-spent c s d (j + k) h)
     (λ m s d k f h q. run-fails c s d (j + k) m f h q)
     (λ m s s′ d k r h q x. let e : suc (j + k) ≡ j + suc k = omega arith in run-goes c s d (j + k) m s′ h q ∙ rw e x)
 

@@ -13,6 +13,7 @@ use Rattle.rules.specs.declared.Fault.the-variants as fault
 use Rattle.rules_unit.specs.declared.Statement.{Statement}
 use Rattle.rules_unit.specs.declared.Role.{Role}
 use Rattle.rules_unit.specs.declared.Row.{Row}
+use Rattle.rules_unit.specs.declared.Verb.{Verb}
 use Rattle.rules_unit.specs.Table.{verbOf, rowOf}
 use Rattle.rules_unit.specs.declared.Parts.{Parts}
 use Rattle.rules_unit.specs.declared.Checked.the-variants as checked
@@ -47,19 +48,19 @@ module _ (c : Code) (i : ℕ) where
   near-sound r s f t (inl (q, e)) = let low : s .c < c .statements = subst (λ (x : Role). RoleSound c i x (s .c)) q (f .of-c) in omega arith
   near-sound r s f t (inr (q, l)) = let table : TableSound c i (s .a) = subst (λ (x : Role). RoleSound c i x (s .a)) q (f .of-a) in omega (arith, table .inside)
 
-  may-sound : (r : Row) (s : Statement) → RowSound c i r s → (f : Flow) → MayGo i r s f → FlowSound (c .statements) f
-  may-sound r s f flow.Next l = tt
-  may-sound r s f (flow.Goto t) l = near-sound r s f t l
-  may-sound r s f (flow.Call t) l = near-sound r s f t l
-  may-sound r s f flow.Return l = tt
-  may-sound r s f flow.Stop l = tt
-  may-sound r s f (flow.Bad e) l = tt
+  may-sound : (v : Verb) (s : Statement) → RowSound c i (rowOf v) s → (f : Flow) → MayGo i v s f → FlowSound (c .statements) f
+  may-sound v s f flow.Next l = tt
+  may-sound v s f (flow.Goto t) l = near-sound (rowOf v) s f t l
+  may-sound v s f (flow.Call t) l = near-sound (rowOf v) s f t (l .1)
+  may-sound v s f flow.Return l = tt
+  may-sound v s f flow.Stop l = tt
+  may-sound v s f (flow.Bad e) l = tt
 
   pub flow-sound : (d : List ℕ) → StatementSound c i → FlowSound (c .statements) (turnOf c i d .flow)
   unfolding turnOf
   flow-sound d s =
-      turn-case (λ t. FlowSound (c .statements) (t .flow)) (λ e. tt) (λ w. tt) c d i (verbOf (c .statement i .code)) (c .statement i)
-      (may-sound (rowOf (verbOf (c .statement i .code))) (c .statement i) (s .shape .parts))
+      turn-case (λ t. FlowSound (c .statements) (t .flow)) (λ e m. tt) (λ w. tt) c d i (verbOf (c .statement i .code)) (c .statement i)
+      (may-sound (verbOf (c .statement i .code)) (c .statement i) (s .shape .parts))
 
 -- ---- the state that it leads to
 

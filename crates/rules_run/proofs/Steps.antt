@@ -1,6 +1,4 @@
 -- A run, one statement at a time (document 01, "Stops and their numbers"), and how to prove a fact of every run.
---   nextOf c s d     where the statement at s leads, or the fault that stops it there
---   dataAfter c s d  what it makes of the data
 -- Assumes nothing.
 use Prim.Native.Nat.{ℕ, zero, suc, _<_, _≤_}
 use mathlib.Core.Path.{_≡_, refl}
@@ -12,14 +10,7 @@ use Rattle.rules.specs.declared.Fault.{Fault}
 use Rattle.rules_unit.specs.Codes.{Code}
 use Rattle.rules_run.specs.declared.State.{State}
 use Rattle.rules_run.specs.declared.Stop.the-variants as stop
-use Rattle.rules_run.specs.Turns.{applied, turnOf}
-use Rattle.rules_run.specs.Runs.{Moved, to, stuck, movedBy, Ran, ended, runFrom}
-
-abbrev pub nextOf : Code → State → List ℕ → Moved
-nextOf c s d = movedBy (c .statements) s (turnOf c (s .at) d .flow)
-
-abbrev pub dataAfter : Code → State → List ℕ → List ℕ
-dataAfter c s d = applied c d (turnOf c (s .at) d .write)
+use Rattle.rules_run.specs.Runs.{Moved, to, stuck, nextOf, dataAfter, Ran, ended, runFrom}
 
 -- ---- the four ways of a step
 

@@ -4,3 +4,4 @@ pub mod Turns
 pub mod States
 pub mod Stops
 pub mod Runs
+pub mod Answers

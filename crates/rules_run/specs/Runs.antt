@@ -1,5 +1,6 @@
 -- The run (document 01, "Stops and their numbers").
 --   movedBy n s f           where a statement's flow leads from the state s, or the fault that stops it there
+--   nextOf c s d, dataAfter c s d    where the statement at s leads, and what it makes of the data
 --   runFrom c m s d k       at most m statements from the state s and the data d, after k completed ones
 --   runOf u d s m           the checks 1 to 7, then the run
 -- Assumes nothing.
@@ -41,6 +42,13 @@ movedBy n s flow.Return = cond (eqb (s .depth) 0) (stuck fault.NoCall) (to (retu
 movedBy n s flow.Stop = to (gone s n)
 movedBy n s (flow.Bad e) = stuck e
 
+-- Where the statement at s leads over the data d, or the fault that stops it there; and what it makes of the data.
+abbrev pub nextOf : Code → State → List ℕ → Moved
+nextOf c s d = movedBy (c .statements) s (turnOf c (s .at) d .flow)
+
+abbrev pub dataAfter : Code → State → List ℕ → List ℕ
+dataAfter c s d = applied c d (turnOf c (s .at) d .write)
+
 -- ---- the run
 
 -- What a call leaves: its outcome, and the data.
@@ -51,6 +59,11 @@ pub record Ran : Type 0 where
 -- A call of a unit of n statements that ends in the state s, with k statements completed.
 abbrev pub ended : ℕ → Stop → State → ℕ → List ℕ → Ran
 ended n e s k d = record { outcome = record { stop = e; place = stopPlace n (s .at) e; count = k; state = s }; bytes = d }
+
+-- The same call, where j more statements are counted.
+abbrev pub counting : ℕ → Ran → Ran
+counting j r =
+    record { outcome = record { stop = r .outcome .stop; place = r .outcome .place; count = j + r .outcome .count; state = r .outcome .state }; bytes = r .bytes }
 
 abbrev pub onMoved : Moved → (State → Ran) → (Fault → Ran) → Ran
 onMoved (to s) k e = k s

@@ -1,6 +1,7 @@
 pub mod Items
 pub mod Tells
 pub mod Fields
+pub mod WellFormed
 pub mod Statements
 pub mod Sound
 pub mod Table

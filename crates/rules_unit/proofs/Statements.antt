@@ -24,14 +24,12 @@ use Rattle.rules_unit.specs.Codes.{Code}
 use Rattle.rules_unit.specs.Decode.{codeOf}
 use Rattle.rules_unit.specs.Table.{verbOf, rowOf, usesOf}
 use Rattle.rules_unit.specs.Expressions.{useb, usesb}
+use Rattle.rules_unit.specs.WellFormed.{UseSound}
 use Rattle.rules_unit.specs.Checks.{isGoto, gotosb, tableb, roleb, rowb, shapeb, foundOf, onward, statementsFrom}
 use Rattle.rules_unit.specs.Sound.{TableSound, RoleSound, RowSound, ShapeSound, UsesSound, StatementSound}
 use Rattle.rules_unit.specs.Answers.{FirstStatement, FirstExpression}
+use Rattle.rules_unit.proofs.WellFormed.{tells-self, use-tells}
 use Rattle.rules_unit.proofs.Tells.{Tells, tells-lt, tells-eq, tells-true, tells-false, tells-as, tells-and, tells-from, tells-no, tells-fails, one-more}
-
--- a test that is its own statement
-tells-self : (t : Bool) → Tells t (t ≡ true)
-tells-self t = record { to = λ e. e; of = λ e. e }
 
 module _ (c : Code) where
   -- ---- 5
@@ -84,22 +82,27 @@ module _ (c : Code) where
 
   -- ---- 4
 
-  list-tells : (xs : List Use) → Tells (usesb c xs) ((k : ℕ) → k < length xs → useb c (getD xs k use-of.Nothing) ≡ true)
+  abbrev Each : List Use → Type 0
+  Each xs = (k : ℕ) → k < length xs → UseSound c (getD xs k use-of.Nothing)
+
+  list-tells : (xs : List Use) → Tells (usesb c xs) (Each xs)
   unfolding usesb
   list-tells [] = record { to = λ e k h. absurd (omega arith); of = λ f. refl }
-  list-tells (x ∷ xs) = tells-as to of (tells-and (tells-self (useb c x)) (list-tells xs))
+  list-tells (x ∷ xs) = tells-as to of (tells-and (use-tells c x) (list-tells xs))
     where
-      to : (useb c x ≡ true) × ((k : ℕ) → k < length xs → useb c (getD xs k use-of.Nothing) ≡ true)
-          → (k : ℕ) → k < length (x ∷ xs) → useb c (getD (x ∷ xs) k use-of.Nothing) ≡ true
+      to : UseSound c x × Each xs → Each (x ∷ xs)
       to r zero h = r .0
       to r (suc k) h = r .1 k (omega arith)
 
-      of : ((k : ℕ) → k < length (x ∷ xs) → useb c (getD (x ∷ xs) k use-of.Nothing) ≡ true)
-          → (useb c x ≡ true) × ((k : ℕ) → k < length xs → useb c (getD xs k use-of.Nothing) ≡ true)
+      of : Each (x ∷ xs) → UseSound c x × Each xs
       of f = (f zero (omega arith), λ k h. f (suc k) (omega arith))
 
   uses-tell : (i : ℕ) → Tells (usesb c (usesOf (c .statement i))) (UsesSound c i)
   uses-tell i = tells-as (λ f. record { each = f }) (λ r. r .each) (list-tells (usesOf (c .statement i)))
+
+  -- The test of each use of a sound statement.
+  pub uses-good : (i : ℕ) → UsesSound c i → (k : ℕ) → k < length (usesOf (c .statement i)) → useb c (getD (usesOf (c .statement i)) k use-of.Nothing) ≡ true
+  uses-good i s k h = use-tells c (getD (usesOf (c .statement i)) k use-of.Nothing) .of (s .each k h)
 
   -- ---- what is found of one statement
 

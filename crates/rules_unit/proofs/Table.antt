@@ -1,17 +1,21 @@
 -- The table of statements, by code.
 --   verb-set     the code 1, which the literal asks for, is SET's
---   verb-goto    the code 7, which a computed GOTO asks for, is GOTO's
+--   verb-goto, goto-verb    the code 7, which a computed GOTO asks for, is GOTO's, and no other is
+--   verb-code    no two codes do the same: what a statement does tells its code
 --   read-down    the table read down its columns: what a, b and c are, by the code
 -- Assumes nothing.
 use Prim.Native.Nat.{ℕ, _<_}
-use mathlib.Core.Path.{_≡_, refl}
-use mathlib.Core.Bool.{true, cond}
+use native.Mathlib.Omega.{arith}
+use mathlib.Core.Path.{_≡_, refl, sym, ap, _∙_}
+use mathlib.Core.Bool.{Bool, true, false, cond}
+use mathlib.Core.Logic.{_⊎_, inl, inr}
 use lib.Dec.{leb, eqb}
-use borrow.Author.Tests.{eqb-true}
+use borrow.Author.Tests.{eqb-true, eq-eqb}
 use Rattle.rules.proofs.Charts.{same-at}
-use Rattle.rules_unit.specs.declared.Act.the-variants.{Set}
+use Rattle.rules_unit.specs.declared.Act.the-variants.{Set, Clear, Count, Case}
 use Rattle.rules_unit.specs.declared.Statement.{Statement}
-use Rattle.rules_unit.specs.declared.Verb.the-variants.{At, Goto}
+use Rattle.rules_unit.specs.declared.Verb.{Verb}
+use Rattle.rules_unit.specs.declared.Verb.the-variants.{At, Goto, IfZero, Call, Return, Stop, Computed, Bad}
 use Rattle.rules_unit.specs.declared.Want.the-variants.{Place, DecimalPlace, AlphaPlace, Source, Number}
 use Rattle.rules_unit.specs.declared.Role.{Role}
 use Rattle.rules_unit.specs.declared.Role.the-variants.{Unused, Written, Read, Target, Table, Never}
@@ -25,6 +29,46 @@ verb-set code e = rw (eqb-true code 1 e)
 pub verb-goto : (s : Statement) → isGoto s ≡ true → verbOf (s .code) ≡ Goto
 unfolding verbOf
 verb-goto s e = rw (eqb-true (s .code) 7 e)
+
+-- The code of a verb; Bad has none.
+abbrev pub codeBack : Verb → ℕ
+codeBack (At Set) = 1
+codeBack (At Clear) = 2
+codeBack (At (Count true)) = 3
+codeBack (At (Count false)) = 4
+codeBack (At (Case true)) = 5
+codeBack (At (Case false)) = 6
+codeBack Goto = 7
+codeBack IfZero = 8
+codeBack Call = 9
+codeBack Return = 10
+codeBack Stop = 11
+codeBack Computed = 12
+codeBack Bad = 0
+
+pub verb-code : (code : ℕ) → (verbOf code ≡ Bad) ⊎ (codeBack (verbOf code) ≡ code)
+unfolding verbOf
+verb-code code =
+    by 1 (At Set) _ refl (by 2 (At Clear) _ refl (by 3 (At (Count true)) _ refl (by 4 (At (Count false)) _ refl
+    (by 5 (At (Case true)) _ refl (by 6 (At (Case false)) _ refl (by 7 Goto _ refl (by 8 IfZero _ refl
+    (by 9 Call _ refl (by 10 Return _ refl (by 11 Stop _ refl (by 12 Computed _ refl (inl refl))))))))))))
+  where
+    Told : Verb → Type 0
+    Told v = (v ≡ Bad) ⊎ (codeBack v ≡ code)
+
+    by : (n : ℕ) (x y : Verb) → codeBack x ≡ n → Told y → Told (cond (eqb code n) x y)
+    by n x y e rest = which (eqb code n) refl
+      where
+        which : (t : Bool) → eqb code n ≡ t → Told (cond t x y)
+        which true q = inr (e ∙ sym (eqb-true code n q))
+        which false q = rest
+
+pub goto-verb : (s : Statement) → verbOf (s .code) ≡ Goto → isGoto s ≡ true
+goto-verb s e = by (verb-code (s .code))
+  where
+    by : (verbOf (s .code) ≡ Bad) ⊎ (codeBack (verbOf (s .code)) ≡ s .code) → isGoto s ≡ true
+    by (inl q) = let z : _≡_ {A = ℕ} 7 0 = ap codeBack (sym e ∙ q) in absurd (omega (arith, z))
+    by (inr q) = eq-eqb (s .code) 7 (sym q ∙ ap codeBack e)
 
 -- "A destination is the span named by place a of codes 1 to 6": of any sort at 1 and 2, decimal at 3 and 4, alpha at 5 and 6.
 abbrev columnA : ℕ → Role

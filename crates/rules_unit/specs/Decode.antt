@@ -179,3 +179,7 @@ codeOf u p = record {
   statements = p .n;
   statement = λ i. statementAt u (statementsAt p + i * 8);
 }
+
+-- The unit, with the parts that its trailer names.
+abbrev pub decoded : List ℕ → Code
+decoded u = codeOf u (partsOf u)

@@ -3,6 +3,7 @@ pub mod Decode
 pub mod Expressions
 pub mod Checks
 pub mod Literals
+pub mod WellFormed
 pub mod Sound
 pub mod Table
 pub mod Answers

@@ -8,7 +8,7 @@
 --   ShapeSound c i        what 5 is about; UsesSound c i what 4 is about; StatementSound c i both
 --   SoundCode c           all entries and all statements
 --   SoundUnit u p         the unit u, with the parts p
--- The sort of an expression stays the test sortAt of Expressions. Assumes nothing.
+-- What a well-formed expression of a sort is stands in WellFormed. Assumes nothing.
 use Prim.Native.Nat.{ℕ, _+_, _-_, _<_, _≤_}
 use mathlib.Core.Path.{_≡_}
 use mathlib.Core.Bool.{true, false}
@@ -23,7 +23,7 @@ use Rattle.rules_unit.specs.declared.Use.the-variants as use-of
 use Rattle.rules_unit.specs.Codes.{Code, isBad, decimalb, recordb, offsetOf, sizeOf, countOf, endOf}
 use Rattle.rules_unit.specs.Decode.{Fills, partsOf, codeOf}
 use Rattle.rules_unit.specs.Table.{verbOf, rowOf, usesOf}
-use Rattle.rules_unit.specs.Expressions.{useb}
+use Rattle.rules_unit.specs.WellFormed.{UseSound}
 use Rattle.rules_unit.specs.Checks.{isGoto}
 
 -- "D is 1 to 16,383; F 0 to 512; E 0 to 16,383; P 0 to 4,095; N 1 to 2,048."
@@ -104,7 +104,7 @@ pub record ShapeSound (c : Code) (i : ℕ) : Type 0 where
 
 -- Each of its expressions is well formed, and of the sort that its use wants.
 pub record UsesSound (c : Code) (i : ℕ) : Type 0 where
-  pub each : (k : ℕ) → k < length (usesOf (c .statement i)) → useb c (getD (usesOf (c .statement i)) k use-of.Nothing) ≡ true
+  pub each : (k : ℕ) → k < length (usesOf (c .statement i)) → UseSound c (getD (usesOf (c .statement i)) k use-of.Nothing)
 
 pub record StatementSound (c : Code) (i : ℕ) : Type 0 where
   pub shape : ShapeSound c i
