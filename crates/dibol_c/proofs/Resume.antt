@@ -5,9 +5,10 @@ use native.Mathlib.Omega.{arith}
 use mathlib.Core.Path.{_≡_, refl, sym, ap, subst, _∙_}
 use mathlib.Core.Bool.{Bool, true, false, cond, false≢true}
 use mathlib.Core.List.{List, [], _∷_}
+use mathlib.Core.Logic.{_↔_, inl, inr}
 use lib.Dec.{ltb, eqb}
 use lib.ListN.{length, getD, replicate, length-drop, length-set}
-use borrow.Author.Tests.{le-leb, eq-eqb, eqb-true, ltb-true, ltb-false}
+use borrow.Author.Tests.{le-ltb, le-leb, lt-leb, eq-eqb, eqb-true, ltb-true, ltb-false}
 use Rattle.rules_unit.specs.declared.Parts.{Parts}
 use Rattle.rules_unit.specs.declared.Refusal.{Refusal}
 use Rattle.rules_unit.specs.declared.Refusal.the-variants as refusal
@@ -24,13 +25,15 @@ use Rattle.rules_run.specs.declared.Stop.the-variants as stop
 use Rattle.rules_run.specs.Turns.{turnOf}
 use Rattle.rules_run.specs.States.{Sound, started}
 use Rattle.rules_run.specs.Stops.{stopNumber}
+use Rattle.rules_run.specs.Answers.{RunNumber, StopNo, noOf, Given}
 use Rattle.rules_run.specs.Runs.{Moved, to, stuck, movedBy, runFrom, runOf}
 use Rattle.rules_run.proofs.Calls.{beforeb, call-refused, call-wrong-size, call-unsound, every-call}
 use Rattle.rules_run.proofs.Steps.{every-run}
+use Rattle.rules_run.proofs.Answers.{call-exactly, refused-by-number, given-exactly}
 use Rattle.rules_run.proofs.SoundRuns.{run-sound}
 use Rattle.words.proofs.Laid.{laid-same}
 use Rattle.states.specs.Numbers.{numbersOf, Held, smallb, stateb, nowhere, stateOf}
-use Rattle.dibol_c.specs.Calls.{refusedb, handedOf, untouched}
+use Rattle.dibol_c.specs.Calls.{Handed, refusedb, handedOf, untouched, HostReads}
 
 -- ---- read after write
 
@@ -167,6 +170,44 @@ module _ (u d w : List ℕ) (m : ℕ) (a : List ℕ) where
   pub goes-on : refusedb (handedOf u d w m a .stop) ≡ false → stateOf (handedOf u d w m a .state) ≡ runOf u d (stateOf w) m .outcome .state
   unfolding handedOf
   goes-on f = ap stateOf (left-state f) ∙ read-written (runOf u d (stateOf w) m .outcome .state) (ran-held f .1)
+
+-- ---- what a host reads
+
+run-refuses : (n : ℕ) → RunNumber n → refusedb n ≡ false
+unfolding refusedb
+run-refuses n (inl e) = rw e
+run-refuses n (inr (inl h)) = rw (le-ltb n 1 (omega (arith, h .0)), lt-leb n 7 (omega (arith, h .0)))
+run-refuses n (inr (inr e)) = rw e
+
+range-refuses : (n : ℕ) → 1 ≤ n → n ≤ 7 → refusedb n ≡ true
+unfolding refusedb
+range-refuses n x y = rw (le-ltb n 1 x, le-leb n 7 y)
+
+pub host-reads : (u d w : List ℕ) (m : ℕ) (a : List ℕ) → HostReads u d w m a (handedOf u d w m a)
+unfolding handedOf
+host-reads u d w m a =
+    let ran = runOf u d (stateOf w) m in
+    record {
+      ran = ran;
+      either = call-exactly u d (stateOf w) m ran .0 refl;
+      stop = refl;
+      bytes = refl;
+      kept = λ x y. rw (range-refuses (stopNumber (ran .outcome .stop)) x y);
+      next = λ n. left-state u d w m a (run-refuses (stopNumber (ran .outcome .stop)) n);
+      answer = refl;
+    }
+
+pub host-kept : (u d w : List ℕ) (m : ℕ) (a : List ℕ) (h : Handed) → HostReads u d w m a h → 1 ≤ h .stop → h .stop ≤ 7 → (h .bytes ≡ d) × (h .state ≡ w)
+host-kept u d w m a h r x y =
+    let n : h .stop ≡ stopNumber (r .ran .outcome .stop) = r .stop in
+    (r .bytes ∙ refused-by-number u d (stateOf w) m (r .ran) (r .either) (omega (arith, x, n)) (omega (arith, y, n)) .data-kept, r .kept x y)
+
+pub host-given : (u d w : List ℕ) (m : ℕ) (a : List ℕ) (x : StopNo) → (handedOf u d w m a .stop ≡ noOf x) ↔ (place : ℕ) × Given u d (stateOf w) m x place
+unfolding handedOf
+host-given u d w m a x = (
+  λ e. (runOf u d (stateOf w) m .outcome .place, given-exactly u d (stateOf w) m x (runOf u d (stateOf w) m .outcome .place) .0 (e, refl)),
+  λ g. given-exactly u d (stateOf w) m x (g .0) .1 (g .1) .0,
+)
 
 pub zeros-start : stateOf (replicate 52 0) ≡ started
 unfolding stateOf stateb smallb

@@ -2,8 +2,11 @@
 --   checkTold, fenceTold, literalTold    the value answered, and the numbers put into the answer
 --   handedOf u d w m a                   what a run leaves of the data d, the state's numbers w and the answer a
 --   untouched n place d w a              .. where it is refused by n: nothing is changed, and the count is 0
+--   HostReads u d w m a h                what a host reads of what is left
 -- Assumes nothing.
-use Prim.Native.Nat.{ℕ}
+use Prim.Native.Nat.{ℕ, _≤_}
+use mathlib.Core.Path.{_≡_}
+use mathlib.Core.Logic.{_⊎_}
 use mathlib.Core.Bool.{Bool, false, cond}
 use mathlib.Core.List.{List, [], _∷_}
 use lib.Dec.{ltb, leb}
@@ -13,6 +16,7 @@ use Rattle.rules_unit.specs.declared.Stretch.{Stretch}
 use Rattle.rules_unit.specs.Checks.{refusalNumber, refusalPlace}
 use Rattle.rules_run.specs.Runs.{Ran, runOf}
 use Rattle.rules_run.specs.Stops.{stopNumber}
+use Rattle.rules_run.specs.Answers.{IsRefused, RunNumber, IsRun}
 use Rattle.rules_fence.specs.declared.Verdict.{Verdict}
 use Rattle.rules_fence.specs.declared.Verdict.the-variants as verdict
 use Rattle.rules_fence.specs.Breaches.{breachNumber, breachIn}
@@ -71,3 +75,15 @@ handedOf u d w m a = handed (runOf u d (stateOf w) m) w a
 
 abbrev pub untouched : ℕ → ℕ → List ℕ → List ℕ → List ℕ → Handed
 untouched n place d w a = record { stop = n; bytes = d; state = w; answer = laid (n ∷ place ∷ 0 ∷ []) a }
+
+-- What a host reads of a call: the run or the refusal ran, by the rules of the run.
+pub record HostReads (u d w : List ℕ) (m : ℕ) (a : List ℕ) (h : Handed) : Type 0 where
+  pub ran : Ran
+  pub either : IsRefused u d (stateOf w) ran ⊎ IsRun u d (stateOf w) m ran
+  pub stop : h .stop ≡ stopNumber (ran .outcome .stop)
+  pub bytes : h .bytes ≡ ran .bytes
+  -- After 1 to 7 the state's numbers are as they were, and after any other stop they are those of the next state.
+  pub kept : 1 ≤ h .stop → h .stop ≤ 7 → h .state ≡ w
+  pub next : RunNumber (h .stop) → h .state ≡ numbersOf (ran .outcome .state)
+  -- The stop, the place and the count, as many as fit.
+  pub answer : h .answer ≡ laid (stopNumber (ran .outcome .stop) ∷ ran .outcome .place ∷ ran .outcome .count ∷ []) a

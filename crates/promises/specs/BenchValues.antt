@@ -51,5 +51,4 @@ rows =
 
 pub bench-values : AllHold rows
 unfolding readOf readFrom placed alphaFrom fitted digitsb digitsFrom plainNumber literalNumber calc stepBy within rangeSpan lengthSpan spanIn placeBy place lastOf workedFrom workedOf stored applied verbOf turnBy turnOf
-bench-values =
-    (refl, (refl, (refl, (refl, (refl, (refl, (refl, (refl, (refl, (refl, (refl, (refl, (refl, (refl, tt))))))))))))))
+bench-values = refl

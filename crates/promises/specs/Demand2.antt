@@ -3,47 +3,156 @@
 -- "A run does exactly what the written rules of DIBOL in the papers say, statement by statement: the data bytes, the place reached, the calls still
 -- open and the number of statements completed. Each run error is given exactly when the rules give it."
 --
--- A call of `dibol::run` on the unit u, the data d, the state s and the allowance m answers and leaves `runOf u d s m`: that is its contract. Of a
--- unit that passes its check, with data of its length and a sound state, that is `runFrom`, and `runFrom` is the rule of one statement, over and over:
--- `turnOf` says what a statement stores and where it goes on, `applied` what the store makes of the data, `movedBy` what the state becomes.
+-- The rule of one statement is `nextOf`, where it leads or the fault that stops it there, and `dataAfter`, what it makes of the data. `Post` is what the
+-- `ensures` of `dibol::run` says of its arguments a, its result r and what it leaves, s.
 --
---   runs                the call is the run
---   ends, spent, errs, goes    one step of it: the end, the allowance spent, a run error, a completed statement
---   errs-only-then, errs-whenever    a run error is given exactly when the statement that the run has come to gives it
+--   does-exactly        a call is permitted exactly when it is refused as demand 1 says, or passes all checks, as many statements as are counted, one
+--                       after the other, lead to its state and its data, and the run goes no further for the reason that its stop gives
+--   given-exactly       each number, 0 to 7, 20 to 26 and 30, is given and its place named exactly when the table says so
+--   call-opens, call-full, return-closes, return-none, stop-keeps-calls, others-keep-calls    what each statement does to the open calls
+--   goto-goes, zero-goes, other-falls, computed-goes, computed-falls    where the jumps lead
+--   full-exactly, none-exactly    24 and 25 are given by a statement exactly when the table says so
+--   ends, spent, errs, goes    the rule of a run, one step of it: the end, the allowance spent, a run error, a completed statement
 --   counts-within       no more statements are completed than are allowed
 --   start-is-sound      the state before the first statement is sound for every unit, so a run from it is never refused 7
 --   state-stays-sound   a call hands back a sound state where it was given one
 --   never-4             a passed check never lets 4 arise in a run
 -- Assumes nothing.
-use Prim.Native.Nat.{ℕ, zero, suc, _≤_, _<_}
-use native.Mathlib.Omega.{arith}
-use mathlib.Core.Path.{_≡_}
+use Prim.Native.Nat.{ℕ, zero, suc, _+_, _≤_, _<_}
+use mathlib.Core.Path.{_≡_, sym, subst}
+use mathlib.Core.Logic.{_↔_}
 use mathlib.Core.List.{List}
-use lib.ListN.{length}
+use lib.IntN.{ℤ, pos, natAbs}
+use lib.ListN.{getD, set}
+use denote.Ref.{now}
+use contract.Lifetimes
 use Rattle.rules.specs.declared.Fault.{Fault}
 use Rattle.rules.specs.declared.Fault.the-variants as fault
-use Rattle.rules_unit.specs.declared.Parts.{Parts}
-use Rattle.rules_unit.specs.declared.Checked.the-variants.{Passed}
+use Rattle.rules.specs.declared.Num.the-variants.{Value}
 use Rattle.rules_unit.specs.Codes.{Code}
-use Rattle.rules_unit.specs.Decode.{codeOf}
-use Rattle.rules_unit.specs.Checks.{checkOf}
+use Rattle.rules_unit.specs.Decode.{partsOf}
+use Rattle.rules_unit.specs.Sound.{SoundUnit}
+use Rattle.rules_unit.proofs.Sound.{sound-passed}
 use Rattle.rules_run.specs.declared.State.{State}
+use Rattle.rules_run.specs.declared.Outcome.{Outcome}
 use Rattle.rules_run.specs.declared.Stop.the-variants as stop
-use Rattle.rules_run.specs.Turns.{applied, turnOf}
-use Rattle.rules_run.specs.States.{Sound, started}
-use Rattle.rules_run.specs.Runs.{to, stuck, movedBy, ended, runFrom, runOf}
+use Rattle.rules_run.specs.Stops.{stopNumber}
+use Rattle.rules_run.specs.States.{Sound, started, gone}
+use Rattle.rules_run.specs.Evaluation.{workedOf, numberOf}
+use Rattle.rules_run.specs.Runs.{to, stuck, nextOf, dataAfter, Ran, ended, runFrom}
+use Rattle.rules_run.specs.Answers.{Does, StopNo, noOf, Given}
 use Rattle.rules_run.proofs.States.{started-sound}
-use Rattle.rules_run.proofs.Calls.{call-runs}
-use Rattle.rules_run.proofs.Runs.{run-counts}
 use Rattle.rules_run.proofs.Steps.{run-ends, run-spent, run-fails, run-goes}
-use Rattle.rules_run.proofs.Stopped.{Stopped, run-stopped, stopped-run}
 use Rattle.rules_run.proofs.SoundRuns.{call-sound}
 use Rattle.rules_run.proofs.Malformed.{call-never-malformed}
+use Rattle.rules_run.proofs.Answers as answers
+use Rattle.rules_run.proofs.OpenCalls as calls
+use Rattle.rules_run.proofs.Jumps as jumps
+use Rattle.dibol.proofs.run.Reads as run
 
-pub runs : (u d : List ℕ) (s : State) (m : ℕ) (p : Parts) → checkOf u ≡ Passed p → length d ≡ p .d → Sound (p .n) s → runOf u d s m ≡ runFrom (codeOf u p) m s d 0
-runs u d s m p e l t = call-runs u d s m p e l t
+-- ---- a call
 
--- ---- statement by statement: after k completed statements, in the state s, over the data d
+-- "A run does exactly what the written rules of DIBOL in the papers say, statement by statement"
+pub does-exactly : (κs : Lifetimes.Lfts 2) (a : _) (r : Outcome) (s : _)
+    → run.Post κs a r s
+    ↔ Does (now (a .0)) (now (a .1 .0)) (a .1 .1 .0) (a .1 .1 .1 .0) (record { outcome = r; bytes = now (s .1 .0) })
+does-exactly κs a r s = answers.does-exactly (now (a .0)) (now (a .1 .0)) (a .1 .1 .0) (a .1 .1 .1 .0) (record { outcome = r; bytes = now (s .1 .0) })
+
+module _ (κs : Lifetimes.Lfts 2) (a : _) (r : Outcome) (s : _) (post : run.Post κs a r s) where
+  -- What the call is given.
+  abbrev unit : List ℕ
+  unit = now (a .0)
+
+  abbrev bytes : List ℕ
+  bytes = now (a .1 .0)
+
+  abbrev state : State
+  state = a .1 .1 .0
+
+  abbrev allowance : ℕ
+  allowance = a .1 .1 .1 .0
+
+  -- "Each run error is given exactly when the rules give it", and so is every other number.
+  pub given-exactly : (x : StopNo) (place : ℕ) → (stopNumber (r .stop) ≡ noOf x) × (r .place ≡ place) ↔ Given unit bytes state allowance x place
+  given-exactly x place =
+      subst (λ (y : Ran). (stopNumber (y .outcome .stop) ≡ noOf x) × (y .outcome .place ≡ place) ↔ Given unit bytes state allowance x place) (sym post)
+      (answers.given-exactly unit bytes state allowance x place)
+
+  -- ---- what a call hands back
+
+  pub counts-within : r .count ≤ allowance
+  counts-within = subst (λ (y : Ran). y .outcome .count ≤ allowance) (sym post) (answers.call-counts unit bytes state allowance)
+
+  pub state-stays-sound : SoundUnit unit (partsOf unit) → Sound (partsOf unit .n) state → Sound (partsOf unit .n) (r .state)
+  state-stays-sound x t =
+      subst (λ (y : Ran). Sound (partsOf unit .n) (y .outcome .state)) (sym post) (call-sound unit (partsOf unit) (sound-passed unit (partsOf unit) x) bytes state allowance t)
+
+  pub never-4 : r .stop ≡ stop.Failed fault.Malformed → ⊥
+  never-4 = subst (λ (y : Ran). y .outcome .stop ≡ stop.Failed fault.Malformed → ⊥) (sym post) (call-never-malformed unit bytes state allowance)
+
+pub start-is-sound : (n : ℕ) → Sound n started
+start-is-sound = started-sound
+
+-- ---- the open calls: the statement where the state s is, over the data d
+
+module _ (c : Code) (s : State) (d : List ℕ) where
+  -- "9 CALL c"; "A CALL at i stores i+1"
+  pub call-opens : c .statement (s .at) .code ≡ 9 → s .depth < 50
+      → nextOf c s d ≡ to (record { at = c .statement (s .at) .c; depth = s .depth + 1; returns = set (s .returns) (s .depth) (s .at + 1) })
+  call-opens = calls.call-opens c s d
+
+  -- "24 | CALL with 50 calls open"
+  pub call-full : c .statement (s .at) .code ≡ 9 → 50 ≤ s .depth → nextOf c s d ≡ stuck fault.CallsFull
+  call-full = calls.call-full c s d
+
+  pub full-exactly : (nextOf c s d ≡ stuck fault.CallsFull) ↔ (c .statement (s .at) .code ≡ 9) × (50 ≤ s .depth)
+  full-exactly = calls.full-exactly c s d
+
+  -- "10 RETURN"; "a RETURN goes on there and its entry becomes zero"
+  pub return-closes : c .statement (s .at) .code ≡ 10 → (k : ℕ) → s .depth ≡ k + 1
+      → nextOf c s d ≡ to (record { at = getD (s .returns) k 0; depth = k; returns = set (s .returns) k 0 })
+  return-closes = calls.return-closes c s d
+
+  -- "25 | RETURN with none open"
+  pub return-none : c .statement (s .at) .code ≡ 10 → s .depth ≡ 0 → nextOf c s d ≡ stuck fault.NoCall
+  return-none = calls.return-none c s d
+
+  pub none-exactly : (nextOf c s d ≡ stuck fault.NoCall) ↔ (c .statement (s .at) .code ≡ 10) × (s .depth ≡ 0)
+  none-exactly = calls.none-exactly c s d
+
+  -- "11 STOP"; "STOP sets the statement number to N and keeps the open calls."
+  pub stop-keeps-calls : c .statement (s .at) .code ≡ 11 → nextOf c s d ≡ to (record { at = c .statements; depth = s .depth; returns = s .returns })
+  stop-keeps-calls = calls.stop-keeps c s d
+
+  pub others-keep-calls : (c .statement (s .at) .code ≡ 9 → ⊥) → (c .statement (s .at) .code ≡ 10 → ⊥) → (t : State) → nextOf c s d ≡ to t
+      → (t .depth ≡ s .depth) × (t .returns ≡ s .returns)
+  others-keep-calls = calls.calls-kept c s d
+
+-- ---- the jumps
+
+module _ (c : Code) (s : State) (d : List ℕ) where
+  -- "7 GOTO c"
+  pub goto-goes : c .statement (s .at) .code ≡ 7 → nextOf c s d ≡ to (gone s (c .statement (s .at) .c))
+  goto-goes = jumps.goto-goes c s d
+
+  -- Where number b comes to v.
+  module _ (v : ℤ) (b : numberOf c d (workedOf c d (c .items (c .statement (s .at) .b))) ≡ Value v) where
+    -- "8 go to c if number b is zero"
+    pub zero-goes : c .statement (s .at) .code ≡ 8 → natAbs v ≡ 0 → nextOf c s d ≡ to (gone s (c .statement (s .at) .c))
+    zero-goes = jumps.zero-goes c s d v b
+
+    pub other-falls : c .statement (s .at) .code ≡ 8 → (natAbs v ≡ 0 → ⊥) → nextOf c s d ≡ to (gone s (s .at + 1))
+    other-falls = jumps.other-falls c s d v b
+
+    -- "a value v from 1 to n goes on at i+v, any other at i+n+1"
+    pub computed-goes : c .statement (s .at) .code ≡ 12 → (k : ℕ) → v ≡ pos k → 1 ≤ k → k ≤ c .statement (s .at) .a → nextOf c s d ≡ to (gone s (s .at + k))
+    computed-goes = jumps.computed-goes c s d v b
+
+    pub computed-falls : c .statement (s .at) .code ≡ 12 → ((k : ℕ) → v ≡ pos k → 1 ≤ k → k ≤ c .statement (s .at) .a → ⊥)
+        → nextOf c s d ≡ to (gone s (s .at + c .statement (s .at) .a + 1))
+    computed-falls = jumps.computed-falls c s d v b
+
+-- ---- one step of a run: after k completed statements, in the state s, over the data d
 
 module _ (c : Code) (s : State) (d : List ℕ) (k : ℕ) where
   pub ends : (m : ℕ) → c .statements ≤ s .at → runFrom c m s d k ≡ ended (c .statements) stop.End s k d
@@ -52,35 +161,8 @@ module _ (c : Code) (s : State) (d : List ℕ) (k : ℕ) where
   pub spent : s .at < c .statements → runFrom c zero s d k ≡ ended (c .statements) stop.Spent s k d
   spent = run-spent c s d k
 
-  pub errs : (m : ℕ) (f : Fault) → s .at < c .statements → movedBy (c .statements) s (turnOf c (s .at) d .flow) ≡ stuck f
-      → runFrom c (suc m) s d k ≡ ended (c .statements) (stop.Failed f) s k d
+  pub errs : (m : ℕ) (f : Fault) → s .at < c .statements → nextOf c s d ≡ stuck f → runFrom c (suc m) s d k ≡ ended (c .statements) (stop.Failed f) s k d
   errs = run-fails c s d k
 
-  pub goes : (m : ℕ) (s′ : State) → s .at < c .statements → movedBy (c .statements) s (turnOf c (s .at) d .flow) ≡ to s′
-      → runFrom c (suc m) s d k ≡ runFrom c m s′ (applied c d (turnOf c (s .at) d .write)) (suc k)
+  pub goes : (m : ℕ) (s′ : State) → s .at < c .statements → nextOf c s d ≡ to s′ → runFrom c (suc m) s d k ≡ runFrom c m s′ (dataAfter c s d) (suc k)
   goes = run-goes c s d k
-
--- ---- each run error exactly when the rules give it
-
-pub errs-only-then : (c : Code) (f : Fault) (m : ℕ) (s : State) (d : List ℕ) (k : ℕ) → runFrom c m s d k .outcome .stop ≡ stop.Failed f
-    → Stopped c m s d k f (runFrom c m s d k)
-errs-only-then = run-stopped
-
-pub errs-whenever : (c : Code) (f : Fault) (m : ℕ) (s : State) (d : List ℕ) (k done : ℕ) (s′ : State) (k′ : ℕ) (d′ : List ℕ) → done < m
-    → runFrom c done s d k ≡ ended (c .statements) stop.Spent s′ k′ d′ → movedBy (c .statements) s′ (turnOf c (s′ .at) d′ .flow) ≡ stuck f
-    → runFrom c m s d k ≡ ended (c .statements) (stop.Failed f) s′ k′ d′
-errs-whenever = stopped-run
-
--- ---- what a call hands back
-
-pub counts-within : (u d : List ℕ) (s : State) (m : ℕ) (p : Parts) → checkOf u ≡ Passed p → length d ≡ p .d → Sound (p .n) s → runOf u d s m .outcome .count ≤ m
-counts-within u d s m p e l t = rw (runs u d s m p e l t) (omega (arith, run-counts (codeOf u p) m s d 0 .most))
-
-pub start-is-sound : (n : ℕ) → Sound n started
-start-is-sound = started-sound
-
-pub state-stays-sound : (u : List ℕ) (p : Parts) → checkOf u ≡ Passed p → (d : List ℕ) (s : State) (m : ℕ) → Sound (p .n) s → Sound (p .n) (runOf u d s m .outcome .state)
-state-stays-sound = call-sound
-
-pub never-4 : (u d : List ℕ) (s : State) (m : ℕ) → runOf u d s m .outcome .stop ≡ stop.Failed fault.Malformed → ⊥
-never-4 = call-never-malformed

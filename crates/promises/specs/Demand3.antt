@@ -6,11 +6,12 @@
 -- moving alpha text to a decimal place."
 --
 -- `fenceOf u` is what the fence check answers for the unit u. A call of `dibol::run` on the unit u, the data d, the state s and the allowance m answers and
--- leaves `runOf u d s m`: that is its contract. `partsOf u` are the lengths that the unit's trailer names, `codeOf u (partsOf u)` is the unit, decoded.
+-- leaves `runOf u d s m`: that is its contract. `partsOf u` are the lengths that the unit's trailer names, `decoded u` is the unit, decoded by them.
 --
 --   yes-exactly, no-exactly, refused-exactly    each answer of the fence check is given exactly when what it says is so
 --   no-breach-exactly, breach-of-no             a statement has no breach exactly when it keeps the rules; that of a no has one
 --   breach-exactly                              a breach is named exactly when that rule is the one that the statement breaks first
+--   destination-exactly                         a byte lies in a destination exactly when the place a of a statement of code 1 to 6 names it
 --   cannot-slip                                 what holds of every run of a unit with a yes, and its five parts in the letter's words
 --   says-exactly, names-exactly, run-cannot-slip   the same of the contracts themselves: of whatever `dibol::fence`, `dibol::breach` and `dibol::run` are
 --                                               permitted to answer and leave
@@ -25,7 +26,7 @@ use contract.Lifetimes
 use Rattle.rules_unit.specs.declared.Refusal.{Refusal}
 use Rattle.rules_unit.specs.declared.Checked.the-variants as checked
 use Rattle.rules_unit.specs.Codes.{Code}
-use Rattle.rules_unit.specs.Decode.{partsOf, codeOf}
+use Rattle.rules_unit.specs.Decode.{partsOf, decoded}
 use Rattle.rules_unit.specs.Checks.{checkOf}
 use Rattle.rules_unit.specs.Sound.{SoundUnit}
 use Rattle.rules_unit.proofs.Sound.{sound-passed}
@@ -42,17 +43,14 @@ use Rattle.rules_fence.specs.Fence.{StatementFenced, Fenced, Breaks}
 use Rattle.rules_fence.specs.Breaches.{fenceOf, breachIn}
 use Rattle.rules_fence.specs.Reasons.{StatementBreaks}
 use Rattle.rules_fence.specs.Answers.{FenceSays}
-use Rattle.rules_fence.specs.Destinations.{Destination, AllValid, BadText}
+use Rattle.rules_fence.specs.Destinations.{Destination, InPlaceA, AllValid, BadText}
 use Rattle.rules_fence.specs.Safety.{Safe}
 use Rattle.rules_fence.proofs.Verdicts.{fence-exactly, breach-in, keeps-exactly, reason-exactly, breach-named}
+use Rattle.rules_fence.proofs.Aims as aims
 use Rattle.rules_fence.proofs.Demand.{call-safe}
 use Rattle.dibol.proofs.breach.Reads as said
 use Rattle.dibol.proofs.fence.Reads as fence
 use Rattle.dibol.proofs.run.Reads as run
-
--- The unit, decoded.
-abbrev pub decoded : List ℕ → Code
-decoded u = codeOf u (partsOf u)
 
 -- ---- the fence check
 
@@ -80,6 +78,10 @@ module _ (u : List ℕ) where
   pub breach-exactly : SoundUnit u (partsOf u) → (i : ℕ) → i < partsOf u .n → (b : Breach) → (b ≡ breach.None → ⊥)
       → (breachIn u i ≡ b) ↔ StatementBreaks (decoded u) (decoded u .statement i) b
   breach-exactly t i h b z = rw (breach-in u (partsOf u) i (sound-passed u (partsOf u) t) h) (reason-exactly (decoded u) (t .code) i h b z)
+
+-- "A destination is the span named by place a of codes 1 to 6."
+pub destination-exactly : (c : Code) (b : ℕ) → Destination c b ↔ InPlaceA c b
+destination-exactly = aims.destination-exactly
 
 -- ---- a unit with a yes
 

@@ -1,8 +1,11 @@
--- What a host in C holds, beyond the contracts themselves: the resume state as numbers, over one call and from one call to the next.
+-- Demands 1 and 2 as a host in C reads them, and what it holds from one call to the next: the resume state as numbers.
 --
--- A call of `dibol_run` on the unit u, the data d, the state's numbers w, the allowance m and the answer a leaves `handedOf u d w m a`: that is its
--- contract, over `runOf`, which is what `dibol::run` answers and leaves.
+-- `Post` is what the `ensures` of `dibol_run` says of its arguments a, its result r and what it leaves, s. It says that a call on the unit u, the data
+-- d, the state's numbers w, the allowance m and the answer a leaves `handedOf u d w m a`, over `runOf`, which is what `dibol::run` answers and leaves.
 --
+--   reads-the-same           a call is refused or run as demand 1 says, and the host reads its stop, place, count, data and state
+--   c-refused-changes-nothing   after 1 to 7 each byte of the data and each number of the state is as given
+--   c-given-exactly          each number is given exactly when the table says so
 --   refused-by-the-check     1 to 5: nothing is changed
 --   refused-for-its-size     6: nothing is changed
 --   refused-for-its-state    7, after 1 to 6: nothing is changed, where the state is unsound
@@ -15,10 +18,13 @@
 --   words-fit                63 bytes have room for the words of every stop
 -- Assumes nothing.
 use Prim.Native.Nat.{ℕ, _+_, _≤_}
-use mathlib.Core.Path.{_≡_}
+use mathlib.Core.Path.{_≡_, sym, subst}
+use mathlib.Core.Logic.{_↔_}
 use mathlib.Core.Bool.{false}
 use mathlib.Core.List.{List}
 use lib.ListN.{length, replicate}
+use denote.Ref.{now}
+use contract.Lifetimes
 use Rattle.rules_unit.specs.declared.Parts.{Parts}
 use Rattle.rules_unit.specs.declared.Refusal.{Refusal}
 use Rattle.rules_unit.specs.declared.Checked.the-variants as checked
@@ -26,14 +32,48 @@ use Rattle.rules_unit.specs.Checks.{refusalNumber, refusalPlace, checkOf}
 use Rattle.rules_run.specs.declared.State.{State}
 use Rattle.rules_run.specs.States.{Sound, started}
 use Rattle.rules_run.specs.declared.Stop.the-variants as stop
-use Rattle.rules_run.specs.Runs.{runOf}
-use Rattle.rules_run.proofs.Runs.{counted}
+use Rattle.rules_run.specs.Runs.{counting, runOf}
+use Rattle.rules_run.specs.Answers.{StopNo, noOf, Given}
 use Rattle.rules_run.proofs.Resumed.{call-resumed}
 use Rattle.words.specs.Words as words
 use Rattle.words.proofs.Short.{words-short}
 use Rattle.states.specs.Numbers.{numbersOf, Held, stateb, stateOf}
-use Rattle.dibol_c.specs.Calls.{refusedb, handedOf, untouched}
+use Rattle.dibol_c.specs.Calls.{Handed, refusedb, handedOf, untouched, HostReads}
 use Rattle.dibol_c.proofs.Resume as resume
+use Rattle.dibol_c.proofs.dibol_run.Reads as c-run
+
+-- ---- the contract of dibol_run
+
+module _ (κs : Lifetimes.Lfts 4) (a : _) (r : ℕ) (s : _) (post : c-run.Post κs a r s) where
+  -- What the call is given, and what it answers and leaves.
+  abbrev unit : List ℕ
+  unit = now (a .0)
+
+  abbrev bytes : List ℕ
+  bytes = now (a .1 .0)
+
+  abbrev numbers : List ℕ
+  numbers = now (a .1 .1 .0)
+
+  abbrev allowance : ℕ
+  allowance = a .1 .1 .1 .0
+
+  abbrev answer : List ℕ
+  answer = now (a .1 .1 .1 .1 .0)
+
+  abbrev left : Handed
+  left = record { stop = r; bytes = now (s .1 .0); state = now (s .1 .1 .0); answer = now (s .1 .1 .1 .1 .0) }
+
+  pub reads-the-same : HostReads unit bytes numbers allowance answer left
+  reads-the-same = subst (HostReads unit bytes numbers allowance answer) (sym post) (resume.host-reads unit bytes numbers allowance answer)
+
+  pub c-refused-changes-nothing : 1 ≤ r → r ≤ 7 → (now (s .1 .0) ≡ bytes) × (now (s .1 .1 .0) ≡ numbers)
+  c-refused-changes-nothing x y = resume.host-kept unit bytes numbers allowance answer left reads-the-same x y
+
+  pub c-given-exactly : (x : StopNo) → (r ≡ noOf x) ↔ (place : ℕ) × Given unit bytes (stateOf numbers) allowance x place
+  c-given-exactly x =
+      subst (λ (h : Handed). (h .stop ≡ noOf x) ↔ (place : ℕ) × Given unit bytes (stateOf numbers) allowance x place) (sym post)
+      (resume.host-given unit bytes numbers allowance answer x)
 
 -- ---- one call
 
@@ -76,5 +116,5 @@ words-fit = words-short
 -- A call that has spent its allowance m, and is gone on with from its state and its data for n more, comes to what one call with m + n comes to: the same
 -- stop, place, state and data, and the counts add up.
 pub goes-on-as-one : (u d : List ℕ) (s : State) (m n : ℕ) → runOf u d s m .outcome .stop ≡ stop.Spent
-    → runOf u d s (m + n) ≡ counted (runOf u d s m .outcome .count) (runOf u (runOf u d s m .bytes) (runOf u d s m .outcome .state) n)
+    → runOf u d s (m + n) ≡ counting (runOf u d s m .outcome .count) (runOf u (runOf u d s m .bytes) (runOf u d s m .outcome .state) n)
 goes-on-as-one = call-resumed

@@ -1,5 +1,8 @@
 pub mod Rows
 pub mod Example
+pub mod Tour
+pub mod Corners
+pub mod Refusals
 pub mod BenchValues
 pub mod Manual
 pub mod Units
@@ -9,3 +12,4 @@ pub mod Demand1
 pub mod Demand2
 pub mod Demand3
 pub mod Slips
+pub mod Fences

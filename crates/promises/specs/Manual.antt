@@ -48,7 +48,7 @@ examples =
 
 pub manual-examples : AllHold examples
 unfolding readOf readFrom placed alphaFrom widthFrom fitted digitsb digitsFrom plainNumber literalNumber calc stepBy within rangeSpan lengthSpan spanIn placeBy place lastOf workedFrom workedOf
-manual-examples = (refl, (refl, (refl, (refl, (refl, (refl, (refl, (refl, (refl, (refl, (refl, tt)))))))))))
+manual-examples = refl
 
 -- ---- 3.3
 
@@ -91,4 +91,4 @@ subscripts =
 
 pub manual-subscripts : AllHold subscripts
 unfolding readOf readFrom digitsb digitsFrom plainNumber literalNumber calc stepBy within elementSpan spanIn placeBy place lastOf workedFrom workedOf
-manual-subscripts = (refl, (refl, (refl, (refl, (refl, (refl, (refl, (refl, (refl, (refl, (refl, tt)))))))))))
+manual-subscripts = refl

@@ -36,6 +36,7 @@ use Rattle.rules_run.specs.Turns.{applied}
 pub data Answer : Type 0 where
   number : ℤ → Answer
   text : List ℕ → Answer
+  refusal : ℕ → ℕ → Answer
   stop : ℕ → Answer
 
 pub record Row : Type 0 where
@@ -46,10 +47,18 @@ infix 70 _is_
 abbrev pub _is_ : Answer → Answer → Row
 a is b = record { rules = a; paper = b }
 
--- Every row of a table holds.
+-- The two columns of a table.
+abbrev pub ofRules : List Row → List Answer
+ofRules [] = []
+ofRules (r ∷ rs) = r .rules ∷ ofRules rs
+
+abbrev pub ofPaper : List Row → List Answer
+ofPaper [] = []
+ofPaper (r ∷ rs) = r .paper ∷ ofPaper rs
+
+-- Every row of a table holds: its columns are the same.
 abbrev pub AllHold : List Row → Type 0
-AllHold [] = Unit {0}
-AllHold (r ∷ rs) = (r .rules ≡ r .paper) × AllHold rs
+AllHold rows = ofRules rows ≡ ofPaper rows
 
 -- ---- how the rows are written
 
