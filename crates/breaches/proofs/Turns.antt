@@ -20,7 +20,7 @@ use Rattle.rules_fence.specs.declared.Seen.{Seen}
 use Rattle.rules_fence.specs.Bounds.{seenAfter}
 use Rattle.rules_fence.specs.Fence.{destb}
 use Rattle.rules_fence.specs.Breaches.{keepsb, itemBreach, breachFrom}
-use Rattle.rules_fence.proofs.Sorts.{Known}
+use Rattle.rules_unit.specs.Expressions.{Known}
 use Rattle.breaches.specs.Asked.{AllKnown, closesb}
 use Rattle.items.proofs.Closing.{closed, unclosed}
 

@@ -7,7 +7,7 @@ use mathlib.Core.List.{List}
 use Rattle.rules_unit.specs.declared.Item.{Item}
 use Rattle.rules_unit.specs.declared.Item.the-variants as item
 use Rattle.rules_unit.specs.Codes.{Code}
-use Rattle.rules_fence.proofs.Sorts.{Known}
+use Rattle.rules_unit.specs.Expressions.{Known}
 
 pub record AllKnown (c : Code) (is : List Item) : Type 0 where
   pub each : Known c is

@@ -7,3 +7,4 @@ pub mod Decimals
 pub mod Answers
 pub mod Shown
 pub mod Charts
+pub mod Causes

@@ -12,7 +12,7 @@ use Rattle.rules_unit.specs.declared.Item.the-variants as item
 use Rattle.rules_unit.specs.declared.Use.{Use}
 use Rattle.rules_unit.specs.declared.Use.the-variants as use-of
 use Rattle.rules_unit.specs.Codes.{Code}
-use Rattle.rules_unit.specs.Expressions.{itemb, useb}
+use Rattle.rules_unit.specs.Expressions.{Known, itemb, useb}
 use Rattle.rules_unit.specs.Table.{usesOf}
 use Rattle.rules_unit.specs.Sound.{SoundCode}
 use Rattle.rules_unit.proofs.Statements.{uses-good}
@@ -28,7 +28,7 @@ use Rattle.rules_fence.specs.Breaches.{keepsb, firstOf, itemBreach, brea
 use Rattle.rules_fence.specs.Reasons.{ExprBreaks, UseBreaks, UsesBreak, StatementBreaks}
 use Rattle.rules_fence.proofs.Bounded.{seen-along}
 use Rattle.rules_fence.proofs.Exact.{ItemFenced, AllFenced, expr-to, expr-of}
-use Rattle.rules_fence.proofs.Sorts.{Known, known-of}
+use Rattle.rules_fence.proofs.Sorts.{known-of}
 use Rattle.rules_fence.proofs.Tests.{item-tells, use-tells}
 use Rattle.rules_fence.proofs.Reasons.{reference-breaks, reference-named}
 

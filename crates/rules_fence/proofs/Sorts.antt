@@ -1,5 +1,4 @@
 -- Expressions that suit their use (document 01, "The coded unit"): none is Wrong, and each of their items keeps its own rule.
---   Known c is    every item keeps its own rule, so that field numbers lie inside the fields
 -- Assumes nothing.
 use Prim.Native.Nat.{ℕ, _+_, _-_}
 use mathlib.Core.Path.{_≡_, refl}
@@ -12,7 +11,7 @@ use Rattle.rules_unit.specs.declared.Sort.the-variants as sort
 use Rattle.rules_unit.specs.declared.Want.{Want}
 use Rattle.rules_unit.specs.declared.Want.the-variants as want
 use Rattle.rules_unit.specs.Codes.{Code}
-use Rattle.rules_unit.specs.Expressions.{takes, itemb, sortOf, goesOn, sortFrom, sortAt, suits}
+use Rattle.rules_unit.specs.Expressions.{takes, itemb, Known, sortOf, goesOn, sortFrom, sortAt, suits}
 use Rattle.rules_run.proofs.Sorted.{rightb}
 
 pub suits-right : (w : Want) (k : Sort) → suits w k ≡ true → rightb k ≡ true
@@ -25,10 +24,6 @@ suits-right w sort.Number q = refl
 suits-right w sort.Text q = refl
 suits-right w sort.Decimal q = refl
 suits-right w sort.Alpha q = refl
-
-abbrev pub Known : Code → List Item → Type 0
-Known c [] = Unit {0}
-Known c (i ∷ is) = (itemb c i ≡ true) × Known c is
 
 sure : (t : Bool) (a : Sort) → rightb (cond t a sort.Wrong) ≡ true → (t ≡ true) × (rightb a ≡ true)
 sure true a h = (refl, h)

@@ -15,7 +15,7 @@ use Rattle.rules_unit.specs.declared.Item.the-variants as item
 use Rattle.rules_unit.specs.declared.Use.{Use}
 use Rattle.rules_unit.specs.declared.Use.the-variants as use-of
 use Rattle.rules_unit.specs.Codes.{Code}
-use Rattle.rules_unit.specs.Expressions.{itemb, useb}
+use Rattle.rules_unit.specs.Expressions.{Known, itemb, useb}
 use Rattle.rules_unit.specs.Table.{usesOf}
 use Rattle.rules_unit.specs.Sound.{SoundCode}
 use Rattle.rules_unit.proofs.Statements.{uses-good}
@@ -30,7 +30,7 @@ use Rattle.rules_fence.specs.Fence.{SpanKept, destb, ExprFenced, UseFenc
 use Rattle.rules_fence.specs.Breaches.{spanBreach, referenceBreach, itemBreach, breachFrom, useBreach, usesBreach, breachOf}
 use Rattle.rules_fence.proofs.Exact.{ItemFenced, AllFenced, expr-to, expr-of}
 use Rattle.rules_fence.proofs.Kept.{Kept, kept-none, kept-never, kept-as, kept-first}
-use Rattle.rules_fence.proofs.Sorts.{Known, known-of}
+use Rattle.rules_fence.proofs.Sorts.{known-of}
 use Rattle.rules_fence.proofs.Spans.{span-tells}
 
 module _ (c : Code) (s : SoundCode c) where

@@ -17,7 +17,8 @@ use Rattle.rules_unit.specs.Codes.{Code}
 use Rattle.rules_unit.specs.Decode.{partsOf, codeOf}
 use Rattle.rules_unit.specs.Checks.{checkOf}
 use Rattle.rules_unit.specs.Sound.{SoundCode, SoundUnit}
-use Rattle.rules_unit.proofs.Sound.{passed-sound, sound-passed, passed-parts}
+use Rattle.rules_unit.specs.Answers.{Says}
+use Rattle.rules_unit.proofs.Sound.{passed-sound, sound-passed, passed-parts, check-says, check-only}
 use Rattle.rules_unit.proofs.Tells.{one-more}
 use Rattle.rules_fence.specs.declared.Breach.{Breach}
 use Rattle.rules_fence.specs.declared.Breach.the-variants as breach
@@ -88,13 +89,14 @@ module _ (u : List ℕ) where
       by (checked.Passed p) e =
           let q = passed-parts u p e in
           subst (λ (p : Parts). FenceSays u (verdictFrom (codeOf u p) (p .n) 0)) (sym q) (passed (subst (SoundUnit u) q (passed-sound u p e)))
-      by (checked.Refused r) e = e
+      by (checked.Refused r) e = subst (Says u) e (check-says u)
 
-  not-both : (r : Refusal) → SoundUnit u (partsOf u) → checkOf u ≡ checked.Refused r → ⊥
-  not-both r t e = let q = sound-passed u (partsOf u) t in let z : _≡_ {A = ℕ} 0 1 = cc in omega arith
+  not-both : (r : Refusal) → SoundUnit u (partsOf u) → Says u (checked.Refused r) → ⊥
+  not-both r t h = let q = sound-passed u (partsOf u) t in let e = check-only u (checked.Refused r) h in let z : _≡_ {A = ℕ} 0 1 = cc in omega arith
 
   one-answer : (v w : Verdict) → FenceSays u v → FenceSays u w → v ≡ w
-  one-answer (verdict.Refused r) (verdict.Refused x) a b = let q : r ≡ x = cc in ap verdict.Refused q
+  one-answer (verdict.Refused r) (verdict.Refused x) a b =
+      let e = check-only u (checked.Refused r) a in let f = check-only u (checked.Refused x) b in let q : r ≡ x = cc in ap verdict.Refused q
   one-answer (verdict.Refused r) verdict.Yes a b = absurd (not-both r (b .0) a)
   one-answer (verdict.Refused r) (verdict.No j) a b = absurd (not-both r (b .0) a)
   one-answer verdict.Yes (verdict.Refused x) a b = absurd (not-both x (a .0) b)

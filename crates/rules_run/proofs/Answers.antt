@@ -3,7 +3,7 @@
 --   call-exactly, does-exactly    a call is refused or run, and is exactly what is said of it
 --   given-exactly           a number is given, and a place named, exactly as the table says
 -- Assumes nothing.
-use Prim.Native.Nat.{ℕ, zero, suc, _+_, _≤_}
+use Prim.Native.Nat.{ℕ, zero, suc, _+_, _<_, _≤_}
 use native.Mathlib.Nat.{add-zero, zero-add, suc-add}
 use native.Mathlib.Omega.{arith}
 use mathlib.Core.Path.{_≡_, refl, sym, ap, _∙_, subst}
@@ -192,6 +192,12 @@ module _ (u d : List ℕ) (s : State) (m : ℕ) where
 
   -- ---- refused or run
 
+  pub ready-number : Ready u d s → RunNumber (stopNumber (runOf u d s m .outcome .stop))
+  ready-number y =
+      let r = runFrom (decoded u) m s d 0 in
+      let x = run-says (decoded u) m s d in
+      rw (ready-call y) (run-number (x .left) (r .outcome .state) (r .bytes) (r .outcome .stop) (x .stops) (run-not-malformed (decoded u) (y .unit .code) m s d 0))
+
   call-or : IsRefused u d s (runOf u d s m) ⊎ IsRun u d s m (runOf u d s m)
   call-or =
       every-answer (λ r. IsRefused u d s r ⊎ IsRun u d s m r)
@@ -226,6 +232,16 @@ module _ (u d : List ℕ) (s : State) (m : ℕ) where
       of : Does u d s m r → r ≡ runOf u d s m
       of (inl x) = refused-is r x
       of (inr (y, x)) = says-run (decoded u) m s d r x ∙ sym (ready-call y)
+
+  -- An allowance of 0, and a state at N.
+  pub call-spent : (r : Ran) → r ≡ runOf u d s m → Ready u d s → m ≡ 0 → s .at < partsOf u .n → (stopNumber (r .outcome .stop) ≡ 30) × Unchanged d s r
+  call-spent r e y z h =
+      let q = e ∙ ready-call y ∙ ap (λ (k : ℕ). runFrom (decoded u) k s d 0) z ∙ run-spent (decoded u) s d 0 h in
+      rw q (refl, record { data-kept = refl; state-kept = refl; count-zero = refl })
+
+  pub call-ended : (r : Ran) → r ≡ runOf u d s m → Ready u d s → partsOf u .n ≤ s .at → (stopNumber (r .outcome .stop) ≡ 0) × Unchanged d s r
+  call-ended r e y h =
+      let q = e ∙ ready-call y ∙ run-ends (decoded u) s d 0 m h in rw q (refl, record { data-kept = refl; state-kept = refl; count-zero = refl })
 
   pub call-counts : runOf u d s m .outcome .count ≤ m
   call-counts = every-answer (λ r. r .outcome .count ≤ m) (λ e h. omega arith) (λ y. let x = run-says (decoded u) m s d in omega (arith, x .allowed))

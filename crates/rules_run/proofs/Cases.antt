@@ -110,9 +110,13 @@ module _ (P : Turn → Type 0) (fails : (e : Fault) → workb e ≡ true → P (
     by-b s k h =
         by-jump (numberOf c d (workedOf c d (c .items (s .b)))) k (number-works c d (workedOf c d (c .items (s .b))) (worked-works c d (c .items (s .b)))) h
 
+    pub act-case : (i : ℕ) (x : Act) (s : Statement) → P (turnBy c i d (verb.At x) s)
+    unfolding turnBy
+    act-case i x s = by-place (workedOf c d (c .items (s .a))) (actAt c d x s) (worked-works c d (c .items (s .a))) (by-act x s)
+
     pub turn-case : (i : ℕ) (v : Verb) (s : Statement) → ((f : Flow) → MayGo i v s f → P (goes f)) → P (turnBy c i d v s)
     unfolding turnBy
-    turn-case i (verb.At x) s j = by-place (workedOf c d (c .items (s .a))) (actAt c d x s) (worked-works c d (c .items (s .a))) (by-act x s)
+    turn-case i (verb.At x) s j = act-case i x s
     turn-case i verb.Goto s j = j (flow.Goto (s .c)) (inl (refl, refl))
     turn-case i verb.IfZero s j =
         by-b s (ifZero (s .c))

@@ -1,22 +1,33 @@
--- The jumps, by their codes (document 01, "The coded unit"): GOTO, the test for zero and the computed GOTO.
+-- Where statements lead, by their codes (document 01, "The coded unit"): GOTO, the test for zero and the computed GOTO; codes 1 to 6 go on at the next
+-- statement, and the others leave the data.
 -- Assumes nothing.
 use Prim.Native.Nat.{ℕ, zero, suc, _+_, _≤_}
 use native.Mathlib.Omega.{arith}
-use mathlib.Core.Path.{_≡_, refl}
+use mathlib.Core.Path.{_≡_, refl, sym, ap, _∙_, subst}
+use mathlib.Core.Logic.{_⊎_, inl, inr}
 use mathlib.Core.Bool.{Bool, true, false, cond}
 use mathlib.Core.List.{List}
 use lib.Dec.{leb}
 use lib.IntN.{ℤ, pos, negsuc, natAbs}
 use borrow.Author.Tests.{leb-true, le-leb, eq-eqb, ne-eqb}
-use Rattle.rules.specs.declared.Num.the-variants.{Value}
+use Rattle.rules.specs.declared.Num.{Num}
+use Rattle.rules.specs.declared.Num.the-variants.{Value, Failed}
+use Rattle.rules_unit.specs.declared.Act.{Act}
+use Rattle.rules_unit.specs.declared.Act.the-variants as act
+use Rattle.rules_unit.specs.declared.Verb.{Verb}
+use Rattle.rules_unit.specs.declared.Verb.the-variants as verb
 use Rattle.rules_unit.specs.Codes.{Code}
 use Rattle.rules_unit.specs.Table.{verbOf}
+use Rattle.rules_unit.proofs.Table.{codeBack, verb-code}
+use Rattle.rules_run.specs.declared.Flow.{Flow}
 use Rattle.rules_run.specs.declared.Flow.the-variants as flow
+use Rattle.rules_run.specs.declared.Write.the-variants as write
 use Rattle.rules_run.specs.declared.State.{State}
 use Rattle.rules_run.specs.States.{gone}
 use Rattle.rules_run.specs.Evaluation.{workedOf, numberOf}
-use Rattle.rules_run.specs.Turns.{choose, turnBy, turnOf}
-use Rattle.rules_run.specs.Runs.{to, movedBy, nextOf}
+use Rattle.rules_run.specs.Turns.{applied, onNumber, ifZero, choose, turnBy, turnOf}
+use Rattle.rules_run.specs.Runs.{to, movedBy, nextOf, dataAfter}
+use Rattle.rules_run.proofs.Cases.{act-case}
 
 choose-in : (i n k : ℕ) → 1 ≤ k → k ≤ n → choose i n (pos k) ≡ flow.Goto (i + k)
 choose-in i n zero l m = absurd (omega arith)
@@ -53,3 +64,94 @@ module _ (c : Code) (s : State) (d : List ℕ) where
         → nextOf c s d ≡ to (gone s (s .at + c .statement (s .at) .a + 1))
     unfolding turnOf turnBy verbOf movedBy
     computed-falls e h = rw (e, q, choose-out (s .at) (c .statement (s .at) .a) v h)
+
+-- ---- stores go on at the next statement, and jumps leave the data
+
+abbrev Onward : Flow → Type 0
+Onward flow.Next = Unit {0}
+Onward (flow.Goto i) = ⊥
+Onward (flow.Call i) = ⊥
+Onward flow.Return = ⊥
+Onward flow.Stop = ⊥
+Onward (flow.Bad e) = Unit {0}
+
+onward-to : (n : ℕ) (s t : State) (f : Flow) → Onward f → movedBy n s f ≡ to t → t ≡ gone s (s .at + 1)
+unfolding movedBy
+onward-to n s t flow.Next h e = cc
+onward-to n s t (flow.Goto i) h e = absurd h
+onward-to n s t (flow.Call i) h e = absurd h
+onward-to n s t flow.Return h e = absurd h
+onward-to n s t flow.Stop h e = absurd h
+onward-to n s t (flow.Bad x) h e = let z : _≡_ {A = ℕ} 0 1 = cc in absurd (omega arith)
+
+-- The verb of a code from 1 to 6.
+store-verb : (code : ℕ) → 1 ≤ code → code ≤ 6 → (x : Act) × (verbOf code ≡ verb.At x)
+unfolding verbOf
+store-verb zero l m = absurd (omega arith)
+store-verb (suc zero) l m = (act.Set, refl)
+store-verb (suc (suc zero)) l m = (act.Clear, refl)
+store-verb (suc (suc (suc zero))) l m = (act.Count true, refl)
+store-verb (suc (suc (suc (suc zero)))) l m = (act.Count false, refl)
+store-verb (suc (suc (suc (suc (suc zero))))) l m = (act.Case true, refl)
+store-verb (suc (suc (suc (suc (suc (suc zero)))))) l m = (act.Case false, refl)
+store-verb (suc (suc (suc (suc (suc (suc (suc code))))))) l m = absurd (omega arith)
+
+back-store : (x : Act) → codeBack (verb.At x) ≤ 6
+back-store act.Set = omega arith
+back-store act.Clear = omega arith
+back-store (act.Count true) = omega arith
+back-store (act.Count false) = omega arith
+back-store (act.Case true) = omega arith
+back-store (act.Case false) = omega arith
+
+abbrev Stores : Verb → Type 0
+Stores (verb.At x) = Unit {0}
+Stores verb.Goto = ⊥
+Stores verb.IfZero = ⊥
+Stores verb.Call = ⊥
+Stores verb.Return = ⊥
+Stores verb.Stop = ⊥
+Stores verb.Computed = ⊥
+Stores verb.Bad = ⊥
+
+number-nothing : (r : Num) (k : ℤ → Flow) → onNumber r k .write ≡ write.Nothing
+number-nothing (Value v) k = refl
+number-nothing (Failed e) k = refl
+
+module _ (c : Code) (s : State) (d : List ℕ) where
+  pub stores-next : 1 ≤ c .statement (s .at) .code → c .statement (s .at) .code ≤ 6 → (t : State) → nextOf c s d ≡ to t → t ≡ gone s (s .at + 1)
+  unfolding turnOf
+  stores-next l m t e =
+      let x = store-verb (c .statement (s .at) .code) l m in
+      onward-to (c .statements) s t (turnOf c (s .at) d .flow)
+      (subst (λ (v : Verb). Onward (turnBy c (s .at) d v (c .statement (s .at)) .flow)) (sym (x .1))
+      (act-case (λ u. Onward (u .flow)) (λ f w. tt) (λ w. tt) c d (s .at) (x .0) (c .statement (s .at)))) e
+
+  nothing-by : (v : Verb) → (Stores v → ⊥) → turnBy c (s .at) d v (c .statement (s .at)) .write ≡ write.Nothing
+  unfolding turnBy
+  nothing-by (verb.At x) n = absurd (n tt)
+  nothing-by verb.Goto n = refl
+  nothing-by verb.IfZero n = number-nothing (numberOf c d (workedOf c d (c .items (c .statement (s .at) .b)))) (ifZero (c .statement (s .at) .c))
+  nothing-by verb.Call n = refl
+  nothing-by verb.Return n = refl
+  nothing-by verb.Stop n = refl
+  nothing-by verb.Computed n = number-nothing (numberOf c d (workedOf c d (c .items (c .statement (s .at) .b)))) (choose (s .at) (c .statement (s .at) .a))
+  nothing-by verb.Bad n = refl
+
+  pub jumps-keep-data : 7 ≤ c .statement (s .at) .code → dataAfter c s d ≡ d
+  unfolding turnOf applied
+  jumps-keep-data l = rw (nothing-by (verbOf (c .statement (s .at) .code)) (λ z. no-store (verbOf (c .statement (s .at) .code)) refl z))
+    where
+      no-store : (v : Verb) → verbOf (c .statement (s .at) .code) ≡ v → Stores v → ⊥
+      no-store (verb.At x) e z = by (verb-code (c .statement (s .at) .code))
+        where
+          by : (verbOf (c .statement (s .at) .code) ≡ verb.Bad) ⊎ (codeBack (verbOf (c .statement (s .at) .code)) ≡ c .statement (s .at) .code) → ⊥
+          by (inl q) = subst Stores (sym e ∙ q) tt
+          by (inr q) = omega (arith, l, sym q ∙ ap codeBack e, back-store x)
+      no-store verb.Goto e z = z
+      no-store verb.IfZero e z = z
+      no-store verb.Call e z = z
+      no-store verb.Return e z = z
+      no-store verb.Stop e z = z
+      no-store verb.Computed e z = z
+      no-store verb.Bad e z = z

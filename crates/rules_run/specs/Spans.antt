@@ -1,9 +1,11 @@
 -- The bytes that a reference names (document 01, "Values and references").
 --   within lo hi a n            n bytes from a, where they lie inside the window from lo up to hi
 --   spanIn lo hi field how x y  the span of a reference with its bounds x and y, inside that window
+--   Located field how x y a n   n bytes from a on are that span, said by natural numbers
 -- The run's window is the data, from 0 up to D. Bounds are any numbers: nothing wraps.
 -- Assumes nothing.
-use Prim.Native.Nat.{ℕ, zero, suc, _+_}
+use mathlib.Core.Path.{_≡_}
+use Prim.Native.Nat.{ℕ, zero, suc, _+_, _*_, _≤_}
 use mathlib.Core.Bool.{cond}
 use lib.Dec.{leb}
 use lib.IntN.{ℤ, pos, negsuc, natAbs, _+ℤ_, _-ℤ_, _*ℤ_}
@@ -44,3 +46,19 @@ spanIn lo hi f how.First x y = within lo hi (pos (f .offset)) (f .size)
 spanIn lo hi f how.Element x y = elementSpan lo hi (f .offset) (f .size) x
 spanIn lo hi f how.Range x y = rangeSpan lo hi (f .offset) x y
 spanIn lo hi f how.Length x y = lengthSpan lo hi (f .offset) x y
+
+-- The same sentences by natural numbers: the n bytes from a on are those of a reference with the bounds x and y, wherever they lie.
+abbrev pub Located : Field → How → ℤ → ℤ → ℕ → ℕ → Type 0
+-- "no bounds gives the first element"
+Located f how.First x y a n = (a ≡ f .offset) × (n ≡ f .size)
+-- "subscript s gives element s (0 or less lies before the field)"
+Located f how.Element (pos s) y a n = (a + f .size ≡ f .offset + s * f .size) × (n ≡ f .size)
+Located f how.Element (negsuc j) y a n = (a + (j + 2) * f .size ≡ f .offset) × (n ≡ f .size)
+-- "(start,end) needs 1 <= start <= end"
+Located f how.Range (pos s) (pos e) a n = (1 ≤ s) × (s ≤ e) × (a + 1 ≡ f .offset + s) × (a + n ≡ f .offset + e)
+Located f how.Range (pos s) (negsuc e) a n = ⊥
+Located f how.Range (negsuc s) y a n = ⊥
+-- "(pos:length) needs pos >= 1 and length not 0, a negative length ending at pos"
+Located f how.Length (pos p) (pos k) a n = (1 ≤ p) × (1 ≤ k) × (a + 1 ≡ f .offset + p) × (n ≡ k)
+Located f how.Length (pos p) (negsuc k) a n = (1 ≤ p) × (a + n ≡ f .offset + p) × (n ≡ suc k)
+Located f how.Length (negsuc p) y a n = ⊥

@@ -1,10 +1,11 @@
 -- The form and the sort of an expression, and its uses (document 01, "The coded unit").
 --   digitsb s          all characters are 0 to 9
 --   takes i            how many values an item takes
---   itemb c i          an item's own rule
+--   itemb c i          an item's own rule; Known c is, that every item keeps it
 --   sortAt c e         the sort of the expression at an offset, Wrong where it is badly formed
 --   suits w k          whether an expression of the sort k is of the sort wanted
 -- Assumes nothing.
+use mathlib.Core.Path.{_≡_}
 use Prim.Native.Nat.{ℕ, _+_, _-_}
 use mathlib.Core.Bool.{Bool, true, false, cond}
 use mathlib.Core.List.{List, [], _∷_}
@@ -85,6 +86,11 @@ itemb c (item.Text place len) = textb c place len
 itemb c (item.Operator o) = true
 itemb c item.End = false
 itemb c item.Bad = false
+
+-- Every item keeps its own rule.
+abbrev pub Known : Code → List Item → Type 0
+Known c [] = Unit {0}
+Known c (i ∷ is) = (itemb c i ≡ true) × Known c is
 
 -- ---- sorts
 

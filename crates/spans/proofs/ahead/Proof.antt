@@ -3,7 +3,8 @@
 use Prim.Native.Nat.{_+_, _*_}
 use borrow.Author.Needs.{needs}
 use native.Mathlib.Omega.{arith}
-use Rattle.spans.proofs.Finding.{grows, product, high}
+use Rattle.rules_run.proofs.Located.{high}
+use Rattle.spans.proofs.Finding.{grows, product}
 use Rattle.spans.proofs.ahead.Statement.{statement}
 use Rattle.spans.proofs.ahead.Tie as tie
 

@@ -4,7 +4,8 @@ use Prim.Native.Nat.{_*_}
 use mathlib.Core.Path.{_∙_}
 use borrow.Author.Needs.{needs}
 use native.Mathlib.Omega.{arith}
-use Rattle.spans.proofs.Finding.{grows, product, before, after}
+use Rattle.rules_run.proofs.Located.{before, after}
+use Rattle.spans.proofs.Finding.{grows, product}
 use Rattle.spans.proofs.behind.Statement.{statement}
 use Rattle.spans.proofs.behind.Tie as tie
 

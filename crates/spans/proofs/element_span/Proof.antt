@@ -5,7 +5,8 @@ use lib.IntN.{pos, negℤ}
 use borrow.Author.Needs.{needs}
 use native.Mathlib.Omega.{arith}
 use Rattle.rules.proofs.Signed.{again}
-use Rattle.spans.proofs.Finding.{told, told-below, element-none, element-up, element-down}
+use Rattle.rules_run.proofs.Located.{element-none, element-up, element-down}
+use Rattle.spans.proofs.Finding.{told, told-below}
 use Rattle.spans.proofs.element_span.Statement.{statement}
 use Rattle.spans.proofs.element_span.Tie as tie
 

@@ -1,7 +1,7 @@
 -- `spans::inside` meets its contract: at each `return` the tests say on which side of the window the bytes lie, or that they lie in it.
 -- Assumes nothing.
 use native.Mathlib.Omega.{arith}
-use Rattle.spans.proofs.Finding.{low, high, found}
+use Rattle.rules_run.proofs.Located.{low, high, found}
 use Rattle.spans.proofs.inside.Statement.{statement}
 use Rattle.spans.proofs.inside.Tie as tie
 

@@ -7,7 +7,8 @@ use lib.Signed.{leZ}
 use borrow.Author.Needs.{needs}
 use native.Mathlib.Omega.{arith}
 use Rattle.rules.proofs.Signed.{again}
-use Rattle.spans.proofs.Finding.{told, told-none, told-zero, told-below, before, after, length-low, length-none, length-up, length-down}
+use Rattle.rules_run.proofs.Located.{before, after, length-low, length-none, length-up, length-down}
+use Rattle.spans.proofs.Finding.{told, told-none, told-zero, told-below}
 use Rattle.spans.proofs.length_span.Statement.{statement}
 use Rattle.spans.proofs.length_span.Tie as tie
 

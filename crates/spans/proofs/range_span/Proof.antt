@@ -6,7 +6,8 @@ use lib.Signed.{leZ}
 use borrow.Author.Needs.{needs}
 use native.Mathlib.Omega.{arith}
 use Rattle.rules.proofs.Signed.{again}
-use Rattle.spans.proofs.Finding.{told, told-none, told-below, range-low, range-turned, range-end, range-is}
+use Rattle.rules_run.proofs.Located.{range-low, range-turned, range-end, range-is}
+use Rattle.spans.proofs.Finding.{told, told-none, told-below}
 use Rattle.spans.proofs.range_span.Statement.{statement}
 use Rattle.spans.proofs.range_span.Tie as tie
 
