@@ -14,7 +14,7 @@ use Rattle.rules_unit.specs.declared.Refusal.{Refusal}
 use Rattle.rules_unit.specs.declared.Refusal.the-variants as refusal
 use Rattle.rules_unit.specs.declared.Checked.the-variants as checked
 use Rattle.rules_unit.specs.Codes.{Code}
-use Rattle.rules_unit.specs.Decode.{codeOf}
+use Rattle.rules_unit.specs.Decode.{codeOf, decoded}
 use Rattle.rules_unit.specs.Checks.{refusalNumber, refusalPlace, checkOf}
 use Rattle.rules_unit.proofs.Sound.{passed-sound}
 use Rattle.rules_run.specs.declared.Flow.{Flow}
@@ -25,11 +25,11 @@ use Rattle.rules_run.specs.declared.Stop.the-variants as stop
 use Rattle.rules_run.specs.Turns.{turnOf}
 use Rattle.rules_run.specs.States.{Sound, started}
 use Rattle.rules_run.specs.Stops.{stopNumber}
-use Rattle.rules_run.specs.Answers.{RunNumber, StopNo, noOf, Given}
-use Rattle.rules_run.specs.Runs.{Moved, to, stuck, movedBy, runFrom, runOf}
+use Rattle.rules_run.specs.Answers.{RunNumber, Erred, StopNo, noOf, Given}
+use Rattle.rules_run.specs.Runs.{Moved, to, stuck, movedBy, Ran, runFrom, runOf}
 use Rattle.rules_run.proofs.Calls.{beforeb, call-refused, call-wrong-size, call-unsound, every-call}
 use Rattle.rules_run.proofs.Steps.{every-run}
-use Rattle.rules_run.proofs.Answers.{call-exactly, refused-by-number, given-exactly}
+use Rattle.rules_run.proofs.Answers.{call-exactly, does-exactly, refused-by-number, erred-by-number, given-exactly}
 use Rattle.rules_run.proofs.SoundRuns.{run-sound}
 use Rattle.words.proofs.Laid.{laid-same}
 use Rattle.states.specs.Numbers.{numbersOf, Held, smallb, stateb, nowhere, stateOf}
@@ -189,7 +189,7 @@ host-reads u d w m a =
     let ran = runOf u d (stateOf w) m in
     record {
       ran = ran;
-      either = call-exactly u d (stateOf w) m ran .0 refl;
+      does = does-exactly u d (stateOf w) m ran .0 refl;
       stop = refl;
       bytes = refl;
       kept = λ x y. rw (range-refuses (stopNumber (ran .outcome .stop)) x y);
@@ -197,17 +197,28 @@ host-reads u d w m a =
       answer = refl;
     }
 
-pub host-kept : (u d w : List ℕ) (m : ℕ) (a : List ℕ) (h : Handed) → HostReads u d w m a h → 1 ≤ h .stop → h .stop ≤ 7 → (h .bytes ≡ d) × (h .state ≡ w)
-host-kept u d w m a h r x y =
-    let n : h .stop ≡ stopNumber (r .ran .outcome .stop) = r .stop in
-    (r .bytes ∙ refused-by-number u d (stateOf w) m (r .ran) (r .either) (omega (arith, x, n)) (omega (arith, y, n)) .data-kept, r .kept x y)
+module _ (u d w : List ℕ) (m : ℕ) (a : List ℕ) (h : Handed) (r : HostReads u d w m a h) where
+  host-ran : r .ran ≡ runOf u d (stateOf w) m
+  host-ran = does-exactly u d (stateOf w) m (r .ran) .1 (r .does)
 
-pub host-given : (u d w : List ℕ) (m : ℕ) (a : List ℕ) (x : StopNo) → (handedOf u d w m a .stop ≡ noOf x) ↔ (place : ℕ) × Given u d (stateOf w) m x place
-unfolding handedOf
-host-given u d w m a x = (
-  λ e. (runOf u d (stateOf w) m .outcome .place, given-exactly u d (stateOf w) m x (runOf u d (stateOf w) m .outcome .place) .0 (e, refl)),
-  λ g. given-exactly u d (stateOf w) m x (g .0) .1 (g .1) .0,
-)
+  pub host-kept : 1 ≤ h .stop → h .stop ≤ 7 → (h .bytes ≡ d) × (h .state ≡ w)
+  host-kept x y =
+      let n : h .stop ≡ stopNumber (r .ran .outcome .stop) = r .stop in
+      let e = call-exactly u d (stateOf w) m (r .ran) .0 host-ran in
+      (r .bytes ∙ refused-by-number u d (stateOf w) m (r .ran) e (omega (arith, x, n)) (omega (arith, y, n)) .data-kept, r .kept x y)
+
+  pub host-erred : 20 ≤ h .stop → h .stop ≤ 26 → Erred (decoded u) m (stateOf w) d (h .stop) (r .ran)
+  host-erred x y =
+      let n : h .stop ≡ stopNumber (r .ran .outcome .stop) = r .stop in
+      let e = call-exactly u d (stateOf w) m (r .ran) .0 host-ran in
+      subst (λ (k : ℕ). Erred (decoded u) m (stateOf w) d k (r .ran)) (sym n) (erred-by-number u d (stateOf w) m (r .ran) e (omega (arith, x, n)) (omega (arith, y, n)))
+
+  pub host-given : (x : StopNo) (place : ℕ) → (h .stop ≡ noOf x) × (r .ran .outcome .place ≡ place) ↔ Given u d (stateOf w) m x place
+  host-given x place =
+      let g = given-exactly u d (stateOf w) m x place in
+      let n : h .stop ≡ stopNumber (runOf u d (stateOf w) m .outcome .stop) = r .stop ∙ ap (λ (y : Ran). stopNumber (y .outcome .stop)) host-ran in
+      let p : r .ran .outcome .place ≡ runOf u d (stateOf w) m .outcome .place = ap (λ (y : Ran). y .outcome .place) host-ran in
+      (λ e. g .0 (sym n ∙ e .0, sym p ∙ e .1), λ e. (n ∙ g .1 e .0, p ∙ g .1 e .1))
 
 pub zeros-start : stateOf (replicate 52 0) ≡ started
 unfolding stateOf stateb smallb

@@ -6,7 +6,6 @@
 -- Assumes nothing.
 use Prim.Native.Nat.{ℕ, _≤_}
 use mathlib.Core.Path.{_≡_}
-use mathlib.Core.Logic.{_⊎_}
 use mathlib.Core.Bool.{Bool, false, cond}
 use mathlib.Core.List.{List, [], _∷_}
 use lib.Dec.{ltb, leb}
@@ -16,7 +15,7 @@ use Rattle.rules_unit.specs.declared.Stretch.{Stretch}
 use Rattle.rules_unit.specs.Checks.{refusalNumber, refusalPlace}
 use Rattle.rules_run.specs.Runs.{Ran, runOf}
 use Rattle.rules_run.specs.Stops.{stopNumber}
-use Rattle.rules_run.specs.Answers.{IsRefused, RunNumber, IsRun}
+use Rattle.rules_run.specs.Answers.{RunNumber, Does}
 use Rattle.rules_fence.specs.declared.Verdict.{Verdict}
 use Rattle.rules_fence.specs.declared.Verdict.the-variants as verdict
 use Rattle.rules_fence.specs.Breaches.{breachNumber, breachIn}
@@ -79,7 +78,7 @@ untouched n place d w a = record { stop = n; bytes = d; state = w; answer = laid
 -- What a host reads of a call: the run or the refusal ran, by the rules of the run.
 pub record HostReads (u d w : List ℕ) (m : ℕ) (a : List ℕ) (h : Handed) : Type 0 where
   pub ran : Ran
-  pub either : IsRefused u d (stateOf w) ran ⊎ IsRun u d (stateOf w) m ran
+  pub does : Does u d (stateOf w) m ran
   pub stop : h .stop ≡ stopNumber (ran .outcome .stop)
   pub bytes : h .bytes ≡ ran .bytes
   -- After 1 to 7 the state's numbers are as they were, and after any other stop they are those of the next state.

@@ -10,32 +10,28 @@
 --   lengths       the ranges of a unit's parts, and that the longest unit has 57,353 bytes
 -- Assumes nothing.
 use mathlib.Core.Path.{_≡_, refl}
-use mathlib.Core.Bool.{Bool, true, false}
+use mathlib.Core.Bool.{true, false}
 use mathlib.Core.List.{List, [], _∷_, _++_}
-use Prim.Native.Nat.{ℕ, zero, _*_}
 use lib.IntN.{pos}
 use lib.ListN.{replicate}
 use Rattle.rules.specs.declared.Num.the-variants.{Value}
 use Rattle.rules.specs.Values.{readFrom, readOf}
-use Rattle.rules.specs.Arithmetic.{addOf, subOf, mulOf, divOf, roundOf, eqOf, ltOf, gtOf, andOf}
+use Rattle.rules.specs.Arithmetic.{addOf, subOf, mulOf, divOf, roundOf, eqOf, neOf, ltOf, gtOf, geOf, leOf, andOf}
 use Rattle.rules.specs.Moves.{placed, widthFrom, shown, alphaFrom, alphaOf, upcased, locased}
-use Rattle.rules_unit.specs.declared.Kind.the-variants as kind
 use Rattle.rules_unit.specs.declared.How.the-variants as how
 use Rattle.rules_unit.specs.declared.Op.the-variants as op
-use Rattle.rules_unit.specs.declared.Item.{Item}
 use Rattle.rules_unit.specs.declared.Item.the-variants as item
-use Rattle.rules_unit.specs.declared.Parts.{Parts}
 use Rattle.rules_unit.specs.Decode.{fullLength, partsOf, kindOf, fieldAt, referenceAt, numberAt, textAt, itemBy, itemAt, itemsIn, itemsAt, statementAt}
 use Rattle.rules_unit.specs.Table.{verbOf}
 use Rattle.rules_unit.specs.Expressions.{digitsb, numberb, textb, sortFrom, sortAt, usesb}
 use Rattle.rules_unit.specs.Checks.{filledb, rangesb, entryb, goodFields, rowb, shapeb, foundOf, statementsFrom, partsCheck, checkOf}
 use Rattle.rules_unit.specs.Literals.{stretchOf, literalOf}
 use Rattle.rules_run.specs.Spans.{within, elementSpan, rangeSpan, lengthSpan, spanIn}
-use Rattle.rules_run.specs.Evaluation.{digitsFrom, plainNumber, literalNumber, stepBy, placeBy, place, lastOf, workedFrom, workedOf, calc}
+use Rattle.rules_run.specs.Evaluation.{digitsFrom, plainNumber, literalNumber, reference, stepBy, placeBy, place, lastOf, workedFrom, workedOf, calc}
 use Rattle.rules_run.specs.States.{entriesb, soundb}
 use Rattle.rules_run.specs.Turns as turns
-use Rattle.promises.specs.Rows.{Answer, number, text, stop, Row, _is_, AllHold, limit, top, base, bytes, minus, answer, into, unitOver, accessed, AM, NZ, NUM, expression, element, range, forth}
-use Rattle.promises.specs.Fences.{named, cleared, read}
+use Rattle.promises.specs.Rows.{number, text, stop, Row, _is_, AllHold, limit, top, base, bytes, minus, answer, into, AM, NZ, NUM, expression, element, range, forth, back}
+use Rattle.promises.specs.Samples.{named, cleared, read, of-one, of-two, wide, sound, parts}
 
 -- ---- values, moves and arithmetic
 
@@ -52,6 +48,7 @@ corners =
     -- "A decimal span of more than 18 characters then gives 20"
     ∷ answer (readOf limit base (bytes "000000000000000001")) is number (pos 1)
     ∷ answer (readOf limit base (bytes "000000000000000000q")) is stop 20
+    ∷ answer (readOf limit base (bytes "x000000000000000000")) is stop 20
     -- "zeros in front"; "The sign stays if the digits kept are not all 0."
     ∷ into 3 (Value (pos 7)) is text (bytes "007")
     ∷ into 2 (Value (minus 110)) is text (bytes "1p")
@@ -99,6 +96,9 @@ corners =
     ∷ number (eqOf (minus 7) (pos 7)) is number (pos 0)
     ∷ number (ltOf (minus 7) (pos 2)) is number (pos 1)
     ∷ number (gtOf (minus 2) (minus 7)) is number (pos 1)
+    ∷ number (neOf (minus 7) (pos 7)) is number (pos 1)
+    ∷ number (geOf (pos 2) (minus 7)) is number (pos 1)
+    ∷ number (leOf (pos 2) (minus 7)) is number (pos 0)
     ∷ number (andOf (minus 1) (pos 2)) is number (pos 1)
     ∷ []
 
@@ -107,16 +107,6 @@ unfolding readOf readFrom placed widthFrom alphaFrom
 corners-hold = refl
 
 -- ---- operators
-
--- A unit of no fields; the operator o on one and on two of the numbers 0 to 30.
-abbrev bare : List Item → Answer
-bare list = accessed (unitOver 1 0 (λ f. record { kind = kind.Alpha; zero = 0; offset = 0; size = 1; count = 1 }) (λ e. [])) [] list
-
-abbrev of-one : ℕ → ℕ → Answer
-of-one o x = bare (itemsAt (1 ∷ 0 ∷ 2 * x ∷ 2 ∷ o ∷ 0 ∷ []) 0)
-
-abbrev of-two : ℕ → ℕ → ℕ → Answer
-of-two o x y = bare (itemsAt (1 ∷ 0 ∷ 2 * x ∷ 2 ∷ 1 ∷ 0 ∷ 2 * y ∷ 2 ∷ o ∷ 0 ∷ []) 0)
 
 -- "10 add, 11 subtract, 12 multiply, 13 divide, 14 round (#), 15 negate, 16 EQ, 17 NE, 18 GT, 19 LT, 1A GE, 1B LE, 1C NOT, 1D AND, 1E OR, 1F XOR";
 -- "Of two operands the one held first is the left."; "nonzero is true"
@@ -167,17 +157,16 @@ operators-hold = refl
 
 -- ---- references
 
--- A decimal of 10 characters before 30 other bytes.
-abbrev wide : List Item → Answer
-wide list = accessed (unitOver 40 1 (λ f. record { kind = kind.Decimal; zero = 0; offset = 0; size = 10; count = 1 }) (λ e. [])) (replicate 40 49) list
-
 abbrev pub references : List Row
 references =
     -- "(start,end) needs 1 <= start <= end"
     expression (range AM 0 2) is stop 21
     ∷ expression (range AM 3 2) is stop 21
     ∷ expression (range AM 3 3) is text (bytes "c")
+    ∷ expression (range NZ 0 2) is stop 21
     -- "(pos:length) needs pos >= 1 and length not 0"
+    ∷ expression (forth NZ 0 2) is stop 21
+    ∷ expression (back NZ 0 5) is stop 21
     ∷ expression (forth AM 0 2) is stop 21
     ∷ expression (forth AM 2 0) is stop 21
     ∷ expression (forth AM 2 3) is text (bytes "bcd")
@@ -191,10 +180,14 @@ references =
     -- "A decimal span of more than 18 characters then gives 20"
     ∷ wide (range 0 1 18) is number (pos 111111111111111111)
     ∷ wide (range 0 1 19) is stop 20
+    -- a reference that is not last is read
+    ∷ expression (range NUM 4 8 ++ (item.Operator op.Negate ∷ [])) is number (minus 45678)
+    ∷ expression (range NUM 10 11 ++ (item.Operator op.Negate ∷ [])) is stop 21
+    ∷ wide (range 0 1 19 ++ (item.Operator op.Negate ∷ [])) is stop 20
     ∷ []
 
 pub references-hold : AllHold references
-unfolding readOf readFrom digitsb digitsFrom plainNumber literalNumber calc stepBy within elementSpan rangeSpan lengthSpan spanIn placeBy place lastOf workedFrom workedOf
+unfolding reference readOf readFrom digitsb digitsFrom plainNumber literalNumber calc stepBy within elementSpan rangeSpan lengthSpan spanIn placeBy place lastOf workedFrom workedOf
 references-hold = refl
 
 -- ---- items
@@ -253,10 +246,6 @@ literals = record { lone = refl; no-literal = refl; no-set = refl; past-the-last
 
 -- ---- states
 
--- Of a unit of 9 statements: a state at the statement given, with the calls given, all to the number given, and zeros behind them.
-abbrev sound : ℕ → ℕ → ℕ → ℕ → Bool
-sound at depth to zeros = soundb 9 (record { at = at; depth = depth; returns = replicate depth to ++ replicate zeros 0 })
-
 -- "a statement number (0 to N), the number of open calls (0 to 50) and 50 return numbers (0 to N), unused ones zero"
 pub record States : Type 0 where
   pub at-the-end : sound 9 0 0 50 ≡ true
@@ -264,17 +253,15 @@ pub record States : Type 0 where
   pub fifty-calls : sound 3 50 9 0 ≡ true
   pub one-more : sound 3 51 9 0 ≡ false
   pub returns-past : sound 3 2 10 48 ≡ false
+  pub returns-zero : sound 3 2 0 48 ≡ true
   pub unused-not-zero : soundb 9 (record { at = 3; depth = 1; returns = 4 ∷ 5 ∷ replicate 48 0 }) ≡ false
 
 pub states : States
 unfolding entriesb soundb
 states =
-    record { at-the-end = refl; past-the-end = refl; fifty-calls = refl; one-more = refl; returns-past = refl; unused-not-zero = refl }
+    record { at-the-end = refl; past-the-end = refl; fifty-calls = refl; one-more = refl; returns-past = refl; returns-zero = refl; unused-not-zero = refl }
 
 -- ---- lengths
-
-abbrev parts : ℕ → ℕ → ℕ → ℕ → ℕ → Parts
-parts d f e p n = record { d = d; f = f; e = e; p = p; n = n; digits = limit; sign = base; top = top }
 
 -- "D is 1 to 16,383; F 0 to 512; E 0 to 16,383; P 0 to 4,095; N 1 to 2,048."
 pub record Lengths : Type 0 where

@@ -12,7 +12,7 @@
 --   nothing-allowed, nothing-left   an allowance of 0 gives 30, or 0 where the state is already at N
 -- Assumes nothing.
 use Prim.Native.Nat.{ℕ, _≤_, _<_}
-use mathlib.Core.Path.{_≡_, ap, _∙_}
+use mathlib.Core.Path.{_≡_}
 use mathlib.Core.Logic.{_⊎_}
 use mathlib.Core.List.{List}
 use denote.Ref.{now}
@@ -20,12 +20,10 @@ use contract.Lifetimes
 use Rattle.rules_unit.specs.Decode.{partsOf, decoded}
 use Rattle.rules_run.specs.declared.State.{State}
 use Rattle.rules_run.specs.declared.Outcome.{Outcome}
-use Rattle.rules_run.specs.declared.Stop.the-variants as stop
 use Rattle.rules_run.specs.Stops.{stopNumber}
-use Rattle.rules_run.specs.Runs.{Ran, ended, runOf}
+use Rattle.rules_run.specs.Runs.{Ran}
 use Rattle.rules_run.specs.Answers.{Unchanged, IsRefused, Ready, IsRun, Erred}
-use Rattle.rules_run.proofs.Steps.{run-ends, run-spent}
-use Rattle.rules_run.proofs.Answers.{ready-call, call-exactly, refused-by-number, erred-by-number}
+use Rattle.rules_run.proofs.Answers.{call-exactly, refused-by-number, erred-by-number, call-spent, call-ended}
 use Rattle.dibol.proofs.run.Reads as run
 
 module _ (κs : Lifetimes.Lfts 2) (a : _) (r : Outcome) (s : _) (post : run.Post κs a r s) where
@@ -58,8 +56,8 @@ module _ (κs : Lifetimes.Lfts 2) (a : _) (r : Outcome) (s : _) (post : run.Post
   error-changes-nothing = erred-by-number unit bytes state allowance ran run-or-refused
 
   -- "An allowance of 0 gives 30, or 0 where the state is already at N."
-  pub nothing-allowed : Ready unit bytes state → allowance ≡ 0 → state .at < partsOf unit .n → ran ≡ ended (partsOf unit .n) stop.Spent state 0 bytes
-  nothing-allowed y e h = post ∙ ap (runOf unit bytes state) e ∙ ready-call unit bytes state 0 y ∙ run-spent (decoded unit) state bytes 0 h
+  pub nothing-allowed : Ready unit bytes state → allowance ≡ 0 → state .at < partsOf unit .n → (stopNumber (r .stop) ≡ 30) × Unchanged bytes state ran
+  nothing-allowed = call-spent unit bytes state allowance ran post
 
-  pub nothing-left : Ready unit bytes state → partsOf unit .n ≤ state .at → ran ≡ ended (partsOf unit .n) stop.End state 0 bytes
-  nothing-left y h = post ∙ ready-call unit bytes state allowance y ∙ run-ends (decoded unit) state bytes 0 allowance h
+  pub nothing-left : Ready unit bytes state → partsOf unit .n ≤ state .at → (stopNumber (r .stop) ≡ 0) × Unchanged bytes state ran
+  nothing-left = call-ended unit bytes state allowance ran post

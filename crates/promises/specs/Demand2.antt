@@ -9,45 +9,54 @@
 --   does-exactly        a call is permitted exactly when it is refused as demand 1 says, or passes all checks, as many statements as are counted, one
 --                       after the other, lead to its state and its data, and the run goes no further for the reason that its stop gives
 --   given-exactly       each number, 0 to 7, 20 to 26 and 30, is given and its place named exactly when the table says so
+--   kept-20, read-20, read-22, div-23, round-26, span-exactly, outside-21    of the run errors in an expression the cause of each, both ways
 --   call-opens, call-full, return-closes, return-none, stop-keeps-calls, others-keep-calls    what each statement does to the open calls
+--   stores-next, jumps-keep-data    codes 1 to 6 go on at the next statement, and the others leave the data
 --   goto-goes, zero-goes, other-falls, computed-goes, computed-falls    where the jumps lead
 --   full-exactly, none-exactly    24 and 25 are given by a statement exactly when the table says so
 --   ends, spent, errs, goes    the rule of a run, one step of it: the end, the allowance spent, a run error, a completed statement
 --   counts-within       no more statements are completed than are allowed
 --   start-is-sound      the state before the first statement is sound for every unit, so a run from it is never refused 7
 --   state-stays-sound   a call hands back a sound state where it was given one
---   never-4             a passed check never lets 4 arise in a run
+--   run-numbers         a call that passes all checks ends with 0, 20 to 26 or 30: a passed check never lets 4 arise in a run
 -- Assumes nothing.
 use Prim.Native.Nat.{ℕ, zero, suc, _+_, _≤_, _<_}
 use mathlib.Core.Path.{_≡_, sym, subst}
 use mathlib.Core.Logic.{_↔_}
 use mathlib.Core.List.{List}
 use lib.IntN.{ℤ, pos, natAbs}
-use lib.ListN.{getD, set}
+use lib.ListN.{length, getD, set}
 use denote.Ref.{now}
 use contract.Lifetimes
 use Rattle.rules.specs.declared.Fault.{Fault}
 use Rattle.rules.specs.declared.Fault.the-variants as fault
-use Rattle.rules.specs.declared.Num.the-variants.{Value}
+use Rattle.rules.specs.declared.Num.the-variants.{Value, Failed}
+use Rattle.rules.specs.Values.{Valid, readOf}
+use Rattle.rules.specs.Arithmetic.{kept, divOf, roundOf}
+use Rattle.rules.proofs.Causes as causes
+use Rattle.rules_unit.specs.declared.Field.{Field}
+use Rattle.rules_unit.specs.declared.How.{How}
 use Rattle.rules_unit.specs.Codes.{Code}
 use Rattle.rules_unit.specs.Decode.{partsOf}
 use Rattle.rules_unit.specs.Sound.{SoundUnit}
 use Rattle.rules_unit.proofs.Sound.{sound-passed}
 use Rattle.rules_run.specs.declared.State.{State}
 use Rattle.rules_run.specs.declared.Outcome.{Outcome}
+use Rattle.rules_run.specs.declared.Span.the-variants.{At, Outside}
 use Rattle.rules_run.specs.declared.Stop.the-variants as stop
 use Rattle.rules_run.specs.Stops.{stopNumber}
 use Rattle.rules_run.specs.States.{Sound, started, gone}
+use Rattle.rules_run.specs.Spans.{spanIn, Located}
 use Rattle.rules_run.specs.Evaluation.{workedOf, numberOf}
 use Rattle.rules_run.specs.Runs.{to, stuck, nextOf, dataAfter, Ran, ended, runFrom}
-use Rattle.rules_run.specs.Answers.{Does, StopNo, noOf, Given}
+use Rattle.rules_run.specs.Answers.{Ready, RunNumber, Does, StopNo, noOf, Given}
 use Rattle.rules_run.proofs.States.{started-sound}
 use Rattle.rules_run.proofs.Steps.{run-ends, run-spent, run-fails, run-goes}
 use Rattle.rules_run.proofs.SoundRuns.{call-sound}
-use Rattle.rules_run.proofs.Malformed.{call-never-malformed}
 use Rattle.rules_run.proofs.Answers as answers
 use Rattle.rules_run.proofs.OpenCalls as calls
 use Rattle.rules_run.proofs.Jumps as jumps
+use Rattle.rules_run.proofs.Located as located
 use Rattle.dibol.proofs.run.Reads as run
 
 -- ---- a call
@@ -87,11 +96,40 @@ module _ (κs : Lifetimes.Lfts 2) (a : _) (r : Outcome) (s : _) (post : run.Post
   state-stays-sound x t =
       subst (λ (y : Ran). Sound (partsOf unit .n) (y .outcome .state)) (sym post) (call-sound unit (partsOf unit) (sound-passed unit (partsOf unit) x) bytes state allowance t)
 
-  pub never-4 : r .stop ≡ stop.Failed fault.Malformed → ⊥
-  never-4 = subst (λ (y : Ran). y .outcome .stop ≡ stop.Failed fault.Malformed → ⊥) (sym post) (call-never-malformed unit bytes state allowance)
+  pub run-numbers : Ready unit bytes state → RunNumber (stopNumber (r .stop))
+  run-numbers y = subst (λ (x : Ran). RunNumber (stopNumber (x .outcome .stop))) (sym post) (answers.ready-number unit bytes state allowance y)
 
 pub start-is-sound : (n : ℕ) → Sound n started
 start-is-sound = started-sound
+
+-- ---- why a number is not to be had
+
+-- "20 | more than 18 digits": a result of which the magnitude has too many, top being 10 to the limit
+pub kept-20 : (top : ℕ) (z : ℤ) → (kept top z ≡ Failed fault.TooLong) ↔ top ≤ natAbs z
+kept-20 = causes.kept-20
+
+-- "A decimal span of more than 18 characters then gives 20, and on reading, an invalid character 22."
+pub read-20 : (limit base : ℕ) (s : List ℕ) → (readOf limit base s ≡ Failed fault.TooLong) ↔ limit < length s
+read-20 = causes.read-20
+
+pub read-22 : (limit base : ℕ) (s : List ℕ) → (readOf limit base s ≡ Failed fault.BadDigit) ↔ (length s ≤ limit) × (Valid limit base s → ⊥)
+read-22 = causes.read-22
+
+-- "23 | zero divisor"
+pub div-23 : (a b : ℤ) → (divOf a b ≡ Failed fault.ZeroDivisor) ↔ (natAbs b ≡ 0)
+div-23 = causes.div-23
+
+-- "k outside 0 to 18 is 26"
+pub round-26 : (v k : ℤ) → (roundOf v k ≡ Failed fault.RoundCount) ↔ ((n : ℕ) → k ≡ pos n → n ≤ 18 → ⊥)
+round-26 = causes.round-26
+
+-- "A span may leave its field in either direction; it must stay inside the D bytes. Otherwise 21.": in the window from lo up to hi, which is from 0 up to D
+pub span-exactly : (lo hi : ℕ) (f : Field) (a n : ℕ) (h : How) (x y : ℤ) → (spanIn lo hi f h x y ≡ At a n) ↔ Located f h x y a n × ((lo ≤ a) × (a + n ≤ hi))
+span-exactly = located.span-exactly
+
+pub outside-21 : (lo hi : ℕ) (f : Field) (h : How) (x y : ℤ)
+    → (spanIn lo hi f h x y ≡ Outside) ↔ ((a n : ℕ) → Located f h x y a n → lo ≤ a → a + n ≤ hi → ⊥)
+outside-21 = located.outside-exactly
 
 -- ---- the open calls: the statement where the state s is, over the data d
 
@@ -128,9 +166,15 @@ module _ (c : Code) (s : State) (d : List ℕ) where
       → (t .depth ≡ s .depth) × (t .returns ≡ s .returns)
   others-keep-calls = calls.calls-kept c s d
 
--- ---- the jumps
+-- ---- stores and jumps
 
 module _ (c : Code) (s : State) (d : List ℕ) where
+  pub stores-next : 1 ≤ c .statement (s .at) .code → c .statement (s .at) .code ≤ 6 → (t : State) → nextOf c s d ≡ to t → t ≡ gone s (s .at + 1)
+  stores-next = jumps.stores-next c s d
+
+  pub jumps-keep-data : 7 ≤ c .statement (s .at) .code → dataAfter c s d ≡ d
+  jumps-keep-data = jumps.jumps-keep-data c s d
+
   -- "7 GOTO c"
   pub goto-goes : c .statement (s .at) .code ≡ 7 → nextOf c s d ≡ to (gone s (c .statement (s .at) .c))
   goto-goes = jumps.goto-goes c s d

@@ -13,7 +13,7 @@
 --   breach-exactly                              a breach is named exactly when that rule is the one that the statement breaks first
 --   destination-exactly                         a byte lies in a destination exactly when the place a of a statement of code 1 to 6 names it
 --   cannot-slip                                 what holds of every run of a unit with a yes, and its five parts in the letter's words
---   says-exactly, names-exactly, run-cannot-slip   the same of the contracts themselves: of whatever `dibol::fence`, `dibol::breach` and `dibol::run` are
+--   says-exactly, names-exactly, keeps-exactly, run-cannot-slip   the same of the contracts themselves: of whatever `dibol::fence`, `dibol::breach` and `dibol::run` are
 --                                               permitted to answer and leave
 -- Assumes nothing.
 use Prim.Native.Nat.{ℕ, _<_}
@@ -27,7 +27,7 @@ use Rattle.rules_unit.specs.declared.Refusal.{Refusal}
 use Rattle.rules_unit.specs.declared.Checked.the-variants as checked
 use Rattle.rules_unit.specs.Codes.{Code}
 use Rattle.rules_unit.specs.Decode.{partsOf, decoded}
-use Rattle.rules_unit.specs.Checks.{checkOf}
+use Rattle.rules_unit.specs.Answers.{Says}
 use Rattle.rules_unit.specs.Sound.{SoundUnit}
 use Rattle.rules_unit.proofs.Sound.{sound-passed}
 use Rattle.rules_run.specs.declared.State.{State}
@@ -45,7 +45,8 @@ use Rattle.rules_fence.specs.Reasons.{StatementBreaks}
 use Rattle.rules_fence.specs.Answers.{FenceSays}
 use Rattle.rules_fence.specs.Destinations.{Destination, InPlaceA, AllValid, BadText}
 use Rattle.rules_fence.specs.Safety.{Safe}
-use Rattle.rules_fence.proofs.Verdicts.{fence-exactly, breach-in, keeps-exactly, reason-exactly, breach-named}
+use Rattle.rules_fence.proofs.Verdicts.{fence-exactly, breach-in, reason-exactly, breach-named}
+use Rattle.rules_fence.proofs.Verdicts as verdicts
 use Rattle.rules_fence.proofs.Aims as aims
 use Rattle.rules_fence.proofs.Demand.{call-safe}
 use Rattle.dibol.proofs.breach.Reads as said
@@ -64,12 +65,12 @@ module _ (u : List ℕ) where
   no-exactly i = fence-exactly u (No i)
 
   -- "a refusal (1 to 5) with its place": the one that the check of the unit gives
-  pub refused-exactly : (r : Refusal) → (fenceOf u ≡ Refused r) ↔ (checkOf u ≡ checked.Refused r)
+  pub refused-exactly : (r : Refusal) → (fenceOf u ≡ Refused r) ↔ Says u (checked.Refused r)
   refused-exactly r = fence-exactly u (Refused r)
 
   -- The breach of a statement of a sound unit.
   pub no-breach-exactly : SoundUnit u (partsOf u) → (i : ℕ) → i < partsOf u .n → (breachIn u i ≡ breach.None) ↔ StatementFenced (decoded u) (decoded u .statement i)
-  no-breach-exactly t i h = rw (breach-in u (partsOf u) i (sound-passed u (partsOf u) t) h) (keeps-exactly (decoded u) (t .code) i h)
+  no-breach-exactly t i h = rw (breach-in u (partsOf u) i (sound-passed u (partsOf u) t) h) (verdicts.keeps-exactly (decoded u) (t .code) i h)
 
   pub breach-of-no : (i : ℕ) → fenceOf u ≡ No i → breachIn u i ≡ breach.None → ⊥
   breach-of-no = breach-named u
@@ -127,6 +128,12 @@ pub names-exactly : (κs : Lifetimes.Lfts 1) (a : _) (r : Breach) (s : _) → sa
     → (b ≡ breach.None → ⊥)
     → (r ≡ b) ↔ StatementBreaks (decoded (now (a .0))) (decoded (now (a .0)) .statement (a .1 .0)) b
 names-exactly κs a r s p sound low b z = rw p (breach-exactly (now (a .0)) sound (a .1 .0) low b z)
+
+pub keeps-exactly : (κs : Lifetimes.Lfts 1) (a : _) (r : Breach) (s : _) → said.Post κs a r s
+    → SoundUnit (now (a .0)) (partsOf (now (a .0)))
+    → a .1 .0 < partsOf (now (a .0)) .n
+    → (r ≡ breach.None) ↔ StatementFenced (decoded (now (a .0))) (decoded (now (a .0)) .statement (a .1 .0))
+keeps-exactly κs a r s p sound low = rw p (no-breach-exactly (now (a .0)) sound (a .1 .0) low)
 
 pub run-cannot-slip : (κs : Lifetimes.Lfts 2) (a : _) (r : Outcome) (s : _) → run.Post κs a r s
     → fenceOf (now (a .0)) ≡ Yes

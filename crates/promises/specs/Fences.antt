@@ -1,22 +1,17 @@
 -- The fence rules one by one, each on a small unit in its bytes: the check says no and names the statement and the rule, and the same unit with one
 -- character or item changed gets a yes. Rules 3, 5 and 6 stand in Slips.
 --
---   chosen, named      the subscript of a destination is a field, or a literal (rule 1)
---   cleared figures    CODE(the first figure,the second) is cleared (rule 2)
---   read figures       FARE(the first figure,the second) is read (rule 4)
---   fences             what the check says
+--   fences             what the check says; the units are in Samples
 --   reads-alone, writes-there    of what a statement reads no byte is a destination, and what it writes is one
 -- Assumes nothing.
 use native.Mathlib.Omega.{arith}
 use mathlib.Core.Path.{_≡_, refl, sym, subst}
-use mathlib.Core.List.{List, [], _∷_, _++_}
 use Prim.Native.Nat.{ℕ, zero, suc, _<_, _≤_}
-use Prim.Native.String as string
 use Rattle.rules_unit.specs.Decode.{partsOf, kindOf, fieldAt, referenceAt, numberAt, textAt, itemBy, itemAt, itemsIn, itemsAt, statementAt}
 use Rattle.rules_unit.specs.Table.{verbOf}
 use Rattle.rules_unit.specs.Expressions.{digitsb, numberb, textb, sortFrom, sortAt, usesb}
 use Rattle.rules_unit.specs.Checks.{filledb, rangesb, entryb, goodFields, rowb, shapeb, foundOf, statementsFrom, partsCheck, checkOf}
-use Rattle.rules_run.specs.Spans.{within, elementSpan, rangeSpan, spanIn}
+use Rattle.rules_run.specs.Spans.{within, elementSpan, rangeSpan, lengthSpan, spanIn}
 use Rattle.rules_run.specs.Evaluation.{digitsFrom, plainNumber, literalNumber}
 use Rattle.rules_fence.specs.declared.Verdict.the-variants.{Yes, No}
 use Rattle.rules_fence.specs.Bounds.{fixedSpan}
@@ -26,47 +21,7 @@ use Rattle.rules_unit.specs.Decode.{decoded}
 use Rattle.rules_fence.specs.Destinations.{PlaceNames, Covers, Destination}
 use Rattle.rules_fence.proofs.PlaceSpans.{spanFrom, placeSpan, names-span}
 use Rattle.rules_fence.proofs.Aims.{destination-exactly, aim-destination}
-use Rattle.promises.specs.Rows.{bytes}
-use Rattle.promises.specs.Slips.{smear}
-
--- SEAT is A5, three times; I is D1. SET SEAT(I) from "Eve"; SET SEAT(2) from "Eve".
-abbrev pub chosen : List ℕ
-chosen =
-    bytes "Ann  Bo   Cy   2"
-    ++ ((0 ∷ 0 ∷ 0 ∷ 0 ∷ 0 ∷ 5 ∷ 0 ∷ 3 ∷ 1 ∷ 0 ∷ 0 ∷ 15 ∷ 0 ∷ 1 ∷ 0 ∷ 1 ∷ [])
-    ++ ((2 ∷ 0 ∷ 1 ∷ 3 ∷ 0 ∷ 0 ∷ 0 ∷ 6 ∷ 0 ∷ 0 ∷ 0 ∷ 3 ∷ 0 ∷ [])
-    ++ (bytes "Eve"
-    ++ ((1 ∷ 0 ∷ 0 ∷ 0 ∷ 0 ∷ 7 ∷ 0 ∷ 0 ∷ [])
-    ++ (0 ∷ 16 ∷ 0 ∷ 2 ∷ 0 ∷ 13 ∷ 0 ∷ 3 ∷ 0 ∷ 1 ∷ 0x44 ∷ 0x42 ∷ [])))))
-
-abbrev pub named : List ℕ
-named =
-    bytes "Ann  Bo   Cy   2"
-    ++ ((0 ∷ 0 ∷ 0 ∷ 0 ∷ 0 ∷ 5 ∷ 0 ∷ 3 ∷ 1 ∷ 0 ∷ 0 ∷ 15 ∷ 0 ∷ 1 ∷ 0 ∷ 1 ∷ [])
-    ++ ((1 ∷ 0 ∷ 0 ∷ 1 ∷ 3 ∷ 0 ∷ 0 ∷ 0 ∷ 6 ∷ 0 ∷ 1 ∷ 0 ∷ 3 ∷ 0 ∷ [])
-    ++ (bytes "2Eve"
-    ++ ((1 ∷ 0 ∷ 0 ∷ 0 ∷ 0 ∷ 8 ∷ 0 ∷ 0 ∷ [])
-    ++ (0 ∷ 16 ∷ 0 ∷ 2 ∷ 0 ∷ 14 ∷ 0 ∷ 4 ∷ 0 ∷ 1 ∷ 0x44 ∷ 0x42 ∷ [])))))
-
--- CODE is A3.
-abbrev pub cleared : string.String → List ℕ
-cleared figures =
-    bytes "abc"
-    ++ ((0 ∷ 0 ∷ 0 ∷ 0 ∷ 0 ∷ 3 ∷ 0 ∷ 1 ∷ [])
-    ++ ((1 ∷ 0 ∷ 0 ∷ 1 ∷ 1 ∷ 0 ∷ 1 ∷ 1 ∷ 4 ∷ 0 ∷ 0 ∷ 0 ∷ [])
-    ++ (bytes figures
-    ++ ((2 ∷ 0 ∷ 0 ∷ 0 ∷ 0 ∷ 0 ∷ 0 ∷ 0 ∷ [])
-    ++ (0 ∷ 3 ∷ 0 ∷ 1 ∷ 0 ∷ 12 ∷ 0 ∷ 2 ∷ 0 ∷ 1 ∷ 0x44 ∷ 0x42 ∷ [])))))
-
--- FARE is D2, twice; TEXT is A2. SET TEXT from the part of FARE.
-abbrev pub read : string.String → List ℕ
-read figures =
-    bytes "1234??"
-    ++ ((1 ∷ 0 ∷ 0 ∷ 0 ∷ 0 ∷ 2 ∷ 0 ∷ 2 ∷ 0 ∷ 0 ∷ 0 ∷ 4 ∷ 0 ∷ 2 ∷ 0 ∷ 1 ∷ [])
-    ++ ((2 ∷ 0 ∷ 1 ∷ 0 ∷ 1 ∷ 0 ∷ 0 ∷ 1 ∷ 1 ∷ 0 ∷ 1 ∷ 1 ∷ 4 ∷ 0 ∷ 0 ∷ 0 ∷ [])
-    ++ (bytes figures
-    ++ ((1 ∷ 0 ∷ 0 ∷ 0 ∷ 0 ∷ 4 ∷ 0 ∷ 0 ∷ [])
-    ++ (0 ∷ 6 ∷ 0 ∷ 2 ∷ 0 ∷ 16 ∷ 0 ∷ 2 ∷ 0 ∷ 1 ∷ 0x44 ∷ 0x42 ∷ [])))))
+use Rattle.promises.specs.Samples.{smear, chosen, named, cleared, read, copied, backward}
 
 pub record Fences : Type 0 where
   -- "Each bound of 03, 04 and 05 is a number literal"
@@ -82,9 +37,12 @@ pub record Fences : Type 0 where
   pub over-elements-rule : breachNumber (breachIn (read "23") 0) ≡ 4
   pub one-element : fenceOf (read "34") ≡ Yes
   pub a-part : fenceOf (read "11") ≡ Yes
+  -- An alpha source may share bytes with a decimal field; an alpha span may go over elements; a bound may be negated.
+  pub record-read : fenceOf copied ≡ Yes
+  pub back-over : fenceOf backward ≡ Yes
 
 pub fences : Fences
-unfolding partsOf kindOf fieldAt referenceAt numberAt textAt itemBy itemAt itemsIn itemsAt verbOf statementAt digitsb numberb textb sortFrom sortAt usesb filledb rangesb entryb goodFields rowb shapeb foundOf statementsFrom partsCheck checkOf within elementSpan rangeSpan spanIn digitsFrom plainNumber literalNumber fixedSpan elementBreach apartFrom alphaBreach referenceBreach breachFrom usesBreach breachOf verdictFrom fenceOf breachIn
+unfolding partsOf kindOf fieldAt referenceAt numberAt textAt itemBy itemAt itemsIn itemsAt verbOf statementAt digitsb numberb textb sortFrom sortAt usesb filledb rangesb entryb goodFields rowb shapeb foundOf statementsFrom partsCheck checkOf within elementSpan rangeSpan lengthSpan spanIn digitsFrom plainNumber literalNumber fixedSpan elementBreach apartFrom alphaBreach referenceBreach breachFrom usesBreach breachOf verdictFrom fenceOf breachIn
 fences =
     record {
       bound-chosen = refl;
@@ -97,6 +55,8 @@ fences =
       over-elements-rule = refl;
       one-element = refl;
       a-part = refl;
+      record-read = refl;
+      back-over = refl;
     }
 
 -- ---- destinations: in `smear`, AM(2,6) from AM(1,5), byte 0 is only read and byte 1 is written

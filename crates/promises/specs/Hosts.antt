@@ -3,9 +3,10 @@
 -- `Post` is what the `ensures` of `dibol_run` says of its arguments a, its result r and what it leaves, s. It says that a call on the unit u, the data
 -- d, the state's numbers w, the allowance m and the answer a leaves `handedOf u d w m a`, over `runOf`, which is what `dibol::run` answers and leaves.
 --
---   reads-the-same           a call is refused or run as demand 1 says, and the host reads its stop, place, count, data and state
+--   reads-the-same           a call is what demand 2 says, refused or run, and the host reads its stop, place, count, data and state
 --   c-refused-changes-nothing   after 1 to 7 each byte of the data and each number of the state is as given
---   c-given-exactly          each number is given exactly when the table says so
+--   c-error-changes-nothing  a run error leaves the data as its statement found it and the state at that statement, which isn't counted
+--   c-given-exactly          each number is given, and its place named, exactly when the table says so
 --   refused-by-the-check     1 to 5: nothing is changed
 --   refused-for-its-size     6: nothing is changed
 --   refused-for-its-state    7, after 1 to 6: nothing is changed, where the state is unsound
@@ -28,12 +29,13 @@ use contract.Lifetimes
 use Rattle.rules_unit.specs.declared.Parts.{Parts}
 use Rattle.rules_unit.specs.declared.Refusal.{Refusal}
 use Rattle.rules_unit.specs.declared.Checked.the-variants as checked
+use Rattle.rules_unit.specs.Decode.{decoded}
 use Rattle.rules_unit.specs.Checks.{refusalNumber, refusalPlace, checkOf}
 use Rattle.rules_run.specs.declared.State.{State}
 use Rattle.rules_run.specs.States.{Sound, started}
 use Rattle.rules_run.specs.declared.Stop.the-variants as stop
 use Rattle.rules_run.specs.Runs.{counting, runOf}
-use Rattle.rules_run.specs.Answers.{StopNo, noOf, Given}
+use Rattle.rules_run.specs.Answers.{Erred, StopNo, noOf, Given}
 use Rattle.rules_run.proofs.Resumed.{call-resumed}
 use Rattle.words.specs.Words as words
 use Rattle.words.proofs.Short.{words-short}
@@ -68,12 +70,14 @@ module _ (κs : Lifetimes.Lfts 4) (a : _) (r : ℕ) (s : _) (post : c-run.Post �
   reads-the-same = subst (HostReads unit bytes numbers allowance answer) (sym post) (resume.host-reads unit bytes numbers allowance answer)
 
   pub c-refused-changes-nothing : 1 ≤ r → r ≤ 7 → (now (s .1 .0) ≡ bytes) × (now (s .1 .1 .0) ≡ numbers)
-  c-refused-changes-nothing x y = resume.host-kept unit bytes numbers allowance answer left reads-the-same x y
+  c-refused-changes-nothing = resume.host-kept unit bytes numbers allowance answer left reads-the-same
 
-  pub c-given-exactly : (x : StopNo) → (r ≡ noOf x) ↔ (place : ℕ) × Given unit bytes (stateOf numbers) allowance x place
-  c-given-exactly x =
-      subst (λ (h : Handed). (h .stop ≡ noOf x) ↔ (place : ℕ) × Given unit bytes (stateOf numbers) allowance x place) (sym post)
-      (resume.host-given unit bytes numbers allowance answer x)
+  pub c-error-changes-nothing : 20 ≤ r → r ≤ 26 → Erred (decoded unit) allowance (stateOf numbers) bytes r (reads-the-same .ran)
+  c-error-changes-nothing = resume.host-erred unit bytes numbers allowance answer left reads-the-same
+
+  -- The place is the one that `reads-the-same` finds in the answer.
+  pub c-given-exactly : (x : StopNo) (place : ℕ) → (r ≡ noOf x) × (reads-the-same .ran .outcome .place ≡ place) ↔ Given unit bytes (stateOf numbers) allowance x place
+  c-given-exactly = resume.host-given unit bytes numbers allowance answer left reads-the-same
 
 -- ---- one call
 

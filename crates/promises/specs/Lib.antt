@@ -1,7 +1,9 @@
 pub mod Rows
+pub mod Samples
 pub mod Example
 pub mod Tour
 pub mod Corners
+pub mod Moves
 pub mod Refusals
 pub mod BenchValues
 pub mod Manual

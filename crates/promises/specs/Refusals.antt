@@ -4,34 +4,32 @@
 --   changed k v       the check of Tour's unit with v at its byte k: its fields stand from 10 on, its expressions from 42, its literals from 109,
 --                     its statements from 113 and its trailer from 241
 --   with-field        the check of a unit of 19 bytes of data with one field
---   refusals, fields  the tables
+--   with-parts        the check of a unit of one statement, with its place and its source
+--   with-fields       the same with two
+--   refusals, fields, orders, expressions    the tables
+--   too-long, not-too-long, too-many, table-outside    lengths and tables of GOTOs, at their ends
 --   sixteen           sixteen values may be held, and seventeen not
 -- Assumes nothing.
-use mathlib.Core.Path.{_≡_, refl}
+use native.Mathlib.Omega.{arith}
+use mathlib.Core.Path.{_≡_, refl, sym, _∙_}
+use mathlib.Core.Bool.{false}
+use borrow.Author.Tests.{lt-ltb, le-ltb}
 use mathlib.Core.List.{List, [], _∷_, _++_}
-use Prim.Native.Nat.{ℕ}
+use Prim.Native.Nat.{ℕ, _≤_}
 use lib.IntN.{pos}
-use lib.ListN.{set, take, replicate}
-use Rattle.rules_unit.specs.declared.Item.the-variants as item
-use Rattle.rules_unit.specs.declared.Op.the-variants as op
-use Rattle.rules_unit.specs.declared.Sort.{Sort}
+use lib.ListN.{length, getD, set, take, replicate}
 use Rattle.rules_unit.specs.declared.Sort.the-variants as sort
-use Rattle.rules_unit.specs.declared.Checked.{Checked}
+use Rattle.rules_unit.specs.declared.Refusal.the-variants as refusal-of
 use Rattle.rules_unit.specs.declared.Checked.the-variants as checked
-use Rattle.rules_unit.specs.Decode.{partsOf, kindOf, fieldAt, referenceAt, numberAt, textAt, itemBy, itemAt, itemsIn, itemsAt, statementAt}
+use Rattle.rules_unit.specs.Codes.{Code}
+use Rattle.rules_unit.specs.Sound.{Filled}
+use Rattle.rules_unit.proofs.Sound.{check-only}
+use Rattle.rules_unit.specs.Decode.{fullLength, partsOf, kindOf, fieldAt, referenceAt, numberAt, textAt, itemBy, itemAt, itemsIn, itemsAt, statementAt}
 use Rattle.rules_unit.specs.Table.{verbOf}
 use Rattle.rules_unit.specs.Expressions.{digitsb, numberb, textb, sortFrom, sortAt, usesb}
-use Rattle.rules_unit.specs.Checks.{refusalNumber, refusalPlace, filledb, rangesb, entryb, goodFields, gotosb, tableb, rowb, shapeb, foundOf, statementsFrom, partsCheck, checkOf}
-use Rattle.promises.specs.Rows.{Answer, number, refusal, Row, _is_, AllHold, unit}
-use Rattle.promises.specs.Tour.{tour}
-
--- A unit that passes answers the length of its data.
-abbrev answered : Checked → Answer
-answered (checked.Passed p) = number (pos (p .d))
-answered (checked.Refused r) = refusal (refusalNumber r) (refusalPlace r)
-
-abbrev pub changed : ℕ → ℕ → Answer
-changed k v = answered (checkOf (set tour k v))
+use Rattle.rules_unit.specs.Checks.{filledb, rangesb, entryb, goodFields, gotosb, tableb, rowb, shapeb, foundOf, statementsFrom, partsCheck, checkOf}
+use Rattle.promises.specs.Rows.{number, refusal, Row, _is_, AllHold}
+use Rattle.promises.specs.Samples.{tour, seats, answered, changed, with-field, with-fields, entry, with-parts, of-set, A, N, X, last-of-all, sums}
 
 abbrev pub refusals : List Row
 refusals =
@@ -71,7 +69,17 @@ refusals =
     ∷ changed 200 1 is refusal 5 10
     ∷ changed 152 15 is number (pos 10)
     ∷ changed 152 16 is refusal 5 4
-    -- "a = n from 1 to 255"; "Code 12 at statement i needs n GOTO statements right after it"
+    -- "Checks 1, 2, 3 run in order; then each statement in turn, 5 before a's 4"
+    ∷ answered (checkOf (replicate 10 0 ++ (0x44 ∷ 0x42 ∷ []))) is refusal 2 0
+    ∷ answered (checkOf (48 ∷ 3 ∷ 0 ∷ 0 ∷ 0 ∷ 0 ∷ 1 ∷ 0 ∷ 1 ∷ 0 ∷ 1 ∷ 0 ∷ 1 ∷ 0 ∷ 0 ∷ 0 ∷ 0 ∷ 0 ∷ 0 ∷ 0x44 ∷ 0x42 ∷ [])) is refusal 2 0
+    ∷ answered (checkOf (set (set tour 118 67) 120 1)) is refusal 5 0
+    ∷ answered (checkOf (set (set tour 118 67) 193 0)) is refusal 4 0
+    -- "8 go to c if number b is zero": a decimal field is a number
+    ∷ changed 182 0 is number (pos 10)
+    -- "Offsets, field numbers and literals lie inside their parts": here the 00 stands behind the expressions, and a digit behind the literals
+    ∷ answered (checkOf (48 ∷ 1 ∷ 0 ∷ 0 ∷ 0 ∷ 0 ∷ 1 ∷ 0 ∷ 1 ∷ 2 ∷ 0 ∷ 0 ∷ 0 ∷ 2 ∷ 0 ∷ 0 ∷ 0 ∷ 0 ∷ 0 ∷ 0 ∷ 0 ∷ 0 ∷ 1 ∷ 0 ∷ 1 ∷ 0 ∷ 3 ∷ 0 ∷ 1 ∷ 0 ∷ 1 ∷ 0x44 ∷ 0x42 ∷ [])) is refusal 4 0
+    ∷ answered (checkOf (set (seats "33") 46 3)) is refusal 4 0
+    -- "Code 12 at statement i needs n GOTO statements right after it"
     ∷ changed 140 0 is refusal 5 3
     ∷ changed 140 1 is number (pos 10)
     ∷ changed 140 3 is refusal 5 3
@@ -84,15 +92,6 @@ unfolding partsOf kindOf fieldAt referenceAt numberAt textAt itemBy itemAt items
 refusals-hold = refl
 
 -- ---- fields
-
--- A field of the kind, offset, size and count given, and a STOP.
-abbrev pub with-field : ℕ → ℕ → ℕ → ℕ → Answer
-with-field kind offset size count =
-    answered
-    (checkOf
-    (replicate 19 48
-    ++ ((kind ∷ 0 ∷ 0 ∷ offset ∷ 0 ∷ size ∷ 0 ∷ count ∷ [])
-    ++ ((11 ∷ 0 ∷ 0 ∷ 0 ∷ 0 ∷ 0 ∷ 0 ∷ 0 ∷ []) ++ (0 ∷ 19 ∷ 0 ∷ 1 ∷ 0 ∷ 0 ∷ 0 ∷ 0 ∷ 0 ∷ 1 ∷ 0x44 ∷ 0x42 ∷ [])))))
 
 abbrev pub fields : List Row
 fields =
@@ -109,15 +108,75 @@ fields =
     ∷ with-field 0 2 9 2 is refusal 3 0
     ∷ []
 
+-- "Alpha and decimal entries stand in rising offset and share no byte; gaps are allowed. Records may cover anything and stand anywhere in the list."
+abbrev pub orders : List Row
+orders =
+    with-fields (entry 0 0 4) (entry 1 4 2) is number (pos 19)
+    ∷ with-fields (entry 0 0 4) (entry 1 9 2) is number (pos 19)
+    ∷ with-fields (entry 0 0 4) (entry 1 3 2) is refusal 3 1
+    ∷ with-fields (entry 1 4 2) (entry 0 0 4) is refusal 3 1
+    ∷ with-fields (entry 2 0 19) (entry 0 0 4) is number (pos 19)
+    ∷ with-fields (entry 0 4 4) (entry 2 0 19) is number (pos 19)
+    ∷ []
+
+pub orders-hold : AllHold orders
+unfolding partsOf kindOf fieldAt statementAt verbOf usesb filledb rangesb entryb goodFields rowb shapeb foundOf statementsFrom partsCheck checkOf
+orders-hold = refl
+
 pub fields-hold : AllHold fields
 unfolding partsOf kindOf fieldAt statementAt verbOf usesb filledb rangesb entryb goodFields rowb shapeb foundOf statementsFrom partsCheck checkOf
 fields-hold = refl
 
--- ---- "At most 16 values are held at once"
+-- ---- expressions
 
--- As many numbers, and then as many sums.
-abbrev sums : ℕ → ℕ → Sort
-sums n k = sortFrom unit (replicate n (item.Number 0 2) ++ replicate k (item.Operator op.Add)) 0 sort.Number
+abbrev pub expressions : List Row
+expressions =
+    of-set A X is number (pos 10)
+    -- "length (1 byte, 1 to 18)"; "length (2 bytes, at least 1)"
+    ∷ of-set N (1 ∷ 0 ∷ 0 ∷ 18 ∷ 0 ∷ []) is number (pos 10)
+    ∷ of-set N (1 ∷ 0 ∷ 0 ∷ 19 ∷ 0 ∷ []) is refusal 4 0
+    ∷ of-set A (6 ∷ 0 ∷ 0 ∷ 0 ∷ 0 ∷ 0 ∷ []) is refusal 4 0
+    -- "A *place* ends with a reference (02 to 05)."
+    ∷ of-set X A is refusal 4 0
+    ∷ of-set (1 ∷ 0 ∷ 0 ∷ 1 ∷ 0 ∷ []) A is refusal 4 0
+    ∷ with-parts 3 N 0 [] is number (pos 10)
+    ∷ with-parts 3 (1 ∷ 0 ∷ 0 ∷ 1 ∷ 0 ∷ []) 0 [] is refusal 4 0
+    -- "Every other reference must be to a decimal field, and 06 stands only last."
+    ∷ of-set (2 ∷ 0 ∷ 1 ∷ 3 ∷ 0 ∷ 0 ∷ 0 ∷ []) A is number (pos 10)
+    ∷ of-set (2 ∷ 0 ∷ 0 ∷ 3 ∷ 0 ∷ 0 ∷ 0 ∷ []) A is refusal 4 0
+    ∷ of-set (6 ∷ 0 ∷ 0 ∷ 0 ∷ 1 ∷ 3 ∷ 0 ∷ 0 ∷ 0 ∷ []) A is refusal 4 0
+    -- "field numbers .. lie inside their parts"
+    ∷ with-parts 5 (2 ∷ 0 ∷ 0 ∷ 0 ∷ []) 0 [] is number (pos 10)
+    ∷ with-parts 5 (2 ∷ 0 ∷ 2 ∷ 0 ∷ []) 0 [] is refusal 4 0
+    -- "one is left at 00"
+    ∷ of-set A (1 ∷ 0 ∷ 0 ∷ 1 ∷ 6 ∷ 0 ∷ 0 ∷ 0 ∷ 1 ∷ 0 ∷ []) is refusal 4 0
+    ∷ []
+
+pub expressions-hold : AllHold expressions
+unfolding partsOf kindOf fieldAt referenceAt numberAt textAt itemBy itemAt itemsIn itemsAt statementAt verbOf digitsb numberb textb sortFrom sortAt usesb filledb rangesb entryb goodFields rowb shapeb foundOf statementsFrom partsCheck checkOf
+expressions-hold = refl
+
+-- ---- lengths and tables
+
+-- "over 57,353"
+pub too-long : (u : List ℕ) → length u ≡ 57354 → checkOf u ≡ checked.Refused refusal-of.NotFilled
+too-long u e = check-only u (checked.Refused refusal-of.NotFilled) (λ f. omega (arith, f .most, e))
+
+pub not-too-long : (u : List ℕ) → length u ≡ 57353 → getD u 57351 0 ≡ 0x44 → getD u 57352 0 ≡ 0x42 → fullLength (partsOf u) ≡ 57353 → Filled u
+not-too-long u e a b l =
+    record { least = omega (arith, e); most = omega (arith, e); mark = rw e a; mark-last = rw e b; fills = record { whole = l ∙ sym e } }
+
+-- "a = n from 1 to 255"
+pub too-many : (c : Code) (i n : ℕ) → 256 ≤ n → tableb c i n ≡ false
+unfolding tableb
+too-many c i n h = rw (le-ltb n 1 (omega (arith, h)), lt-ltb 255 n (omega (arith, h)))
+
+-- "needs n GOTO statements right after it inside the unit"
+pub table-outside : last-of-all ≡ refusal 5 0
+unfolding partsOf numberAt itemBy itemAt itemsIn itemsAt statementAt verbOf digitsb numberb sortFrom sortAt usesb filledb rangesb entryb goodFields gotosb tableb rowb shapeb foundOf statementsFrom partsCheck checkOf
+table-outside = refl
+
+-- ---- "At most 16 values are held at once"
 
 pub record Sixteen : Type 0 where
   pub all-held : sums 16 15 ≡ sort.Number

@@ -7,16 +7,10 @@
 -- Each is a small unit in its bytes. The run does what the manual says, slip included; the fence check says no, names the statement and its rule; and the
 -- same unit without the slip gets a yes. The smear does not come: "The result is as if the source had been copied away first."
 --
---   seats figures    a seat table of three and the name next door; the second statement books SEATS(the second figure)
---   fares place      a negative fare and a name, with a record over both; the statement upper-cases the place given
---   refund figures   a fare of four digits; the statement stores -5 in FARE(the first figure,the second)
---   smear            thirteen letters; the statement moves AM(1,5) to AM(2,6)
+--   slips    the runs, and what the check says; the units are in Samples
 -- Assumes nothing.
 use mathlib.Core.Path.{_≡_, refl}
 use mathlib.Core.Bool.{true, false}
-use mathlib.Core.List.{List, [], _∷_, _++_}
-use Prim.Native.Nat.{ℕ}
-use Prim.Native.String as string
 use lib.ListN.{take}
 use Rattle.rules.specs.Values.{validb, validFrom}
 use Rattle.rules.specs.Moves.{placed, fitted}
@@ -26,62 +20,14 @@ use Rattle.rules_unit.specs.Expressions.{digitsb, numberb, textb, sortFrom, sor
 use Rattle.rules_unit.specs.Checks.{filledb, rangesb, entryb, goodFields, rowb, shapeb, foundOf, statementsFrom, partsCheck, checkOf}
 use Rattle.rules_run.specs.Spans.{within, elementSpan, rangeSpan, spanIn}
 use Rattle.rules_run.specs.Evaluation.{calc, digitsFrom, plainNumber, literalNumber, stepBy, placeBy, place, lastOf, workedFrom, workedOf}
-use Rattle.rules_run.specs.States.{entriesb, soundb, started}
-use Rattle.rules_run.specs.Stops.{stopNumber}
+use Rattle.rules_run.specs.States.{entriesb, soundb}
 use Rattle.rules_run.specs.Turns.{stored, applied, turnBy, turnOf}
 use Rattle.rules_run.specs.Runs.{movedBy, runFrom, runChecked, runOf}
 use Rattle.rules_fence.specs.declared.Verdict.the-variants.{Yes, No}
 use Rattle.rules_fence.specs.Bounds.{fixedSpan}
 use Rattle.rules_fence.specs.Breaches.{elementBreach, apartFrom, alphaBreach, referenceBreach, breachFrom, usesBreach, breachOf, verdictFrom, fenceOf, breachNumber, breachIn}
 use Rattle.promises.specs.Rows.{limit, base, bytes}
-
--- SEATS is A2, three times; NAME is A4. Expressions at 0: SEATS(first), at 8: SEATS(second), at 16: the text.
-abbrev pub seats : string.String → List ℕ
-seats figures =
-    bytes "A1B1C1PAUL"
-    ++ ((0 ∷ 0 ∷ 0 ∷ 0 ∷ 0 ∷ 2 ∷ 0 ∷ 3 ∷ 0 ∷ 0 ∷ 0 ∷ 6 ∷ 0 ∷ 4 ∷ 0 ∷ 1 ∷ [])
-    ++ ((1 ∷ 0 ∷ 0 ∷ 1 ∷ 3 ∷ 0 ∷ 0 ∷ 0 ∷ 1 ∷ 0 ∷ 1 ∷ 1 ∷ 3 ∷ 0 ∷ 0 ∷ 0 ∷ 6 ∷ 0 ∷ 2 ∷ 0 ∷ 2 ∷ 0 ∷ [])
-    ++ (bytes figures
-    ++ (bytes "ZZ"
-    ++ ((1 ∷ 0 ∷ 0 ∷ 0 ∷ 0 ∷ 16 ∷ 0 ∷ 0 ∷ 1 ∷ 0 ∷ 0 ∷ 8 ∷ 0 ∷ 16 ∷ 0 ∷ 0 ∷ [])
-    ++ (0 ∷ 10 ∷ 0 ∷ 2 ∷ 0 ∷ 22 ∷ 0 ∷ 4 ∷ 0 ∷ 2 ∷ 0x44 ∷ 0x42 ∷ []))))))
-
--- FARE is D3, NAME is A3, and the record covers both. Expressions at 0: the record, at 4: NAME.
-abbrev pub fares : ℕ → List ℕ
-fares place =
-    bytes "12smeg"
-    ++ ((1 ∷ 0 ∷ 0 ∷ 0 ∷ 0 ∷ 3 ∷ 0 ∷ 1 ∷ 0 ∷ 0 ∷ 0 ∷ 3 ∷ 0 ∷ 3 ∷ 0 ∷ 1 ∷ 2 ∷ 0 ∷ 0 ∷ 0 ∷ 0 ∷ 6 ∷ 0 ∷ 1 ∷ [])
-    ++ ((2 ∷ 0 ∷ 2 ∷ 0 ∷ 2 ∷ 0 ∷ 1 ∷ 0 ∷ [])
-    ++ ((5 ∷ 0 ∷ 0 ∷ place ∷ 0 ∷ 0 ∷ 0 ∷ 0 ∷ [])
-    ++ (0 ∷ 6 ∷ 0 ∷ 3 ∷ 0 ∷ 8 ∷ 0 ∷ 0 ∷ 0 ∷ 1 ∷ 0x44 ∷ 0x42 ∷ []))))
-
--- FARE is D4. Expressions at 0: FARE(first,second), at 12: 5, negated.
-abbrev pub refund : string.String → List ℕ
-refund figures =
-    bytes "0000"
-    ++ ((1 ∷ 0 ∷ 0 ∷ 0 ∷ 0 ∷ 4 ∷ 0 ∷ 1 ∷ [])
-    ++ ((1 ∷ 0 ∷ 0 ∷ 1 ∷ 1 ∷ 0 ∷ 1 ∷ 1 ∷ 4 ∷ 0 ∷ 0 ∷ 0 ∷ 1 ∷ 0 ∷ 2 ∷ 1 ∷ 0x15 ∷ 0 ∷ [])
-    ++ (bytes figures
-    ++ (bytes "5"
-    ++ ((1 ∷ 0 ∷ 0 ∷ 0 ∷ 0 ∷ 12 ∷ 0 ∷ 0 ∷ [])
-    ++ (0 ∷ 4 ∷ 0 ∷ 1 ∷ 0 ∷ 18 ∷ 0 ∷ 3 ∷ 0 ∷ 1 ∷ 0x44 ∷ 0x42 ∷ []))))))
-
--- AM is A13. Expressions at 0: AM(2,6), at 12: AM(1,5).
-abbrev pub smear : List ℕ
-smear =
-    bytes "abcdefghijklm"
-    ++ ((0 ∷ 0 ∷ 0 ∷ 0 ∷ 0 ∷ 13 ∷ 0 ∷ 1 ∷ [])
-    ++ ((1 ∷ 0 ∷ 0 ∷ 1 ∷ 1 ∷ 0 ∷ 1 ∷ 1 ∷ 4 ∷ 0 ∷ 0 ∷ 0 ∷ 1 ∷ 0 ∷ 2 ∷ 1 ∷ 1 ∷ 0 ∷ 3 ∷ 1 ∷ 4 ∷ 0 ∷ 0 ∷ 0 ∷ [])
-    ++ (bytes "2615"
-    ++ ((1 ∷ 0 ∷ 0 ∷ 0 ∷ 0 ∷ 12 ∷ 0 ∷ 0 ∷ [])
-    ++ (0 ∷ 13 ∷ 0 ∷ 1 ∷ 0 ∷ 24 ∷ 0 ∷ 4 ∷ 0 ∷ 1 ∷ 0x44 ∷ 0x42 ∷ [])))))
-
--- The n bytes of data that a run from the unit's image leaves, and the number of its stop.
-abbrev pub leaves : ℕ → List ℕ → List ℕ
-leaves n u = runOf u (take n u) started 100 .bytes
-
-abbrev pub stops : ℕ → List ℕ → ℕ
-stops n u = stopNumber (runOf u (take n u) started 100 .outcome .stop)
+use Rattle.promises.specs.Samples.{seats, fares, refund, smear, leaves, stops}
 
 pub record Slips : Type 0 where
   -- The second booking lands on the name next door; the statement 1 leaves its field.

@@ -1,0 +1,281 @@
+-- The units of the examples, in their bytes, and how an example is asked: what the tables of Slips, Fences, Tour, Refusals, Corners and Moves are made of.
+-- Assumes nothing.
+use mathlib.Core.Bool.{Bool}
+use mathlib.Core.List.{List, [], _∷_, _++_}
+use Prim.Native.Nat.{ℕ, zero, suc, _*_}
+use Prim.Native.String as string
+use lib.IntN.{pos}
+use lib.ListN.{length, set, take, replicate}
+use Rattle.rules.specs.Stops.{faultNumber}
+use Rattle.rules_unit.specs.declared.Kind.the-variants as kind
+use Rattle.rules_unit.specs.declared.Field.{Field}
+use Rattle.rules_unit.specs.declared.Item.{Item}
+use Rattle.rules_unit.specs.declared.Item.the-variants as item
+use Rattle.rules_unit.specs.declared.Op.the-variants as op
+use Rattle.rules_unit.specs.declared.Sort.{Sort}
+use Rattle.rules_unit.specs.declared.Sort.the-variants as sort
+use Rattle.rules_unit.specs.declared.Parts.{Parts}
+use Rattle.rules_unit.specs.declared.Checked.{Checked}
+use Rattle.rules_unit.specs.declared.Checked.the-variants as checked
+use Rattle.rules_unit.specs.Codes.{Code}
+use Rattle.rules_unit.specs.Decode.{itemsAt}
+use Rattle.rules_unit.specs.Table.{verbOf}
+use Rattle.rules_unit.specs.Expressions.{sortFrom}
+use Rattle.rules_unit.specs.Checks.{refusalNumber, refusalPlace, checkOf}
+use Rattle.rules_run.specs.declared.Flow.{Flow}
+use Rattle.rules_run.specs.declared.Flow.the-variants as flow
+use Rattle.rules_run.specs.States.{soundb, started}
+use Rattle.rules_run.specs.Stops.{stopNumber}
+use Rattle.rules_run.specs.Turns.{applied, turnBy}
+use Rattle.rules_run.specs.Runs.{runOf}
+use Rattle.promises.specs.Rows.{Answer, number, text, refusal, stop, limit, top, base, bytes, unitOver, accessed, unit}
+
+-- ---- the slips
+
+-- SEATS is A2, three times; NAME is A4. Expressions at 0: SEATS(first), at 8: SEATS(second), at 16: the text.
+abbrev pub seats : string.String → List ℕ
+seats figures =
+    bytes "A1B1C1PAUL"
+    ++ ((0 ∷ 0 ∷ 0 ∷ 0 ∷ 0 ∷ 2 ∷ 0 ∷ 3 ∷ 0 ∷ 0 ∷ 0 ∷ 6 ∷ 0 ∷ 4 ∷ 0 ∷ 1 ∷ [])
+    ++ ((1 ∷ 0 ∷ 0 ∷ 1 ∷ 3 ∷ 0 ∷ 0 ∷ 0 ∷ 1 ∷ 0 ∷ 1 ∷ 1 ∷ 3 ∷ 0 ∷ 0 ∷ 0 ∷ 6 ∷ 0 ∷ 2 ∷ 0 ∷ 2 ∷ 0 ∷ [])
+    ++ (bytes figures
+    ++ (bytes "ZZ"
+    ++ ((1 ∷ 0 ∷ 0 ∷ 0 ∷ 0 ∷ 16 ∷ 0 ∷ 0 ∷ 1 ∷ 0 ∷ 0 ∷ 8 ∷ 0 ∷ 16 ∷ 0 ∷ 0 ∷ [])
+    ++ (0 ∷ 10 ∷ 0 ∷ 2 ∷ 0 ∷ 22 ∷ 0 ∷ 4 ∷ 0 ∷ 2 ∷ 0x44 ∷ 0x42 ∷ []))))))
+
+-- FARE is D3, NAME is A3, and the record covers both. Expressions at 0: the record, at 4: NAME.
+abbrev pub fares : ℕ → List ℕ
+fares place =
+    bytes "12smeg"
+    ++ ((1 ∷ 0 ∷ 0 ∷ 0 ∷ 0 ∷ 3 ∷ 0 ∷ 1 ∷ 0 ∷ 0 ∷ 0 ∷ 3 ∷ 0 ∷ 3 ∷ 0 ∷ 1 ∷ 2 ∷ 0 ∷ 0 ∷ 0 ∷ 0 ∷ 6 ∷ 0 ∷ 1 ∷ [])
+    ++ ((2 ∷ 0 ∷ 2 ∷ 0 ∷ 2 ∷ 0 ∷ 1 ∷ 0 ∷ [])
+    ++ ((5 ∷ 0 ∷ 0 ∷ place ∷ 0 ∷ 0 ∷ 0 ∷ 0 ∷ [])
+    ++ (0 ∷ 6 ∷ 0 ∷ 3 ∷ 0 ∷ 8 ∷ 0 ∷ 0 ∷ 0 ∷ 1 ∷ 0x44 ∷ 0x42 ∷ []))))
+
+-- FARE is D4. Expressions at 0: FARE(first,second), at 12: 5, negated.
+abbrev pub refund : string.String → List ℕ
+refund figures =
+    bytes "0000"
+    ++ ((1 ∷ 0 ∷ 0 ∷ 0 ∷ 0 ∷ 4 ∷ 0 ∷ 1 ∷ [])
+    ++ ((1 ∷ 0 ∷ 0 ∷ 1 ∷ 1 ∷ 0 ∷ 1 ∷ 1 ∷ 4 ∷ 0 ∷ 0 ∷ 0 ∷ 1 ∷ 0 ∷ 2 ∷ 1 ∷ 0x15 ∷ 0 ∷ [])
+    ++ (bytes figures
+    ++ (bytes "5"
+    ++ ((1 ∷ 0 ∷ 0 ∷ 0 ∷ 0 ∷ 12 ∷ 0 ∷ 0 ∷ [])
+    ++ (0 ∷ 4 ∷ 0 ∷ 1 ∷ 0 ∷ 18 ∷ 0 ∷ 3 ∷ 0 ∷ 1 ∷ 0x44 ∷ 0x42 ∷ []))))))
+
+-- AM is A13. Expressions at 0: AM(2,6), at 12: AM(1,5).
+abbrev pub smear : List ℕ
+smear =
+    bytes "abcdefghijklm"
+    ++ ((0 ∷ 0 ∷ 0 ∷ 0 ∷ 0 ∷ 13 ∷ 0 ∷ 1 ∷ [])
+    ++ ((1 ∷ 0 ∷ 0 ∷ 1 ∷ 1 ∷ 0 ∷ 1 ∷ 1 ∷ 4 ∷ 0 ∷ 0 ∷ 0 ∷ 1 ∷ 0 ∷ 2 ∷ 1 ∷ 1 ∷ 0 ∷ 3 ∷ 1 ∷ 4 ∷ 0 ∷ 0 ∷ 0 ∷ [])
+    ++ (bytes "2615"
+    ++ ((1 ∷ 0 ∷ 0 ∷ 0 ∷ 0 ∷ 12 ∷ 0 ∷ 0 ∷ [])
+    ++ (0 ∷ 13 ∷ 0 ∷ 1 ∷ 0 ∷ 24 ∷ 0 ∷ 4 ∷ 0 ∷ 1 ∷ 0x44 ∷ 0x42 ∷ [])))))
+
+-- The n bytes of data that a run from the unit's image leaves, and the number of its stop.
+abbrev pub leaves : ℕ → List ℕ → List ℕ
+leaves n u = runOf u (take n u) started 100 .bytes
+
+abbrev pub stops : ℕ → List ℕ → ℕ
+stops n u = stopNumber (runOf u (take n u) started 100 .outcome .stop)
+
+-- ---- the fence rules
+
+-- SEAT is A5, three times; I is D1. SET SEAT(I) from "Eve"; SET SEAT(2) from "Eve".
+abbrev pub chosen : List ℕ
+chosen =
+    bytes "Ann  Bo   Cy   2"
+    ++ ((0 ∷ 0 ∷ 0 ∷ 0 ∷ 0 ∷ 5 ∷ 0 ∷ 3 ∷ 1 ∷ 0 ∷ 0 ∷ 15 ∷ 0 ∷ 1 ∷ 0 ∷ 1 ∷ [])
+    ++ ((2 ∷ 0 ∷ 1 ∷ 3 ∷ 0 ∷ 0 ∷ 0 ∷ 6 ∷ 0 ∷ 0 ∷ 0 ∷ 3 ∷ 0 ∷ [])
+    ++ (bytes "Eve"
+    ++ ((1 ∷ 0 ∷ 0 ∷ 0 ∷ 0 ∷ 7 ∷ 0 ∷ 0 ∷ [])
+    ++ (0 ∷ 16 ∷ 0 ∷ 2 ∷ 0 ∷ 13 ∷ 0 ∷ 3 ∷ 0 ∷ 1 ∷ 0x44 ∷ 0x42 ∷ [])))))
+
+abbrev pub named : List ℕ
+named =
+    bytes "Ann  Bo   Cy   2"
+    ++ ((0 ∷ 0 ∷ 0 ∷ 0 ∷ 0 ∷ 5 ∷ 0 ∷ 3 ∷ 1 ∷ 0 ∷ 0 ∷ 15 ∷ 0 ∷ 1 ∷ 0 ∷ 1 ∷ [])
+    ++ ((1 ∷ 0 ∷ 0 ∷ 1 ∷ 3 ∷ 0 ∷ 0 ∷ 0 ∷ 6 ∷ 0 ∷ 1 ∷ 0 ∷ 3 ∷ 0 ∷ [])
+    ++ (bytes "2Eve"
+    ++ ((1 ∷ 0 ∷ 0 ∷ 0 ∷ 0 ∷ 8 ∷ 0 ∷ 0 ∷ [])
+    ++ (0 ∷ 16 ∷ 0 ∷ 2 ∷ 0 ∷ 14 ∷ 0 ∷ 4 ∷ 0 ∷ 1 ∷ 0x44 ∷ 0x42 ∷ [])))))
+
+-- CODE is A3, behind a gap of two bytes: CLEAR CODE(the first figure,the second).
+abbrev pub cleared : string.String → List ℕ
+cleared figures =
+    bytes "??abc"
+    ++ ((0 ∷ 0 ∷ 0 ∷ 2 ∷ 0 ∷ 3 ∷ 0 ∷ 1 ∷ [])
+    ++ ((1 ∷ 0 ∷ 0 ∷ 1 ∷ 1 ∷ 0 ∷ 1 ∷ 1 ∷ 4 ∷ 0 ∷ 0 ∷ 0 ∷ [])
+    ++ (bytes figures
+    ++ ((2 ∷ 0 ∷ 0 ∷ 0 ∷ 0 ∷ 0 ∷ 0 ∷ 0 ∷ [])
+    ++ (0 ∷ 5 ∷ 0 ∷ 1 ∷ 0 ∷ 12 ∷ 0 ∷ 2 ∷ 0 ∷ 1 ∷ 0x44 ∷ 0x42 ∷ [])))))
+
+-- FARE is D2, twice; TEXT is A2. SET TEXT from the part of FARE.
+abbrev pub read : string.String → List ℕ
+read figures =
+    bytes "1234??"
+    ++ ((1 ∷ 0 ∷ 0 ∷ 0 ∷ 0 ∷ 2 ∷ 0 ∷ 2 ∷ 0 ∷ 0 ∷ 0 ∷ 4 ∷ 0 ∷ 2 ∷ 0 ∷ 1 ∷ [])
+    ++ ((2 ∷ 0 ∷ 1 ∷ 0 ∷ 1 ∷ 0 ∷ 0 ∷ 1 ∷ 1 ∷ 0 ∷ 1 ∷ 1 ∷ 4 ∷ 0 ∷ 0 ∷ 0 ∷ [])
+    ++ (bytes figures
+    ++ ((1 ∷ 0 ∷ 0 ∷ 0 ∷ 0 ∷ 4 ∷ 0 ∷ 0 ∷ [])
+    ++ (0 ∷ 6 ∷ 0 ∷ 2 ∷ 0 ∷ 16 ∷ 0 ∷ 2 ∷ 0 ∷ 1 ∷ 0x44 ∷ 0x42 ∷ [])))))
+
+-- FARE is D3, NAME A3, and the record covers both: SET NAME from the record.
+abbrev pub copied : List ℕ
+copied =
+    bytes "12smeg"
+    ++ ((1 ∷ 0 ∷ 0 ∷ 0 ∷ 0 ∷ 3 ∷ 0 ∷ 1 ∷ 0 ∷ 0 ∷ 0 ∷ 3 ∷ 0 ∷ 3 ∷ 0 ∷ 1 ∷ 2 ∷ 0 ∷ 0 ∷ 0 ∷ 0 ∷ 6 ∷ 0 ∷ 1 ∷ [])
+    ++ ((2 ∷ 0 ∷ 2 ∷ 0 ∷ 2 ∷ 0 ∷ 1 ∷ 0 ∷ [])
+    ++ ((1 ∷ 0 ∷ 0 ∷ 4 ∷ 0 ∷ 0 ∷ 0 ∷ 0 ∷ [])
+    ++ (0 ∷ 6 ∷ 0 ∷ 3 ∷ 0 ∷ 8 ∷ 0 ∷ 0 ∷ 0 ∷ 1 ∷ 0x44 ∷ 0x42 ∷ []))))
+
+-- CODE is A1, three times: CLEAR CODE(2:-2).
+abbrev pub backward : List ℕ
+backward =
+    bytes "abc"
+    ++ ((0 ∷ 0 ∷ 0 ∷ 0 ∷ 0 ∷ 1 ∷ 0 ∷ 3 ∷ [])
+    ++ ((1 ∷ 0 ∷ 0 ∷ 1 ∷ 1 ∷ 0 ∷ 0 ∷ 1 ∷ 0x15 ∷ 5 ∷ 0 ∷ 0 ∷ 0 ∷ [])
+    ++ (bytes "2"
+    ++ ((2 ∷ 0 ∷ 0 ∷ 0 ∷ 0 ∷ 0 ∷ 0 ∷ 0 ∷ [])
+    ++ (0 ∷ 3 ∷ 0 ∷ 1 ∷ 0 ∷ 13 ∷ 0 ∷ 1 ∷ 0 ∷ 1 ∷ 0x44 ∷ 0x42 ∷ [])))))
+
+-- ---- every statement once
+
+-- N is D2, A is A6, T and U are D1. Statements: 0 SET N from U - 2, 1 INCR N, 2 DECR T, 3 computed GOTO by N - 2 (4 GOTO 11, 5 GOTO 7), 6 UPCASE A,
+-- 7 CALL 12, 8 go to 10 if T - 8 is zero, 9 CLEAR N, 10 STOP, 11 CLEAR A, 12 LOCASE A(2,4), 13 UPCASE A(4,5), 14 CLEAR U, 15 RETURN. The statements 4, 6,
+-- 9 and 11 are not reached.
+abbrev pub tourData : List ℕ
+tourData = bytes "07xaByCd95"
+
+abbrev pub tour : List ℕ
+tour =
+    tourData
+    ++ ((1 ∷ 0 ∷ 0 ∷ 0 ∷ 0 ∷ 2 ∷ 0 ∷ 1 ∷ 0 ∷ 0 ∷ 0 ∷ 2 ∷ 0 ∷ 6 ∷ 0 ∷ 1 ∷ 1 ∷ 0 ∷ 0 ∷ 8 ∷ 0 ∷ 1 ∷ 0 ∷ 1 ∷ 1 ∷ 0 ∷ 0 ∷ 9 ∷ 0 ∷ 1 ∷ 0 ∷ 1 ∷ [])
+    ++ ((2 ∷ 0 ∷ 0 ∷ 0 ∷ 2 ∷ 0 ∷ 3 ∷ 1 ∷ 0 ∷ 0 ∷ 1 ∷ 0x11 ∷ 0 ∷ 2 ∷ 0 ∷ 2 ∷ 0 ∷ 2 ∷ 0 ∷ 0 ∷ 1 ∷ 0 ∷ 0 ∷ 1 ∷ 0x11 ∷ 0 ∷ [])
+    ++ ((2 ∷ 0 ∷ 1 ∷ 0 ∷ 2 ∷ 0 ∷ 2 ∷ 1 ∷ 0 ∷ 1 ∷ 1 ∷ 0x11 ∷ 0 ∷ 1 ∷ 0 ∷ 0 ∷ 1 ∷ 1 ∷ 0 ∷ 2 ∷ 1 ∷ 4 ∷ 0 ∷ 1 ∷ 0 ∷ [])
+    ++ ((1 ∷ 0 ∷ 2 ∷ 1 ∷ 1 ∷ 0 ∷ 3 ∷ 1 ∷ 4 ∷ 0 ∷ 1 ∷ 0 ∷ 2 ∷ 0 ∷ 3 ∷ 0 ∷ [])
+    ++ (bytes "2845"
+    ++ ((1 ∷ 0 ∷ 0 ∷ 0 ∷ 0 ∷ 4 ∷ 0 ∷ 0 ∷ 3 ∷ 0 ∷ 0 ∷ 0 ∷ 0 ∷ 0 ∷ 0 ∷ 0 ∷ 4 ∷ 0 ∷ 0 ∷ 13 ∷ 0 ∷ 0 ∷ 0 ∷ 0 ∷ 12 ∷ 0 ∷ 0 ∷ 2 ∷ 0 ∷ 17 ∷ 0 ∷ 0 ∷ [])
+    ++ ((7 ∷ 0 ∷ 0 ∷ 0 ∷ 0 ∷ 0 ∷ 0 ∷ 11 ∷ 7 ∷ 0 ∷ 0 ∷ 0 ∷ 0 ∷ 0 ∷ 0 ∷ 7 ∷ 5 ∷ 0 ∷ 0 ∷ 26 ∷ 0 ∷ 0 ∷ 0 ∷ 0 ∷ 9 ∷ 0 ∷ 0 ∷ 0 ∷ 0 ∷ 0 ∷ 0 ∷ 12 ∷ [])
+    ++ ((8 ∷ 0 ∷ 0 ∷ 0 ∷ 0 ∷ 30 ∷ 0 ∷ 10 ∷ 2 ∷ 0 ∷ 0 ∷ 0 ∷ 0 ∷ 0 ∷ 0 ∷ 0 ∷ 11 ∷ 0 ∷ 0 ∷ 0 ∷ 0 ∷ 0 ∷ 0 ∷ 0 ∷ 2 ∷ 0 ∷ 0 ∷ 26 ∷ 0 ∷ 0 ∷ 0 ∷ 0 ∷ [])
+    ++ ((6 ∷ 0 ∷ 0 ∷ 39 ∷ 0 ∷ 0 ∷ 0 ∷ 0 ∷ 5 ∷ 0 ∷ 0 ∷ 51 ∷ 0 ∷ 0 ∷ 0 ∷ 0 ∷ 2 ∷ 0 ∷ 0 ∷ 63 ∷ 0 ∷ 0 ∷ 0 ∷ 0 ∷ 10 ∷ 0 ∷ 0 ∷ 0 ∷ 0 ∷ 0 ∷ 0 ∷ 0 ∷ [])
+    ++ (0 ∷ 10 ∷ 0 ∷ 4 ∷ 0 ∷ 67 ∷ 0 ∷ 4 ∷ 0 ∷ 16 ∷ 0x44 ∷ 0x42 ∷ []))))))))))
+
+-- ---- checks
+
+-- A unit that passes answers the length of its data.
+abbrev pub answered : Checked → Answer
+answered (checked.Passed p) = number (pos (p .d))
+answered (checked.Refused r) = refusal (refusalNumber r) (refusalPlace r)
+
+abbrev pub changed : ℕ → ℕ → Answer
+changed k v = answered (checkOf (set tour k v))
+
+-- A field of the kind, offset, size and count given, and a STOP.
+abbrev pub with-field : ℕ → ℕ → ℕ → ℕ → Answer
+with-field kind offset size count =
+    answered
+    (checkOf
+    (replicate 19 48
+    ++ ((kind ∷ 0 ∷ 0 ∷ offset ∷ 0 ∷ size ∷ 0 ∷ count ∷ [])
+    ++ ((11 ∷ 0 ∷ 0 ∷ 0 ∷ 0 ∷ 0 ∷ 0 ∷ 0 ∷ []) ++ (0 ∷ 19 ∷ 0 ∷ 1 ∷ 0 ∷ 0 ∷ 0 ∷ 0 ∷ 0 ∷ 1 ∷ 0x44 ∷ 0x42 ∷ [])))))
+
+-- Two fields, and a STOP.
+abbrev pub with-fields : List ℕ → List ℕ → Answer
+with-fields first second =
+    answered
+    (checkOf (replicate 19 48 ++ (first ++ (second ++ ((11 ∷ 0 ∷ 0 ∷ 0 ∷ 0 ∷ 0 ∷ 0 ∷ 0 ∷ []) ++ (0 ∷ 19 ∷ 0 ∷ 2 ∷ 0 ∷ 0 ∷ 0 ∷ 0 ∷ 0 ∷ 1 ∷ 0x44 ∷ 0x42 ∷ []))))))
+
+abbrev pub entry : ℕ → ℕ → ℕ → List ℕ
+entry kind offset size = kind ∷ 0 ∷ 0 ∷ offset ∷ 0 ∷ size ∷ 0 ∷ 1 ∷ []
+
+-- A statement of the code given with the place and the source given, beside A, which is A4, N, which is D2, and twenty digits as literals.
+abbrev pub with-parts : ℕ → List ℕ → ℕ → List ℕ → Answer
+with-parts code place b source =
+    answered
+    (checkOf
+    (replicate 10 48
+    ++ ((0 ∷ 0 ∷ 0 ∷ 0 ∷ 0 ∷ 4 ∷ 0 ∷ 1 ∷ 1 ∷ 0 ∷ 0 ∷ 4 ∷ 0 ∷ 2 ∷ 0 ∷ 1 ∷ [])
+    ++ (place
+    ++ (source
+    ++ (replicate 20 49
+    ++ ((code ∷ 0 ∷ 0 ∷ 0 ∷ 0 ∷ b ∷ 0 ∷ 0 ∷ []) ++ (0 ∷ 10 ∷ 0 ∷ 2 ∷ 0 ∷ length (place ++ source) ∷ 0 ∷ 20 ∷ 0 ∷ 1 ∷ 0x44 ∷ 0x42 ∷ []))))))))
+
+abbrev pub of-set : List ℕ → List ℕ → Answer
+of-set place source = with-parts 1 place (length place) source
+
+-- A; N; a text of one character.
+abbrev pub A : List ℕ
+A = 2 ∷ 0 ∷ 0 ∷ 0 ∷ []
+
+abbrev pub N : List ℕ
+N = 2 ∷ 0 ∷ 1 ∷ 0 ∷ []
+
+abbrev pub X : List ℕ
+X = 6 ∷ 0 ∷ 0 ∷ 0 ∷ 1 ∷ 0 ∷ []
+
+-- A computed GOTO as the last statement: behind it stands a 7, the first byte of the trailer.
+abbrev pub last-of-all : Answer
+last-of-all =
+    answered
+    (checkOf
+    (replicate 1792 48
+    ++ ((1 ∷ 0 ∷ 0 ∷ 1 ∷ 0 ∷ 49 ∷ []) ++ ((12 ∷ 0 ∷ 0 ∷ 1 ∷ 0 ∷ 0 ∷ 0 ∷ 0 ∷ []) ++ (7 ∷ 0 ∷ 0 ∷ 0 ∷ 0 ∷ 5 ∷ 0 ∷ 1 ∷ 0 ∷ 1 ∷ 0x44 ∷ 0x42 ∷ [])))))
+
+-- As many numbers, and then as many sums.
+abbrev pub sums : ℕ → ℕ → Sort
+sums n k = sortFrom unit (replicate n (item.Number 0 2) ++ replicate k (item.Operator op.Add)) 0 sort.Number
+
+-- ---- expressions, states and lengths
+
+-- A unit of no fields; the operator o on one and on two of the numbers 0 to 30.
+abbrev pub bare : List Item → Answer
+bare list = accessed (unitOver 1 0 (λ f. record { kind = kind.Alpha; zero = 0; offset = 0; size = 1; count = 1 }) (λ e. [])) [] list
+
+abbrev pub of-one : ℕ → ℕ → Answer
+of-one o x = bare (itemsAt (1 ∷ 0 ∷ 2 * x ∷ 2 ∷ o ∷ 0 ∷ []) 0)
+
+abbrev pub of-two : ℕ → ℕ → ℕ → Answer
+of-two o x y = bare (itemsAt (1 ∷ 0 ∷ 2 * x ∷ 2 ∷ 1 ∷ 0 ∷ 2 * y ∷ 2 ∷ o ∷ 0 ∷ []) 0)
+
+-- A decimal of 10 characters before 30 other bytes.
+abbrev pub wide : List Item → Answer
+wide list = accessed (unitOver 40 1 (λ f. record { kind = kind.Decimal; zero = 0; offset = 0; size = 10; count = 1 }) (λ e. [])) (replicate 40 49) list
+
+-- Of a unit of 9 statements: a state at the statement given, with the calls given, all to the number given, and zeros behind them.
+abbrev pub sound : ℕ → ℕ → ℕ → ℕ → Bool
+sound at depth to zeros = soundb 9 (record { at = at; depth = depth; returns = replicate depth to ++ replicate zeros 0 })
+
+abbrev pub parts : ℕ → ℕ → ℕ → ℕ → ℕ → Parts
+parts d f e p n = record { d = d; f = f; e = e; p = p; n = n; digits = limit; sign = base; top = top }
+
+-- ---- moves
+
+-- D2 "2s", which is -23, A5 " 1-2 " and A4 "abcd".
+abbrev movedField : ℕ → Field
+movedField zero = record { kind = kind.Decimal; zero = 0; offset = 0; size = 2; count = 1 }
+movedField (suc zero) = record { kind = kind.Alpha; zero = 0; offset = 2; size = 5; count = 1 }
+movedField (suc (suc f)) = record { kind = kind.Alpha; zero = 0; offset = 7; size = 4; count = 1 }
+
+abbrev movedData : List ℕ
+movedData = bytes "2s 1-2 abcd"
+
+abbrev placeAndSource : List Item → List Item → ℕ → List Item
+placeAndSource a b zero = a
+placeAndSource a b (suc e) = b
+
+-- What a statement of the code given leaves over them, with the place a and the source or number b; where it goes on, if it is not the next.
+abbrev pub moved : ℕ → List Item → List Item → Answer
+moved code a b = gone (turnBy c 0 movedData (verbOf code) (c .statement 0) .flow)
+  where
+    c : Code
+    c = unitOver 11 3 movedField (placeAndSource a b)
+
+    gone : Flow → Answer
+    gone (flow.Bad f) = stop (faultNumber f)
+    gone flow.Next = text (applied c movedData (turnBy c 0 movedData (verbOf code) (c .statement 0) .write))
+    gone (flow.Goto i) = number (pos i)
+    gone (flow.Call i) = number (pos i)
+    gone flow.Return = stop 0
+    gone flow.Stop = stop 0
