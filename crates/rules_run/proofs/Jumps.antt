@@ -96,23 +96,13 @@ store-verb (suc (suc (suc (suc (suc zero))))) l m = (act.Case true, refl)
 store-verb (suc (suc (suc (suc (suc (suc zero)))))) l m = (act.Case false, refl)
 store-verb (suc (suc (suc (suc (suc (suc (suc code))))))) l m = absurd (omega arith)
 
-back-store : (x : Act) → codeBack (verb.At x) ≤ 6
-back-store act.Set = omega arith
-back-store act.Clear = omega arith
-back-store (act.Count true) = omega arith
-back-store (act.Count false) = omega arith
-back-store (act.Case true) = omega arith
-back-store (act.Case false) = omega arith
-
-abbrev Stores : Verb → Type 0
-Stores (verb.At x) = Unit {0}
-Stores verb.Goto = ⊥
-Stores verb.IfZero = ⊥
-Stores verb.Call = ⊥
-Stores verb.Return = ⊥
-Stores verb.Stop = ⊥
-Stores verb.Computed = ⊥
-Stores verb.Bad = ⊥
+back-store : (x : Act) → (1 ≤ codeBack (verb.At x)) × (codeBack (verb.At x) ≤ 6)
+back-store act.Set = (omega arith, omega arith)
+back-store act.Clear = (omega arith, omega arith)
+back-store (act.Count true) = (omega arith, omega arith)
+back-store (act.Count false) = (omega arith, omega arith)
+back-store (act.Case true) = (omega arith, omega arith)
+back-store (act.Case false) = (omega arith, omega arith)
 
 number-nothing : (r : Num) (k : ℤ → Flow) → onNumber r k .write ≡ write.Nothing
 number-nothing (Value v) k = refl
@@ -127,31 +117,30 @@ module _ (c : Code) (s : State) (d : List ℕ) where
       (subst (λ (v : Verb). Onward (turnBy c (s .at) d v (c .statement (s .at)) .flow)) (sym (x .1))
       (act-case (λ u. Onward (u .flow)) (λ f w. tt) (λ w. tt) c d (s .at) (x .0) (c .statement (s .at)))) e
 
-  nothing-by : (v : Verb) → (Stores v → ⊥) → turnBy c (s .at) d v (c .statement (s .at)) .write ≡ write.Nothing
+  -- What is stored by a statement that is none of codes 1 to 6: nothing.
+  nothing-by : (v : Verb) → (turnBy c (s .at) d v (c .statement (s .at)) .write ≡ write.Nothing) ⊎ ((x : Act) × (v ≡ verb.At x))
   unfolding turnBy
-  nothing-by (verb.At x) n = absurd (n tt)
-  nothing-by verb.Goto n = refl
-  nothing-by verb.IfZero n = number-nothing (numberOf c d (workedOf c d (c .items (c .statement (s .at) .b)))) (ifZero (c .statement (s .at) .c))
-  nothing-by verb.Call n = refl
-  nothing-by verb.Return n = refl
-  nothing-by verb.Stop n = refl
-  nothing-by verb.Computed n = number-nothing (numberOf c d (workedOf c d (c .items (c .statement (s .at) .b)))) (choose (s .at) (c .statement (s .at) .a))
-  nothing-by verb.Bad n = refl
+  nothing-by (verb.At x) = inr (x, refl)
+  nothing-by verb.Goto = inl refl
+  nothing-by verb.IfZero = inl (number-nothing (numberOf c d (workedOf c d (c .items (c .statement (s .at) .b)))) (ifZero (c .statement (s .at) .c)))
+  nothing-by verb.Call = inl refl
+  nothing-by verb.Return = inl refl
+  nothing-by verb.Stop = inl refl
+  nothing-by verb.Computed = inl (number-nothing (numberOf c d (workedOf c d (c .items (c .statement (s .at) .b)))) (choose (s .at) (c .statement (s .at) .a)))
+  nothing-by verb.Bad = inl refl
 
   pub jumps-keep-data : 7 ≤ c .statement (s .at) .code → dataAfter c s d ≡ d
   unfolding turnOf applied
-  jumps-keep-data l = rw (nothing-by (verbOf (c .statement (s .at) .code)) (λ z. no-store (verbOf (c .statement (s .at) .code)) refl z))
+  jumps-keep-data l = by (nothing-by (verbOf (c .statement (s .at) .code)))
     where
-      no-store : (v : Verb) → verbOf (c .statement (s .at) .code) ≡ v → Stores v → ⊥
-      no-store (verb.At x) e z = by (verb-code (c .statement (s .at) .code))
-        where
-          by : (verbOf (c .statement (s .at) .code) ≡ verb.Bad) ⊎ (codeBack (verbOf (c .statement (s .at) .code)) ≡ c .statement (s .at) .code) → ⊥
-          by (inl q) = subst Stores (sym e ∙ q) tt
-          by (inr q) = omega (arith, l, sym q ∙ ap codeBack e, back-store x)
-      no-store verb.Goto e z = z
-      no-store verb.IfZero e z = z
-      no-store verb.Call e z = z
-      no-store verb.Return e z = z
-      no-store verb.Stop e z = z
-      no-store verb.Computed e z = z
-      no-store verb.Bad e z = z
+      none : (x : Act) → verbOf (c .statement (s .at) .code) ≡ verb.At x
+          → (verbOf (c .statement (s .at) .code) ≡ verb.Bad) ⊎ (codeBack (verbOf (c .statement (s .at) .code)) ≡ c .statement (s .at) .code)
+          → ⊥
+      none x e (inl q) = let z : _≡_ {A = Verb} verb.Bad (verb.At x) = sym q ∙ e in omega (arith, ap codeBack z, back-store x .0)
+      none x e (inr q) = omega (arith, l, sym q ∙ ap codeBack e, back-store x .1)
+
+      by : (turnBy c (s .at) d (verbOf (c .statement (s .at) .code)) (c .statement (s .at)) .write ≡ write.Nothing)
+          ⊎ ((x : Act) × (verbOf (c .statement (s .at) .code) ≡ verb.At x))
+          → dataAfter c s d ≡ d
+      by (inl e) = rw e
+      by (inr (x, e)) = absurd (none x e (verb-code (c .statement (s .at) .code)))
