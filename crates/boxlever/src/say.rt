@@ -444,8 +444,26 @@ pub fn cut_to(l: Line, room: usize) -> Line {
     put_text(cut_whole(l, less(room, 2)), b"..")
 }
 
-// Puts a file's name or another word of the call, which leaves room for what is said of it.
+// Whether a word of the call has a space or a quote, and so might pass for more than one word.
+fn is_several(s: &[u8]) -> bool {
+    let mut i = 0;
+    while i < s.len() {
+        if s[i] == b' ' {
+            return true;
+        }
+        if s[i] == b'"' {
+            return true;
+        }
+        i += 1;
+    }
+    false
+}
+
+// Puts a file's name or another word of the call, in quotes where it needs them, which leaves room for what is said of it.
 pub fn put_given(l: Line, s: &[u8]) -> Line {
+    if is_several(s) {
+        return cut_to(put_quoted(l, s), GIVEN);
+    }
     cut_to(put_shown(l, s, false), GIVEN)
 }
 
