@@ -58,11 +58,11 @@ ifeq ($(LIB),target/staticlib)
 endif
 	@cmp -s "$(LIB)/libdibol_c.a" build/lib/libdibol.a || install -m 644 "$(LIB)/libdibol_c.a" build/lib/libdibol.a
 
-# What stands below PREFIX: the library for C, the manual pages, the pages of docs/ with the examples beside them, and the programs: the
-# owner's program with the wrapper that gives it an exit status before it, the bench program by a longer name, and dibasm.
+# What stands below PREFIX: the library for C, the manual pages, the pages of docs/ with CHANGES.md and the examples, and the programs:
+# the owner's program with the wrapper that gives it an exit status before it, the bench program by a longer name, and dibasm.
 to := $(DESTDIR)$(PREFIX)
 manual := $(notdir $(wildcard man/*.[1-8]))
-documents := $(notdir $(wildcard docs/*.md))
+documents := CHANGES.md $(wildcard docs/*.md)
 examples := $(notdir $(wildcard examples/*.txt examples/*.c))
 
 install: besides := bench boxlever
@@ -74,7 +74,7 @@ install: lib ## Installs the programs, the library, the pages and the examples: 
 	@version=$$(sed -n 's/^.define DIBOL_VERSION "\(.*\)"/\1/p' "$(INCLUDE)/dibol.h"); \
 	sed "s|@PREFIX@|$(PREFIX)|; s|@VERSION@|$$version|" include/dibol.pc.in > "$(to)/lib/pkgconfig/dibol.pc"
 	@for page in $(manual); do install -D -m 644 man/$$page "$(to)/share/man/man$${page##*.}/$$page"; done
-	@for page in $(documents); do install -D -m 644 docs/$$page "$(to)/share/doc/boxlever/$$page"; done
+	@for page in $(documents); do install -D -m 644 $$page "$(to)/share/doc/boxlever/$${page##*/}"; done
 	@for file in $(examples); do install -D -m 644 examples/$$file "$(to)/share/doc/boxlever/examples/$$file"; done
 	install -m 755 tools/boxlever "$(to)/bin/boxlever"
 	install -m 755 target/bin/boxlever "$(to)/bin/boxlever-program"
@@ -84,7 +84,7 @@ install: lib ## Installs the programs, the library, the pages and the examples: 
 uninstall: ## Removes what was installed there.
 	rm -f "$(to)/lib/libdibol.a" "$(to)/include/dibol.h" "$(to)/lib/pkgconfig/dibol.pc"
 	@for page in $(manual); do rm -f "$(to)/share/man/man$${page##*.}/$$page"; done
-	@for page in $(documents); do rm -f "$(to)/share/doc/boxlever/$$page"; done
+	@for page in $(documents); do rm -f "$(to)/share/doc/boxlever/$${page##*/}"; done
 	@for file in $(examples); do rm -f "$(to)/share/doc/boxlever/examples/$$file"; done
 	@for program in boxlever boxlever-program boxlever-bench dibasm; do rm -f "$(to)/bin/$$program"; done
 	@rmdir "$(to)/share/doc/boxlever/examples" "$(to)/share/doc/boxlever" 2> /dev/null || true

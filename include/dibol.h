@@ -2,12 +2,12 @@
 
    The library is proved: for every input a call returns, touches nothing but
    the memory that it is lent, and gives the one outcome that the written rules
-   allow (docs/SETTLED.md names the theorems, docs/TRUST.md what they rest on).
+   allow (SETTLED.md names the theorems, TRUST.md what they rest on).
    This header is not proved; the tests compare it with the library.
 
-   docs/ENCODING.md describes the coded unit, docs/OWNER.md what each stop and
-   each fence rule means, docs/HOST.md how a host uses these calls and what
-   they cost.
+   ENCODING.md describes the coded unit, OWNER.md what each stop and each fence
+   rule means, HOST.md how a host uses these calls and what they cost. These
+   pages are installed in share/doc/boxlever, and are in docs/ in the source.
 
    Any bytes may be lent as a unit or as data, and any numbers as a resume
    state: anything invalid is refused with a stop number. There is nothing to
@@ -107,7 +107,7 @@ enum dibol_breach {
    - Keep each state with its unit and its data. It bears no mark of its unit:
      any state that is sound for the unit is accepted.
    - An allowance is not a time, and each call checks the unit first:
-     docs/HOST.md has figures. An allowance of 0 gives DIBOL_SPENT, or DIBOL_END
+     HOST.md has figures. An allowance of 0 gives DIBOL_SPENT, or DIBOL_END
      at the end.
 
    The unit is checked first (1 to 5). Then the buffer must have the unit's D
@@ -141,7 +141,7 @@ uint64_t dibol_check(const uint8_t *unit, size_t unit_len,
 /* Checks a unit, holds each of its statements to the fence rules, and gives a
    verdict. `answer` gets two numbers: for DIBOL_NO the first statement that
    breaks a rule and the number of the rule, for DIBOL_REFUSED the stop (1 to 5)
-   and its place, for DIBOL_YES 0 and 0. docs/OWNER.md says what a yes promises,
+   and its place, for DIBOL_YES 0 and 0. OWNER.md says what a yes promises,
    for data whose decimal fields are all valid. A unit with a no can still be
    run. */
 uint64_t dibol_fence(const uint8_t *unit, size_t unit_len,

@@ -6,7 +6,7 @@
     dibasm dis FILE.unit [-o FILE.txt]   write the text of a unit
     dibasm test FILES..                  check that each unit comes back from its text
 
-docs/DIBASM.md has the text form. What is wrong with a file is reported as FILE: line N: WORDS; then the exit status is 1.
+The page DIBASM.md has the text form. What is wrong with a file is reported as FILE: line N: WORDS; then the exit status is 1.
 """
 
 import difflib
