@@ -1,14 +1,17 @@
 //! The program `second`: the second interpreter's answers for units in files.
 
+mod shown;
 mod table;
 mod timing;
 
 use second::{answer, bench, breach, image, literal_range, read_unit, run, words};
 use second::{State, BENCH_ALLOWANCE};
+use shown::shown;
 use std::env::args_os;
 use std::ffi::{OsStr, OsString};
 use std::fs;
 use std::io::{self, BufRead, Write};
+use std::os::unix::ffi::OsStrExt;
 use std::process::ExitCode;
 use std::str::FromStr;
 
@@ -60,10 +63,11 @@ fn show_run(file: &OsStr, allowance: u64) -> io::Result<()> {
     let mut out = io::stdout().lock();
     writeln!(
         out,
-        "stop {} at {} after {} statements: {}",
+        "stop {} at {} after {} statement{}: {}",
         outcome.stop,
         outcome.place,
         outcome.count,
+        if outcome.count == 1 { "" } else { "s" },
         words(outcome.stop).unwrap_or_default()
     )?;
     let open = &outcome.state.returns[..outcome.state.depth];
@@ -71,8 +75,7 @@ fn show_run(file: &OsStr, allowance: u64) -> io::Result<()> {
         writeln!(out, "open calls, to return to {open:?}")?;
     }
     if !data.is_empty() {
-        out.write_all(&data)?;
-        writeln!(out)?;
+        writeln!(out, "{}", shown(&data))?;
     }
     Ok(())
 }
@@ -108,12 +111,12 @@ fn batch() -> io::Result<()> {
 }
 
 fn read_file(file: &OsStr) -> io::Result<Vec<u8>> {
-    let told = |error| io::Error::other(format!("{}: {error}", file.to_string_lossy()));
+    let told = |error| io::Error::other(format!("{}: {error}", shown(file.as_bytes())));
     fs::read(file).map_err(told)
 }
 
 fn number<T: FromStr>(text: &OsStr) -> io::Result<T> {
     let number = text.to_str().and_then(|text| text.parse().ok());
-    let told = || io::Error::other(format!("{} is no number here", text.to_string_lossy()));
+    let told = || io::Error::other(format!("{} is no number here", shown(text.as_bytes())));
     number.ok_or_else(told)
 }

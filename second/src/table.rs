@@ -1,5 +1,6 @@
 //! Tables: a row for each file and a last line with the sums.
 
+use crate::shown::shown;
 use second::{breach, fence, words, Fence, Refusal, LONGEST};
 use std::ffi::OsStr;
 use std::fs;
@@ -43,14 +44,14 @@ fn table(
     let mut counts = vec![0; sums.len()];
     let mut unread = 0;
     for file in files {
+        let name = shown(file.as_bytes());
         if let Ok(unit) = fs::read(file) {
             let (sum, words) = answer(&unit);
             counts[sum] += 1;
-            let start = format!("{:>6}  ", length(&unit));
-            row(&mut out, &start, file, &format!(" {words}"))?;
+            writeln!(out, "{:>6}  {name} {words}", length(&unit))?;
         } else {
             unread += 1;
-            row(&mut out, "unreadable ", file, "")?;
+            writeln!(out, "unreadable {name}")?;
         }
     }
     let count: usize = counts.iter().sum();
@@ -71,11 +72,4 @@ fn length(unit: &[u8]) -> String {
         return format!(">{LONGEST}");
     }
     unit.len().to_string()
-}
-
-/// One row of the table. The file is named as it was given, whatever the bytes are.
-fn row(out: &mut impl Write, start: &str, file: &OsStr, end: &str) -> io::Result<()> {
-    write!(out, "{start}")?;
-    out.write_all(file.as_bytes())?;
-    writeln!(out, "{end}")
 }

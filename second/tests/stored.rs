@@ -5,8 +5,11 @@ use second::{image, run, Outcome, State};
 use std::ffi::OsStr;
 use std::fs;
 use std::io::Write;
+use std::os::unix::ffi::OsStrExt;
 use std::path::{Path, PathBuf};
-use std::process::{Command, Stdio};
+use std::process::{Command, Output, Stdio};
+
+const TRIALS: &str = env!("CARGO_TARGET_TMPDIR");
 
 /// The units in a folder, in the order of their names.
 fn units(folder: &Path) -> Vec<PathBuf> {
@@ -18,19 +21,26 @@ fn units(folder: &Path) -> Vec<PathBuf> {
     files
 }
 
-/// What the program writes, given some words and standard input.
+/// What the program writes, given some words and standard input. It has an answer.
 fn program(words: &[&OsStr], input: &[u8]) -> Vec<u8> {
+    let output = called(words, input);
+    assert!(output.status.success());
+    output.stdout
+}
+
+/// What comes of a call of the program with some words and standard input, in a folder for trials.
+fn called(words: &[&OsStr], input: &[u8]) -> Output {
     let mut program = Command::new(env!("CARGO_BIN_EXE_second"))
         .args(words)
+        .current_dir(TRIALS)
         .stdin(Stdio::piped())
         .stdout(Stdio::piped())
+        .stderr(Stdio::piped())
         .spawn()
         .unwrap();
     // A program that has read enough may have closed its input before all of it was written.
     let _ = program.stdin.take().unwrap().write_all(input);
-    let output = program.wait_with_output().unwrap();
-    assert!(output.status.success());
-    output.stdout
+    program.wait_with_output().unwrap()
 }
 
 #[test]
@@ -49,6 +59,48 @@ fn batch_answers_each_line() {
     assert_eq!(answers.len(), 4);
     assert_eq!((answers[0], answers[3]), ("1 0", "refused 1 0"));
     assert!(answers[1..3].iter().all(|answer| answer.starts_with('?')));
+}
+
+#[test]
+fn names_and_data_are_shown_in_one_notation() {
+    // A unit of one statement, CLEAR of its only byte, which is 1B at first, and one that breaks off.
+    let clear = *b"\x1B\0\0\0\0\0\x01\0\x01\x02\0\0\0\x02\0\0\0\0\0\0\0\
+        \0\x01\0\x01\0\x04\0\0\0\x01DB";
+    let [sound, short, missing] = [
+        &b"a\nb\x1B[31m\\.unit"[..],
+        b"caf\xE9\x9B.unit",
+        b"miss\x1B\xE9",
+    ]
+    .map(OsStr::from_bytes);
+    fs::write(Path::new(TRIALS).join(sound), clear).unwrap();
+    fs::write(Path::new(TRIALS).join(short), b"DB").unwrap();
+    let rows = r"    33  a\x0Ab\x1B[31m\\.unit yes
+     2  caf\xE9\x9B.unit refused 1 at 0: the length, the mark or the parts do not fit
+unreadable miss\x1B\xE9
+2 units: 1 yes, 0 no, 1 refused, 1 not read
+";
+    for word in ["check", "fence"] {
+        let found = program(&[OsStr::new(word), sound, short, missing], b"");
+        assert_eq!(String::from_utf8(found).unwrap(), rows, "{word}");
+    }
+    let run = |more: &[&OsStr]| called(&[&[OsStr::new("run")], more].concat(), b"");
+    let found = run(&[sound, OsStr::new("0")]).stdout;
+    let spent = "stop 30 at 0 after 0 statements: the allowance is spent before the end\n\\x1B\n";
+    assert_eq!(String::from_utf8(found).unwrap(), spent);
+    let found = run(&[sound]).stdout;
+    let ended = "stop 0 at 1 after 1 statement: the end is reached\n \n";
+    assert_eq!(String::from_utf8(found).unwrap(), ended);
+    for (words, told) in [
+        (
+            &[missing][..],
+            "miss\\x1B\\xE9: No such file or directory (os error 2)\n",
+        ),
+        (&[sound, missing], "miss\\x1B\\xE9 is no number here\n"),
+    ] {
+        let found = run(words);
+        assert_eq!(found.status.code(), Some(2));
+        assert_eq!(String::from_utf8(found.stderr).unwrap(), told);
+    }
 }
 
 /// A run in two parts, of at most `first` statements and then of the rest of `allowance`.
