@@ -537,12 +537,19 @@ def unescaped(escape):
 
 def asm(text):
     """The unit that a text makes."""
+    return named_asm(text)[0]
+
+
+def named_asm(text):
+    """The unit that a text makes, and the names that the text has for its fields, by their numbers. Those of a raw unit have none."""
     assembler = Assembler()
     try:
         assembler.lines(text.split("\n"))
-        return assembler.unit()
+        unit = assembler.unit()
     except Fault as fault:
         raise Fault(f"line {assembler.at}: {fault}") from None
+    names = assembler.names["field"] if assembler.raw is None else {}
+    return unit, {number: name for name, (number, _) in names.items()}
 
 
 class Disassembler:
