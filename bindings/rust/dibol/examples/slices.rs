@@ -6,19 +6,36 @@
 //!     DIBOL_LIB_DIR=$PWD/../../build/lib cargo run --example slices -- FILE [SLICE]
 
 use dibol::{Outcome, State, Stop, Unit, Verdict};
-use std::error::Error;
+use std::ffi::OsStr;
+use std::os::unix::ffi::OsStrExt;
+use std::process::ExitCode;
 use std::{env, fs};
 
 /// The statements that the whole run may complete.
 const STATEMENTS_MOST: u64 = 100_000;
 
-fn main() -> Result<(), Box<dyn Error>> {
-    let mut words = env::args().skip(1);
-    let file = words.next().ok_or("usage: slices FILE [SLICE]")?;
-    let slice = words.next().map_or(Ok(7), |word| word.parse())?;
+fn main() -> ExitCode {
+    let words: Vec<_> = env::args_os().skip(1).collect();
+    let told = match &words[..] {
+        [file] => host(file, 7),
+        [file, slice] => number(slice).and_then(|slice| host(file, slice)),
+        _ => Err("usage: slices FILE [SLICE]".to_string()),
+    };
+    match told {
+        Ok(()) => ExitCode::SUCCESS,
+        Err(words) => {
+            eprintln!("{words}");
+            ExitCode::FAILURE
+        }
+    }
+}
 
-    let bytes = fs::read(&file)?;
-    let unit = Unit::check(&bytes)?;
+/// Checks the unit in a file, asks the fence, runs it over a copy of its image and prints the data;
+/// or gives in words what is wrong.
+fn host(file: &OsStr, slice: u64) -> Result<(), String> {
+    let name = shown(file.as_bytes());
+    let bytes = fs::read(file).map_err(|error| format!("{name}: {error}"))?;
+    let unit = Unit::check(&bytes).map_err(|error| format!("{name}: {error}"))?;
     println!("unit {} bytes, data {}", bytes.len(), unit.image().len());
     match unit.fence() {
         Verdict::Yes => println!("fence yes"),
@@ -33,16 +50,23 @@ fn main() -> Result<(), Box<dyn Error>> {
     Ok(())
 }
 
-/// Bytes of the data so that none of them commands a terminal: printable ASCII as it is, but a
-/// backslash twice, and any other byte as \xHH.
-fn shown(data: &[u8]) -> String {
-    data.iter()
-        .map(|&byte| match byte {
-            b'\\' => "\\\\".to_string(),
-            b' '..=b'~' => char::from(byte).to_string(),
-            _ => format!("\\x{byte:02X}"),
-        })
-        .collect()
+fn number(word: &OsStr) -> Result<u64, String> {
+    let number = word.to_str().and_then(|word| word.parse().ok());
+    number.ok_or_else(|| format!("{} is no number here", shown(word.as_bytes())))
+}
+
+/// Bytes that come from outside, so that none of them commands a terminal: printable ASCII as it is,
+/// but a backslash twice, and any other byte as \xHH.
+fn shown(bytes: &[u8]) -> String {
+    let mut text = String::new();
+    for &byte in bytes {
+        match byte {
+            b'\\' => text.push_str("\\\\"),
+            b' '..=b'~' => text.push(char::from(byte)),
+            _ => text.push_str(&format!("\\x{byte:02X}")),
+        }
+    }
+    text
 }
 
 /// Runs a unit over its data in slices, and prints how many there were.
