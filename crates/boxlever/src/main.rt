@@ -277,7 +277,7 @@ fn answer_word(name: &[u8], from: usize) -> u8 {
 // Answers a call whose word is an argument, and gives the exit status.
 fn answer(at: usize) -> u8 {
     if os::arg_count() <= at {
-        return usage(b"no word", b" is given");
+        return usage(b"nothing", b" is asked");
     }
     let mut name = io::buffer();
     let n = argument(at, &mut name);
