@@ -24,7 +24,7 @@ fn say_stop(number: u8, place: u16, count: u64) {
 
 // Runs a unit over its data, which starts as its image, the first bytes of the unit; and writes both lines.
 fn run_data(unit: &[u8], data: &mut [u8]) {
-    letters::fit(data, unit);
+    alpha::fit(data, unit);
     let out = dibol::run(unit, data, dibol::start(), 100000);
     let stop = out.stop;
     say_stop(dibol::stop_number(stop), out.place, out.count);

@@ -40,7 +40,7 @@ ghost use mathlib.Core.Path.{_≡_};
 ghost use mathlib.Core.Bool.{true};
 ghost use Rattle.rules_unit.specs.Decode.{Fills, Dialect};
 ghost use Rattle.rules_fence.specs.Bounds.{boundedb};
-ghost use Rattle.bounds.specs.Asked.{Small};
+ghost use Rattle.fence_bounds.specs.Asked.{Small};
 
 // ---- the bytes of a reference
 
@@ -53,7 +53,7 @@ fn span_of(unit: &[u8], parts: Parts, how: How, i: u16, s: Seen) -> Span
     if parts.f <= i {
         return Span::Outside; // Never so: the unit passed its check.
     }
-    bounds::fixed_span(unit, parts, how, i, s)
+    fence_bounds::fixed_span(unit, parts, how, i, s)
 }
 
 // Puts ` bytes 3 to 7`, or ` byte 3`.
@@ -80,7 +80,7 @@ fn put_field(l: Line, unit: &[u8], parts: Parts, i: u16) -> Line {
     let mut next = put_text(l, b"; ");
     next = put_name(next, field, i);
     next = put_text(next, b" has");
-    next = put_bytes(next, offset, less(entries::end_of(field), offset));
+    next = put_bytes(next, offset, less(unit_fields::end_of(field), offset));
     put_elements(next, field)
 }
 
@@ -103,7 +103,7 @@ fn put_data(l: Line, parts: Parts, span: Span) -> Line {
 // Whether a field is decimal and shares a byte with a span.
 fn is_shared(field: Field, span: Span) -> bool {
     let kind = field.kind;
-    if !sorts::is_decimal(kind) {
+    if !unit_sorts::is_decimal(kind) {
         return false;
     }
     match span {
@@ -111,7 +111,7 @@ fn is_shared(field: Field, span: Span) -> bool {
             if sum(start, len) <= field.offset as usize {
                 return false;
             }
-            start < entries::end_of(field)
+            start < unit_fields::end_of(field)
         }
         Span::Outside => false,
     }
@@ -140,7 +140,7 @@ fn put_shared(l: Line, unit: &[u8], parts: Parts, span: Span) -> Line {
 
 // Puts the bytes of the field of a reference with bounds. Without bounds a reference names its field's first element, and nothing is put.
 fn put_own(l: Line, unit: &[u8], parts: Parts, how: How, i: u16) -> Line {
-    if sorts::how_takes(how) == 0 {
+    if unit_sorts::how_takes(how) == 0 {
         return l;
     }
     put_field(l, unit, parts, i)
@@ -165,7 +165,7 @@ fn say_unknown(l: Line, unit: &[u8], parts: Parts, i: u16) {
 
 // Whether nothing is to be told of a reference: it has no bounds and is on no decimal field.
 fn is_plain(unit: &[u8], parts: Parts, how: How, span: Span, aimed: bool) -> bool {
-    if 0 < sorts::how_takes(how) {
+    if 0 < unit_sorts::how_takes(how) {
         return false;
     }
     if !aimed {
@@ -183,7 +183,7 @@ fn say_bounded(l: Line, unit: &[u8], parts: Parts, how: How, i: u16, s: Seen, wr
     let span = span_of(unit, parts, how, i, s);
     let field = field_of(unit, parts, i);
     let kind = field.kind;
-    let aimed = if sorts::is_decimal(kind) {
+    let aimed = if unit_sorts::is_decimal(kind) {
         false
     } else {
         written
@@ -199,7 +199,7 @@ fn say_reference(l: Line, unit: &[u8], parts: Parts, how: How, i: u16, s: Seen, 
     requires { ⌜ Fills (now unit) parts ⌝ }
     requires { ⌜ Small s ⌝ }
 {
-    if bounds::bounded(how, s) {
+    if fence_bounds::bounded(how, s) {
         say_bounded(l, unit, parts, how, i, s, written);
         return;
     }
@@ -250,15 +250,15 @@ fn say_references(unit: &[u8], parts: Parts, e: u16, written: bool)
     let mut from = e as usize;
     let mut left = es.len();
     while 0 < left {
-        let item = decode::item_at(es, from);
+        let item = unit_decode::item_at(es, from);
         if is_done(h, item) {
             say_untold(item);
             return;
         }
         h = hold_item(h, unit, parts, item);
         say_item(h, unit, parts, item, s, written);
-        from = sum(from, decode::width_of(item));
-        s = bounds::seen_after(unit, parts, s, item);
+        from = sum(from, unit_decode::width_of(item));
+        s = fence_bounds::seen_after(unit, parts, s, item);
         left -= 1;
     }
 }
@@ -284,8 +284,8 @@ fn say_uses(unit: &[u8], parts: Parts, s: Statement)
     requires { ⌜ Dialect parts ⌝ }
 {
     let mut k: usize = 0;
-    while k < uses::COUNT {
-        say_use(unit, parts, uses::use_at(s, k));
+    while k < unit_uses::COUNT {
+        say_use(unit, parts, unit_uses::use_at(s, k));
         k += 1;
     }
 }

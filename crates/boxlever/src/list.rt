@@ -88,7 +88,7 @@ fn say_parts(parts: Parts) -> usize {
 
 // The statement that a statement goes to; one past the last where it goes to none.
 fn target_of(s: Statement, n: u16) -> u16 {
-    let row = decode::row_of(decode::verb_of(s.code));
+    let row = unit_decode::row_of(unit_decode::verb_of(s.code));
     let c = row.c;
     match c {
         Role::Target => s.c,
@@ -144,7 +144,7 @@ fn put_broken(l: Line, unit: &[u8], i: u16) -> Line {
 
 // Where the statement i stands in the unit.
 fn offset_of(parts: Parts, i: u16) -> usize {
-    let statements = sum(decode::literals_offset(parts), parts.p as usize);
+    let statements = sum(unit_decode::literals_offset(parts), parts.p as usize);
     sum(statements, i as usize * 8)
 }
 
@@ -241,7 +241,7 @@ fn say_trailer(unit: &[u8]) {
         return;
     }
     say(b"\n");
-    let end = say_parts(decode::parts_of(unit));
+    let end = say_parts(unit_decode::parts_of(unit));
     say_unfilled(end, n);
 }
 

@@ -27,13 +27,13 @@ fn no_field() -> Field {
 
 // The field i.
 pub fn field_of(unit: &[u8], parts: Parts, i: u16) -> Field {
-    if decode::full_length(parts) != unit.len() {
+    if unit_decode::full_length(parts) != unit.len() {
         return no_field();
     }
     if parts.f <= i {
         return no_field();
     }
-    decode::field(unit, parts, i)
+    unit_decode::field(unit, parts, i)
 }
 
 // A statement of no code.
@@ -49,29 +49,29 @@ fn no_statement() -> Statement {
 
 // The statement i.
 pub fn statement_of(unit: &[u8], parts: Parts, i: u16) -> Statement {
-    if decode::full_length(parts) != unit.len() {
+    if unit_decode::full_length(parts) != unit.len() {
         return no_statement();
     }
     if parts.n <= i {
         return no_statement();
     }
-    decode::statement(unit, parts, i)
+    unit_decode::statement(unit, parts, i)
 }
 
 // The bytes of the expressions.
 pub fn expressions_of(unit: &[u8], parts: Parts) -> &[u8] {
     part(
         unit,
-        decode::expressions_offset(parts),
-        decode::long(parts.e),
+        unit_decode::expressions_offset(parts),
+        unit_decode::long(parts.e),
     )
 }
 
 // The len bytes from a place of the literals on.
 pub fn literal_of(unit: &[u8], parts: Parts, place: u16, len: u16) -> &[u8] {
-    let at = decode::literals_offset(parts);
-    let literals = part(unit, at, decode::long(parts.p));
-    part(literals, decode::long(place), decode::long(len))
+    let at = unit_decode::literals_offset(parts);
+    let literals = part(unit, at, unit_decode::long(parts.p));
+    part(literals, unit_decode::long(place), unit_decode::long(len))
 }
 
 // What is no number.
@@ -85,7 +85,7 @@ fn no_figures() -> Figures {
 
 // A decimal in figures, as the unit's dialect writes it.
 pub fn figures_of(parts: Parts, s: &[u8]) -> Figures {
-    let digits = decode::long(parts.digits);
+    let digits = unit_decode::long(parts.digits);
     let sign = parts.sign as u64;
     if 18 < digits {
         return no_figures();

@@ -140,7 +140,7 @@ fn put_bounds(l: Line, h: Held, how: How) -> Line {
 
 // A reference takes the values held last as its bounds, as many as its form has.
 fn hold_reference(h: Held, unit: &[u8], parts: Parts, how: How, i: u16) -> Held {
-    let taken = sorts::how_takes(how) as usize;
+    let taken = unit_sorts::how_takes(how) as usize;
     let mut l = put_name(line_before(h, taken), field_of(unit, parts, i), i);
     if taken == 1 {
         l = put_value(l, h, 1, true);
@@ -215,7 +215,7 @@ fn hold_joined(h: Held, op: Op) -> Held {
 
 // An operator takes one or two of the values held last.
 fn hold_operator(h: Held, op: Op) -> Held {
-    if sorts::op_takes(op) == 1 {
+    if unit_sorts::op_takes(op) == 1 {
         return hold_alone(h, op);
     }
     hold_joined(h, op)
@@ -274,12 +274,12 @@ fn put_expression(l: Line, unit: &[u8], parts: Parts, e: u16) -> Line {
     let mut from = e as usize;
     let mut left = es.len();
     while 0 < left {
-        let item = decode::item_at(es, from);
+        let item = unit_decode::item_at(es, from);
         if is_done(h, item) {
             break;
         }
         h = hold_item(h, unit, parts, item);
-        from = sum(from, decode::width_of(item));
+        from = sum(from, unit_decode::width_of(item));
         left -= 1;
     }
     line_of(h)
@@ -324,7 +324,7 @@ fn put_part(l: Line, unit: &[u8], parts: Parts, i: u16, role: Role, x: u16) -> L
 
 // Puts a letter of the words of the statement i, which is s: the letters a, b and c stand for its parts.
 fn put_letter(l: Line, unit: &[u8], parts: Parts, i: u16, s: Statement, letter: u8) -> Line {
-    let row = decode::row_of(decode::verb_of(s.code));
+    let row = unit_decode::row_of(unit_decode::verb_of(s.code));
     let a = row.a;
     let b = row.b;
     let c = row.c;

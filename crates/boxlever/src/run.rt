@@ -67,7 +67,7 @@ fn say_run(unit: &[u8], parts: Parts, data: &[u8], number: u8, place: u16, count
 
 // Runs a unit over its data, which starts as its image, the first bytes of the unit; and gives the stop.
 fn run_data(unit: &[u8], parts: Parts, data: &mut [u8], show: Show) -> u8 {
-    letters::fit(data, unit);
+    alpha::fit(data, unit);
     let out = dibol::run(unit, data, dibol::start(), 100000);
     let stop = out.stop;
     let number = dibol::stop_number(stop);

@@ -28,7 +28,7 @@ ran r d = record { outcome = r; bytes = d }
 abbrev stopped : Stop → ℕ → State → Outcome
 stopped e place s = record { stop = e; place = place; count = 0; state = s }
 
--- What `states::sound` answered.
+-- What `run_state::sound` answered.
 module _ (n : ℕ) (s : State) (b : Bool) (says : b ≡ soundb n s) where
   pub sound-by : not b ≡ false → Sound n s
   sound-by h = sound-to n s (sym says ∙ not-false b h)

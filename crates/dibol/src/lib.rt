@@ -14,7 +14,7 @@ ghost use Rattle.rules_run.specs.States.{started};
 ghost use Rattle.rules_run.specs.Stops.{stopNumber};
 ghost use Rattle.rules_run.specs.Runs.{Ran, runOf};
 ghost use Rattle.rules_fence.specs.Breaches.{breachNumber, fenceOf, breachIn};
-ghost use Rattle.words.specs.Words.{Said, saidOf};
+ghost use Rattle.stop_words.specs.Words.{Said, saidOf};
 
 // Checks a unit by the rules 1 to 5 of document 01, in their order. The answer is Passed with the lengths of the unit's parts,
 // or Refused with the first rule that does not hold and its place: `refusal_number` and `refusal_place` give both as numbers.
@@ -22,7 +22,7 @@ ghost use Rattle.words.specs.Words.{Said, saidOf};
 pub fn check(unit: &[u8]) -> Checked
     ensures { λ r. ⌜ r ≡ checkOf (now (unit .entry)) ⌝ }
 {
-    unit::check(unit)
+    unit_check::check(unit)
 }
 
 // Document 01's number for a refusal: 1 to 5.
@@ -63,7 +63,7 @@ pub fn breach(unit: &[u8], i: usize) -> Breach
 pub fn breach_number(b: Breach) -> u8
     ensures { λ r. ⌜ r ≡ breachNumber b ⌝ }
 {
-    breaches::breach_number(b)
+    fence_statements::breach_number(b)
 }
 
 // The alpha literal of the statement i, counted from 0: the bytes of the unit itself that hold it, not a copy. It is empty unless the
@@ -72,14 +72,14 @@ pub fn breach_number(b: Breach) -> u8
 pub fn literal(unit: &[u8], i: usize) -> &[u8]
     ensures { λ r. ⌜ now r ≡ literalOf (now (unit .entry)) i ⌝ }
 {
-    literals::literal(unit, i)
+    unit_literal::literal(unit, i)
 }
 
 // Where `literal` of the statement i starts in the unit, and its length; both are 0 where there is none.
 pub fn stretch(unit: &[u8], i: usize) -> Stretch
     ensures { λ r. ⌜ r ≡ stretchOf (now (unit .entry)) i ⌝ }
 {
-    literals::stretch(unit, i)
+    unit_literal::stretch(unit, i)
 }
 
 // The resume state of a run that has not begun: the first statement, and no call open.
@@ -102,17 +102,17 @@ pub fn start() -> State
 pub fn run(unit: &[u8], bytes: &mut [u8], state: State, allowance: u64) -> Outcome
     ensures { λ r. ⌜ _≡_ {A = Ran} (record { outcome = r; bytes = now (bytes .exit) }) (runOf (now (unit .entry)) (now (bytes .entry)) state allowance) ⌝ }
 {
-    let checked = unit::check(unit);
+    let checked = unit_check::check(unit);
     match checked {
         Checked::Refused(r) => refused(Stop::Refused(r), rules_unit::refusal_place(r), state),
         Checked::Passed(parts) => {
             if bytes.len() != parts.d as usize {
                 return refused(Stop::WrongSize, 0, state);
             }
-            if !states::sound(parts.n, state) {
+            if !run_state::sound(parts.n, state) {
                 return refused(Stop::Unsound, 0, state);
             }
-            runs::turns(unit, parts, bytes, state, allowance)
+            run_loop::turns(unit, parts, bytes, state, allowance)
         }
     }
 }
@@ -142,5 +142,5 @@ pub fn stop_number(s: Stop) -> u8
 pub fn words(stop: u64, text: &mut [u8]) -> usize
     ensures { λ r. ⌜ _≡_ {A = Said} (record { size = r; text = now (text .exit) }) (saidOf stop (now (text .entry))) ⌝ }
 {
-    words::words(stop, text)
+    stop_words::words(stop, text)
 }

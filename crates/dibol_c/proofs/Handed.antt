@@ -9,8 +9,8 @@ use Rattle.rules_run.specs.declared.State.{State}
 use Rattle.rules_run.specs.declared.Outcome.{Outcome}
 use Rattle.rules_run.specs.Runs.{Ran, runOf}
 use Rattle.rules_run.specs.Stops.{stopNumber}
-use Rattle.words.specs.Laid.{laid}
-use Rattle.states.specs.Numbers.{numbersOf, stateOf}
+use Rattle.stop_words.specs.Laid.{laid}
+use Rattle.run_state.specs.Numbers.{numbersOf, stateOf}
 use Rattle.dibol_c.specs.Calls.{Handed, refusedb, handedOf}
 
 module _ (u d w : List ℕ) (k : ℕ) (a : List ℕ) (s : State) (is : s ≡ stateOf w) where

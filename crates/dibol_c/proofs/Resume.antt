@@ -31,8 +31,8 @@ use Rattle.rules_run.proofs.Calls.{beforeb, call-refused, call-wrong-size, call
 use Rattle.rules_run.proofs.Steps.{every-run}
 use Rattle.rules_run.proofs.Answers.{call-exactly, does-exactly, refused-by-number, erred-by-number, given-exactly}
 use Rattle.rules_run.proofs.SoundRuns.{run-sound}
-use Rattle.words.proofs.Laid.{laid-same}
-use Rattle.states.specs.Numbers.{numbersOf, Held, smallb, stateb, nowhere, stateOf}
+use Rattle.stop_words.proofs.Laid.{laid-same}
+use Rattle.run_state.specs.Numbers.{numbersOf, Held, smallb, stateb, nowhere, stateOf}
 use Rattle.dibol_c.specs.Calls.{Handed, refusedb, handedOf, untouched, HostReads}
 
 -- ---- read after write

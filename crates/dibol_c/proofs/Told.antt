@@ -13,7 +13,7 @@ use Rattle.rules_unit.specs.Literals.{stretchOf}
 use Rattle.rules_fence.specs.declared.Verdict.{Verdict}
 use Rattle.rules_fence.specs.declared.Verdict.the-variants as verdict
 use Rattle.rules_fence.specs.Breaches.{breachNumber, fenceOf, breachIn}
-use Rattle.words.specs.Laid.{laid}
+use Rattle.stop_words.specs.Laid.{laid}
 use Rattle.dibol_c.specs.Calls.{Told, checkTold, fenceTold, literalTold}
 
 abbrev tells : ℕ → List ℕ → Told

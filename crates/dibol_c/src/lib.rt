@@ -7,8 +7,8 @@ ghost use mathlib.Core.List.{[], _∷_};
 ghost use Rattle.rules_unit.specs.Checks.{checkOf};
 ghost use Rattle.rules_unit.specs.Literals.{stretchOf};
 ghost use Rattle.rules_fence.specs.Breaches.{breachNumber, fenceOf, breachIn};
-ghost use Rattle.words.specs.Laid.{laid};
-ghost use Rattle.words.specs.Words.{Said, saidOf};
+ghost use Rattle.stop_words.specs.Laid.{laid};
+ghost use Rattle.stop_words.specs.Words.{Said, saidOf};
 ghost use Rattle.dibol_c.specs.Calls.{Told, checkTold, fenceTold, literalTold, Handed, refusedb, handedOf};
 
 // ---- answers
@@ -17,7 +17,7 @@ ghost use Rattle.dibol_c.specs.Calls.{Told, checkTold, fenceTold, litera
 fn put_three(answer: &mut [u64], a: u64, b: u64, c: u64)
     ensures { λ _. ⌜ now (answer .exit) ≡ laid (a ∷ b ∷ c ∷ []) (now (answer .entry)) ⌝ }
 {
-    states::put_two(answer, a, b);
+    run_state::put_two(answer, a, b);
     if answer.len() < 3 {
         return;
     }
@@ -50,7 +50,7 @@ pub extern "C" fn dibol_run(
 ) -> u64
     ensures { λ r. ⌜ _≡_ {A = Handed} (record { stop = r; bytes = now (bytes .exit); state = now (state .exit); answer = now (answer .exit) }) (handedOf (now (unit .entry)) (now (bytes .entry)) (now (state .entry)) allowance (now (answer .entry))) ⌝ }
 {
-    let from = states::read_state(state);
+    let from = run_state::read_state(state);
     let ended = dibol::run(unit, bytes, from, allowance);
     let stop = ended.stop;
     let number = dibol::stop_number(stop) as u64;
@@ -59,7 +59,7 @@ pub extern "C" fn dibol_run(
         return number;
     }
     let next = ended.state;
-    states::write_state(state, next);
+    run_state::write_state(state, next);
     number
 }
 
@@ -92,16 +92,16 @@ pub extern "C" fn dibol_fence(unit: &[u8], answer: &mut [u64]) -> u64
     let verdict = dibol::fence(unit);
     match verdict {
         Verdict::Yes => {
-            states::put_two(answer, 0, 0);
+            run_state::put_two(answer, 0, 0);
             0
         }
         Verdict::No(i) => {
-            states::put_two(answer, i as u64, dibol_breach(unit, i as usize));
+            run_state::put_two(answer, i as u64, dibol_breach(unit, i as usize));
             1
         }
         Verdict::Refused(r) => {
             let number = rules_unit::refusal_number(r) as u64;
-            states::put_two(answer, number, rules_unit::refusal_place(r) as u64);
+            run_state::put_two(answer, number, rules_unit::refusal_place(r) as u64);
             2
         }
     }
@@ -123,7 +123,7 @@ pub extern "C" fn dibol_literal(unit: &[u8], statement: usize, answer: &mut [u64
 {
     let found = dibol::stretch(unit, statement);
     let len = found.len as u64;
-    states::put_two(answer, found.at as u64, len);
+    run_state::put_two(answer, found.at as u64, len);
     len
 }
 

@@ -9,8 +9,8 @@ ghost use Rattle.rules_unit.specs.declared.Checked.the-variants as checked;
 ghost use Rattle.rules_unit.specs.Decode.{codeOf};
 ghost use Rattle.rules_unit.specs.Checks.{checkOf};
 ghost use Rattle.rules_fence.specs.Breaches.{breachOf, verdictFrom, fenceOf, breachBy, breachIn};
-ghost use Rattle.apart.specs.Ahead.{Ahead};
-ghost use Rattle.breaches.specs.Notes.{Both};
+ghost use Rattle.fence_decimals.specs.Ahead.{Ahead};
+ghost use Rattle.fence_statements.specs.Notes.{Both};
 
 // Yes, or no with the first statement that breaks a rule, of a unit that passed its check.
 fn verdict_by(
@@ -27,8 +27,8 @@ fn verdict_by(
 {
     let mut i: u16 = 0;
     while i < parts.n {
-        let b = breaches::breach_of(unit, parts, ahead, reads, writes, i);
-        if !breaches::keeps(b) {
+        let b = fence_statements::breach_of(unit, parts, ahead, reads, writes, i);
+        if !fence_statements::keeps(b) {
             return Verdict::No(i);
         }
         i += 1;
@@ -44,7 +44,7 @@ fn verdict_of(unit: &[u8], parts: Parts) -> Verdict
     let mut ahead = [65535u16; 16384];
     let mut reads = [0u8; 16384];
     let mut writes = [0u8; 16384];
-    apart::note_decimals(unit, parts, &mut ahead);
+    fence_decimals::note_decimals(unit, parts, &mut ahead);
     verdict_by(unit, parts, &ahead, &mut reads, &mut writes)
 }
 
@@ -52,7 +52,7 @@ fn verdict_of(unit: &[u8], parts: Parts) -> Verdict
 pub fn fence(unit: &[u8]) -> Verdict
     ensures { λ r. ⌜ r ≡ fenceOf (now (unit .entry)) ⌝ }
 {
-    let answer = unit::check(unit);
+    let answer = unit_check::check(unit);
     match answer {
         Checked::Passed(parts) => verdict_of(unit, parts),
         Checked::Refused(r) => Verdict::Refused(r),
@@ -68,8 +68,8 @@ fn breach_alone(unit: &[u8], parts: Parts, i: u16) -> Breach
     let mut ahead = [65535u16; 16384];
     let mut reads = [0u8; 1];
     let mut writes = [0u8; 1];
-    apart::note_decimals(unit, parts, &mut ahead);
-    breaches::breach_of(unit, parts, &ahead, &mut reads, &mut writes, i)
+    fence_decimals::note_decimals(unit, parts, &mut ahead);
+    fence_statements::breach_of(unit, parts, &ahead, &mut reads, &mut writes, i)
 }
 
 // The same of any number; none where there is no such statement.
@@ -77,7 +77,7 @@ fn breach_by(unit: &[u8], parts: Parts, i: usize) -> Breach
     requires { ⌜ checkOf (now unit) ≡ checked.Passed parts ⌝ }
     ensures { λ r. ⌜ r ≡ breachBy (now (unit .entry)) i (checked.Passed parts) ⌝ }
 {
-    if decode::long(parts.n) <= i {
+    if unit_decode::long(parts.n) <= i {
         return Breach::None;
     }
     breach_alone(unit, parts, i as u16)
@@ -87,7 +87,7 @@ fn breach_by(unit: &[u8], parts: Parts, i: usize) -> Breach
 pub fn breach(unit: &[u8], i: usize) -> Breach
     ensures { λ r. ⌜ r ≡ breachIn (now (unit .entry)) i ⌝ }
 {
-    let answer = unit::check(unit);
+    let answer = unit_check::check(unit);
     match answer {
         Checked::Passed(parts) => breach_by(unit, parts, i),
         Checked::Refused(_) => Breach::None,

@@ -37,9 +37,9 @@ use Rattle.rules_run.specs.declared.Stop.the-variants as stop
 use Rattle.rules_run.specs.Runs.{counting, runOf}
 use Rattle.rules_run.specs.Answers.{Erred, StopNo, noOf, Given}
 use Rattle.rules_run.proofs.Resumed.{call-resumed}
-use Rattle.words.specs.Words as words
-use Rattle.words.proofs.Short.{words-short}
-use Rattle.states.specs.Numbers.{numbersOf, Held, stateb, stateOf}
+use Rattle.stop_words.specs.Words as words
+use Rattle.stop_words.proofs.Short.{words-short}
+use Rattle.run_state.specs.Numbers.{numbersOf, Held, stateb, stateOf}
 use Rattle.dibol_c.specs.Calls.{Handed, refusedb, handedOf, untouched, HostReads}
 use Rattle.dibol_c.proofs.Resume as resume
 use Rattle.dibol_c.proofs.dibol_run.Reads as c-run

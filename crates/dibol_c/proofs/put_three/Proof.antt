@@ -1,6 +1,6 @@
 -- `dibol_c::put_three` meets its contract: two are put, and the third where there is room for it.
 -- Assumes nothing.
-use Rattle.states.proofs.Answers.{puts}
+use Rattle.run_state.proofs.Answers.{puts}
 use borrow.Author.Needs.{needs}
 use Rattle.dibol_c.proofs.put_three.Statement.{statement}
 use Rattle.dibol_c.proofs.put_three.Tie as tie

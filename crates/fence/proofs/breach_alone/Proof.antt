@@ -1,8 +1,8 @@
 -- `fence::breach_alone` meets its contract: the table of a unit that passed its check tells what the rule asks, and nothing is noted.
 -- Assumes nothing.
 use borrow.Author.Needs.{needs}
-use Rattle.apart.proofs.Tables.{ahead-says}
-use Rattle.breaches.proofs.Notes.{both-none}
+use Rattle.fence_decimals.proofs.Tables.{ahead-says}
+use Rattle.fence_statements.proofs.Notes.{both-none}
 use Rattle.fence.proofs.breach_alone.Statement.{statement}
 use Rattle.fence.proofs.breach_alone.Tie as tie
 

@@ -8,8 +8,8 @@ use Prim.Native.Nat.{_-_, _≤_}
 use Rattle.rules_unit.specs.Decode.{codeOf}
 use Rattle.rules_unit.proofs.Statements.{left-all}
 use Rattle.rules_fence.specs.Breaches.{verdictFrom}
-use Rattle.breaches.specs.Notes.{Both}
-use Rattle.breaches.proofs.Notes.{both-kept}
+use Rattle.fence_statements.specs.Notes.{Both}
+use Rattle.fence_statements.proofs.Notes.{both-kept}
 use Rattle.fence.proofs.Answers.{verdict-yes, verdict-no, verdict-on}
 use Rattle.fence.proofs.verdict_by.Statement.{statement}
 use Rattle.fence.proofs.verdict_by.Tie as tie

@@ -1,8 +1,8 @@
 -- `fence::verdict_of` meets its contract: the table of a unit that passed its check tells what the rule asks, and at first nothing is noted.
 -- Assumes nothing.
 use borrow.Author.Needs.{needs}
-use Rattle.apart.proofs.Tables.{ahead-says}
-use Rattle.breaches.proofs.Notes.{both-none}
+use Rattle.fence_decimals.proofs.Tables.{ahead-says}
+use Rattle.fence_statements.proofs.Notes.{both-none}
 use Rattle.fence.proofs.verdict_of.Statement.{statement}
 use Rattle.fence.proofs.verdict_of.Tie as tie
 

@@ -1,8 +1,8 @@
 -- `boxlever::fence::say_references` ends: each turn takes one item.
 -- The invariant: the bounds are in the range of values. The measure: the items that may be left. Assumes nothing.
 use borrow.Author.Needs.{needs}
-use Rattle.bounds.specs.Asked.{Small}
-use Rattle.bounds.proofs.Seeing.{small-none, small-next}
+use Rattle.fence_bounds.specs.Asked.{Small}
+use Rattle.fence_bounds.proofs.Seeing.{small-none, small-next}
 use Rattle.boxlever.proofs.fence.say_references.Statement.{statement}
 use Rattle.boxlever.proofs.fence.say_references.Tie as tie
 

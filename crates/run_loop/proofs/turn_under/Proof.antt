@@ -1,0 +1,76 @@
+-- `run_loop::turn_under` meets its contract: in each arm the flow is known, and what `underBy` says of it is what the arm answers.
+-- Assumes nothing.
+use borrow.Author.Needs.{needs}
+use Rattle.rules.proofs.Walk.{walk}
+use Rattle.run_loop.proofs.Flows.{under-as}
+use Rattle.run_loop.proofs.turn_under.Statement.{statement}
+use Rattle.run_loop.proofs.turn_under.Tie as tie
+
+enum-told : tie.Need-enum-told
+enum-told c = search needs
+
+enum-told-2 : tie.Need-enum-told-2
+enum-told-2 c = search needs
+
+enum-told-3 : tie.Need-enum-told-3
+enum-told-3 c = search needs
+
+returns : tie.Need-returns
+returns c = search (under-as, walk) depth 5
+
+fails-requires : tie.Need-fails-requires
+fails-requires c κs = search needs
+
+enum-told-4 : tie.Need-enum-told-4
+enum-told-4 c = search needs
+
+fails-requires-2 : tie.Need-fails-requires-2
+fails-requires-2 c κs = search needs
+
+returns-2 : tie.Need-returns-2
+returns-2 c = search (under-as, walk) depth 5
+
+enum-told-5 : tie.Need-enum-told-5
+enum-told-5 c = search needs
+
+enum-told-6 : tie.Need-enum-told-6
+enum-told-6 c = search needs
+
+returns-3 : tie.Need-returns-3
+returns-3 c = search (under-as, walk) depth 5
+
+returns-4 : tie.Need-returns-4
+returns-4 c = search (under-as, walk) depth 5
+
+returns-5 : tie.Need-returns-5
+returns-5 c = search (under-as, walk) depth 5
+
+returns-6 : tie.Need-returns-6
+returns-6 c = search (under-as, walk) depth 5
+
+returns-7 : tie.Need-returns-7
+returns-7 c = search (under-as, walk) depth 5
+
+returns-8 : tie.Need-returns-8
+returns-8 c = search (under-as, walk) depth 5
+
+pub turn-under-spec : {M : Type 1} → statement M
+turn-under-spec =
+    tie.close
+    (tie.spec
+    enum-told
+    enum-told-2
+    enum-told-3
+    returns
+    fails-requires
+    enum-told-4
+    fails-requires-2
+    returns-2
+    enum-told-5
+    enum-told-6
+    returns-3
+    returns-4
+    returns-5
+    returns-6
+    returns-7
+    returns-8)

@@ -1,0 +1,180 @@
+-- `run_loop::turns` meets its contract: each turn of the loop is one step of `runFrom`, and each way out is the end of one.
+-- The invariant: what is left of the run from here comes to what the whole run comes to; the count and the allowance left make the allowance; no
+-- more than 50 calls are open; the data has the unit's length. The measure: the allowance left.
+-- Assumes nothing.
+use Prim.Native.Nat.{_+_, _≤_}
+use mathlib.Core.Path.{_≡_}
+use lib.ListN.{length}
+use borrow.Author.Needs.{needs}
+use Rattle.rules_unit.specs.Decode.{codeOf}
+use Rattle.rules_run.specs.Runs.{runFrom}
+use Rattle.run_loop.proofs.Flows.{never-bad}
+use Rattle.run_loop.proofs.Loop.{passed-laws, turn-ways, turn-on, turn-call, turn-return, turn-calls, passed-place, passed-applied}
+use Rattle.run_loop.proofs.turns.Statement.{statement}
+use Rattle.run_loop.proofs.turns.Tie as tie
+
+abbrev Inv-loop : tie.InvT-loop
+Inv-loop unit parts bytes₀ allowance n s₀ left₀ count₀ bytes s left count =
+    (runFrom (codeOf unit parts) left s bytes count ≡ runFrom (codeOf unit parts) allowance s₀ bytes₀ 0) × (count + left ≡ allowance) × (s .depth ≤ 50) × (length bytes ≡ parts .d)
+
+abbrev μ-loop : tie.MeasureT-loop
+μ-loop unit parts bytes₀ allowance n s₀ left₀ count₀ bytes s left count = left
+
+loop-holds : tie.Need-loop-holds Inv-loop μ-loop
+loop-holds c = search needs
+
+halt-requires : tie.Need-halt-requires Inv-loop μ-loop
+halt-requires c κs = search needs
+
+same-length : tie.Need-same-length Inv-loop μ-loop
+same-length c = search needs
+
+returns : tie.Need-returns Inv-loop μ-loop
+returns c = search turn-ways depth 3
+
+turn-at-requires : tie.Need-turn-at-requires Inv-loop μ-loop
+turn-at-requires c κs = (search passed-laws depth 3, (search passed-laws depth 3, (search needs, (search needs, search passed-laws depth 3))))
+
+enum-known-flow : tie.Need-enum-known-flow Inv-loop μ-loop
+enum-known-flow c = search needs
+
+halt-requires-2 : tie.Need-halt-requires-2 Inv-loop μ-loop
+halt-requires-2 c κs = search needs
+
+same-length-2 : tie.Need-same-length-2 Inv-loop μ-loop
+same-length-2 c = search needs
+
+returns-2 : tie.Need-returns-2 Inv-loop μ-loop
+returns-2 c = search turn-ways depth 3
+
+store-requires : tie.Need-store-requires Inv-loop μ-loop
+store-requires c κs = search passed-laws depth 3
+
+sub-left : tie.Need-sub-left Inv-loop μ-loop
+sub-left c = search needs
+
+add-count : tie.Need-add-count Inv-loop μ-loop
+add-count c = search needs
+
+enum-told : tie.Need-enum-told Inv-loop μ-loop
+enum-told c = search needs
+
+advance-requires : tie.Need-advance-requires Inv-loop μ-loop
+advance-requires c κs = search passed-place depth 3
+
+loop-less : tie.Need-loop-less Inv-loop μ-loop
+loop-less c = search needs
+
+loop-again : tie.Need-loop-again Inv-loop μ-loop
+loop-again c = (search turn-on depth 4, search needs, search turn-calls depth 3, search passed-applied depth 3)
+
+enum-known-flow-2 : tie.Need-enum-known-flow-2 Inv-loop μ-loop
+enum-known-flow-2 c = search needs
+
+goto-requires : tie.Need-goto-requires Inv-loop μ-loop
+goto-requires c κs = search needs
+
+loop-less-2 : tie.Need-loop-less-2 Inv-loop μ-loop
+loop-less-2 c = search needs
+
+loop-again-2 : tie.Need-loop-again-2 Inv-loop μ-loop
+loop-again-2 c = (search turn-on depth 4, search needs, search turn-calls depth 3, search passed-applied depth 3)
+
+enum-known-flow-3 : tie.Need-enum-known-flow-3 Inv-loop μ-loop
+enum-known-flow-3 c = search needs
+
+call-requires : tie.Need-call-requires Inv-loop μ-loop
+call-requires c κs = (search passed-place depth 3, search turn-call depth 3)
+
+loop-less-3 : tie.Need-loop-less-3 Inv-loop μ-loop
+loop-less-3 c = search needs
+
+loop-again-3 : tie.Need-loop-again-3 Inv-loop μ-loop
+loop-again-3 c = (search turn-on depth 4, search needs, search turn-calls depth 3, search passed-applied depth 3)
+
+enum-told-2 : tie.Need-enum-told-2 Inv-loop μ-loop
+enum-told-2 c = search needs
+
+back-requires : tie.Need-back-requires Inv-loop μ-loop
+back-requires c κs = (search turn-return depth 3, search needs)
+
+loop-less-4 : tie.Need-loop-less-4 Inv-loop μ-loop
+loop-less-4 c = search needs
+
+loop-again-4 : tie.Need-loop-again-4 Inv-loop μ-loop
+loop-again-4 c = (search turn-on depth 4, search needs, search turn-calls depth 3, search passed-applied depth 3)
+
+enum-told-3 : tie.Need-enum-told-3 Inv-loop μ-loop
+enum-told-3 c = search needs
+
+goto-requires-2 : tie.Need-goto-requires-2 Inv-loop μ-loop
+goto-requires-2 c κs = search needs
+
+loop-less-5 : tie.Need-loop-less-5 Inv-loop μ-loop
+loop-less-5 c = search needs
+
+loop-again-5 : tie.Need-loop-again-5 Inv-loop μ-loop
+loop-again-5 c = (search turn-on depth 4, search needs, search turn-calls depth 3, search passed-applied depth 3)
+
+enum-told-4 : tie.Need-enum-told-4 Inv-loop μ-loop
+enum-told-4 c = search needs
+
+loop-less-6 : tie.Need-loop-less-6 Inv-loop μ-loop
+loop-less-6 c = search needs
+
+loop-again-6 : tie.Need-loop-again-6 Inv-loop μ-loop
+loop-again-6 c = absurd (search never-bad depth 3)
+
+halt-requires-3 : tie.Need-halt-requires-3 Inv-loop μ-loop
+halt-requires-3 c κs = search needs
+
+same-length-3 : tie.Need-same-length-3 Inv-loop μ-loop
+same-length-3 c = search needs
+
+returns-3 : tie.Need-returns-3 Inv-loop μ-loop
+returns-3 c = search turn-ways depth 3
+
+pub turns-spec : {M : Type 1} → statement M
+turns-spec =
+    tie.close
+    (tie.spec
+    Inv-loop
+    μ-loop
+    loop-holds
+    halt-requires
+    same-length
+    returns
+    turn-at-requires
+    enum-known-flow
+    halt-requires-2
+    same-length-2
+    returns-2
+    store-requires
+    sub-left
+    add-count
+    enum-told
+    advance-requires
+    loop-less
+    loop-again
+    enum-known-flow-2
+    goto-requires
+    loop-less-2
+    loop-again-2
+    enum-known-flow-3
+    call-requires
+    loop-less-3
+    loop-again-3
+    enum-told-2
+    back-requires
+    loop-less-4
+    loop-again-4
+    enum-told-3
+    goto-requires-2
+    loop-less-5
+    loop-again-5
+    enum-told-4
+    loop-less-6
+    loop-again-6
+    halt-requires-3
+    same-length-3
+    returns-3)

@@ -1,0 +1,52 @@
+-- `run_moves::count_at` meets its contract: an alpha place is Malformed. What is read at a decimal one is in the range of values, so it is counted,
+-- and the sum moves; or the fault stands.
+-- Assumes nothing.
+use borrow.Author.Needs.{needs}
+use Rattle.run_moves.proofs.Found.{count-alpha, count-sum, count-failed, read-again}
+use Rattle.run_moves.proofs.count_at.Statement.{statement}
+use Rattle.run_moves.proofs.count_at.Tie as tie
+
+fails-requires : tie.Need-fails-requires
+fails-requires c κs = search needs
+
+returns : tie.Need-returns
+returns c = search count-alpha depth 3
+
+read-at-requires : tie.Need-read-at-requires
+read-at-requires c κs = search needs
+
+enum-known-v : tie.Need-enum-known-v
+enum-known-v c = search needs
+
+count-value-requires : tie.Need-count-value-requires
+count-value-requires c κs = search read-again depth 3
+
+move-num-requires : tie.Need-move-num-requires
+move-num-requires c κs = search needs
+
+enum-known-e : tie.Need-enum-known-e
+enum-known-e c = search needs
+
+fails-requires-2 : tie.Need-fails-requires-2
+fails-requires-2 c κs = search needs
+
+returns-2 : tie.Need-returns-2
+returns-2 c = search count-sum depth 3
+
+returns-3 : tie.Need-returns-3
+returns-3 c = search count-failed depth 3
+
+pub count-at-spec : {M : Type 1} → statement M
+count-at-spec =
+    tie.close
+    (tie.spec
+    fails-requires
+    returns
+    read-at-requires
+    enum-known-v
+    count-value-requires
+    move-num-requires
+    enum-known-e
+    fails-requires-2
+    returns-2
+    returns-3)

@@ -1,0 +1,30 @@
+-- `run_spans::ahead` meets its contract: a count past the window's end is past it all the more when it is multiplied, and any other is small.
+-- Assumes nothing.
+use Prim.Native.Nat.{_+_, _*_}
+use borrow.Author.Needs.{needs}
+use native.Mathlib.Omega.{arith}
+use Rattle.rules_run.proofs.Located.{high}
+use Rattle.run_spans.proofs.Finding.{grows, product}
+use Rattle.run_spans.proofs.ahead.Statement.{statement}
+use Rattle.run_spans.proofs.ahead.Tie as tie
+
+returns : tie.Need-returns
+returns c =
+    let s = c .before .args in
+    high (s .lo) (s .hi) (s .offset + s .k * s .size) (s .size) (omega (arith, grows (s .k) (s .size) (omega arith)))
+
+mul-inside : tie.Need-mul-inside
+mul-inside c = omega (arith, product (c .before .args .k) (c .before .args .size) (omega arith) (omega arith))
+
+add-inside : tie.Need-add-inside
+add-inside c = omega (arith, product (c .before .args .k) (c .before .args .size) (omega arith) (omega arith))
+
+inside-requires : tie.Need-inside-requires
+inside-requires c κs = search needs
+
+returns-2 : tie.Need-returns-2
+returns-2 c = search needs
+
+pub ahead-spec : {M : Type 1} → statement M
+ahead-spec =
+    tie.close (tie.spec returns mul-inside add-inside inside-requires returns-2)

@@ -1,0 +1,124 @@
+-- `run_statement::work` meets its contract: each arm knows the verb, and its callee answers what the rule has for that.
+-- Assumes nothing.
+use borrow.Author.Needs.{needs}
+use Rattle.rules_run.specs.Turns.{turnBy}
+use Rattle.run_statement.proofs.Statements.{turn-as, table-fits}
+use Rattle.run_statement.proofs.work.Statement.{statement}
+use Rattle.run_statement.proofs.work.Tie as tie
+
+statement-requires : tie.Need-statement-requires
+statement-requires c κs = search needs
+
+verb-of-requires : tie.Need-verb-of-requires
+verb-of-requires c κs = search needs
+
+enum-known-verb : tie.Need-enum-known-verb
+enum-known-verb c = search needs
+
+on-place-requires : tie.Need-on-place-requires
+on-place-requires c κs = search needs
+
+enum-told : tie.Need-enum-told
+enum-told c = search needs
+
+go-requires : tie.Need-go-requires
+go-requires c κs = search needs
+
+enum-told-2 : tie.Need-enum-told-2
+enum-told-2 c = search needs
+
+if-zero-requires : tie.Need-if-zero-requires
+if-zero-requires c κs = search needs
+
+enum-told-3 : tie.Need-enum-told-3
+enum-told-3 c = search needs
+
+go-requires-2 : tie.Need-go-requires-2
+go-requires-2 c κs = search needs
+
+enum-told-4 : tie.Need-enum-told-4
+enum-told-4 c = search needs
+
+go-requires-3 : tie.Need-go-requires-3
+go-requires-3 c κs = search needs
+
+enum-told-5 : tie.Need-enum-told-5
+enum-told-5 c = search needs
+
+go-requires-4 : tie.Need-go-requires-4
+go-requires-4 c κs = search needs
+
+enum-told-6 : tie.Need-enum-told-6
+enum-told-6 c = search needs
+
+computed-requires : tie.Need-computed-requires
+computed-requires c κs = (search needs, (search needs, (search needs, search table-fits depth 3)))
+
+enum-told-7 : tie.Need-enum-told-7
+enum-told-7 c = search needs
+
+fails-requires : tie.Need-fails-requires
+fails-requires c κs = search needs
+
+returns : tie.Need-returns
+unfolding turnBy
+returns c = search turn-as depth 3
+
+returns-2 : tie.Need-returns-2
+unfolding turnBy
+returns-2 c = search turn-as depth 3
+
+returns-3 : tie.Need-returns-3
+unfolding turnBy
+returns-3 c = search turn-as depth 3
+
+returns-4 : tie.Need-returns-4
+unfolding turnBy
+returns-4 c = search turn-as depth 3
+
+returns-5 : tie.Need-returns-5
+unfolding turnBy
+returns-5 c = search turn-as depth 3
+
+returns-6 : tie.Need-returns-6
+unfolding turnBy
+returns-6 c = search turn-as depth 3
+
+returns-7 : tie.Need-returns-7
+unfolding turnBy
+returns-7 c = search turn-as depth 3
+
+returns-8 : tie.Need-returns-8
+unfolding turnBy
+returns-8 c = search turn-as depth 3
+
+pub work-spec : {M : Type 1} → statement M
+work-spec =
+    tie.close
+    (tie.spec
+    statement-requires
+    verb-of-requires
+    enum-known-verb
+    on-place-requires
+    enum-told
+    go-requires
+    enum-told-2
+    if-zero-requires
+    enum-told-3
+    go-requires-2
+    enum-told-4
+    go-requires-3
+    enum-told-5
+    go-requires-4
+    enum-told-6
+    computed-requires
+    enum-told-7
+    fails-requires
+    returns
+    returns-2
+    returns-3
+    returns-4
+    returns-5
+    returns-6
+    returns-7
+    returns-8)

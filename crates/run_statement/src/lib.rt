@@ -1,0 +1,160 @@
+// One statement: what it stores and where the run goes on. Data is only read here.
+use rules::Fault;
+use rules::Num;
+use rules_run::Flow;
+use rules_run::Turn;
+use rules_run::Worked;
+use rules_run::Write;
+use rules_unit::Act;
+use rules_unit::Parts;
+use rules_unit::Statement;
+use rules_unit::Verb;
+ghost use mathlib.Core.Path.{_≡_};
+ghost use Prim.Native.Nat.{_+_, _^_, _≤_, _<_};
+ghost use lib.ListN.{length};
+ghost use Rattle.rules.specs.Values.{Val};
+ghost use Rattle.rules_unit.specs.declared.Verb.the-variants as verb;
+ghost use Rattle.rules_unit.specs.Decode.{Fills, Dialect, codeOf};
+ghost use Rattle.rules_unit.specs.Sound.{ShapeSound};
+ghost use Rattle.rules_run.specs.Turns.{ifZero, choose, actAt, turnBy, turnOf};
+
+// ---- SET, CLEAR, INCR, DECR, UPCASE, LOCASE
+
+// What a statement answers once its place is found. The source of a SET is worked out here, and so after its place.
+fn at_place(
+    unit: &[u8],
+    parts: Parts,
+    bytes: &[u8],
+    act: Act,
+    s: Statement,
+    decimal: bool,
+    start: usize,
+    len: usize,
+) -> Turn
+    requires { ⌜ Fills (now unit) parts ⌝ }
+    requires { ⌜ Dialect parts ⌝ }
+    requires { ⌜ length (now bytes) < 65536 ⌝ }
+    requires { ⌜ start + len ≤ length (now bytes) ⌝ }
+    ensures { λ r. ⌜ r ≡ actAt (codeOf (now (unit .entry)) parts) (now (bytes .entry)) act s decimal start len ⌝ }
+{
+    match act {
+        Act::Set => {
+            let w = run_evaluate::worked(unit, parts, bytes, s.b);
+            run_moves::move_worked(unit, parts, bytes, decimal, start, len, w)
+        }
+        Act::Clear => run_moves::put(Write::Clear {
+            start: start,
+            len: len,
+            decimal: decimal,
+        }),
+        Act::Count { up } => run_moves::count_at(unit, parts, bytes, up, decimal, start, len),
+        Act::Case { upper } => run_moves::case_at(upper, decimal, start, len),
+    }
+}
+
+// What a statement with a place answers. Only a computed GOTO looks at its own number, so the contracts of the others name 0.
+fn on_place(unit: &[u8], parts: Parts, bytes: &[u8], act: Act, s: Statement) -> Turn
+    requires { ⌜ Fills (now unit) parts ⌝ }
+    requires { ⌜ Dialect parts ⌝ }
+    requires { ⌜ length (now bytes) < 65536 ⌝ }
+    ensures { λ r. ⌜ r ≡ turnBy (codeOf (now (unit .entry)) parts) 0 (now (bytes .entry)) (verb.At act) s ⌝ }
+{
+    match run_evaluate::place(unit, parts, bytes, s.a) {
+        Worked::Number(_) => run_moves::fails(Fault::Malformed),
+        Worked::Place {
+            decimal,
+            start,
+            len,
+        } => at_place(unit, parts, bytes, act, s, decimal, start, len),
+        Worked::Text { place: _, len: _ } => run_moves::fails(Fault::Malformed),
+        Worked::Failed(e) => run_moves::fails(e),
+    }
+}
+
+// ---- jumps
+
+// Where the run goes on after a test for zero.
+fn zero_flow(target: u16, v: i64) -> Flow
+    ensures { λ r. ⌜ r ≡ ifZero target v ⌝ }
+{
+    if v == 0 {
+        return Flow::Goto(target);
+    }
+    Flow::Next
+}
+
+// Go to the target if a number is zero.
+fn if_zero(unit: &[u8], parts: Parts, bytes: &[u8], s: Statement) -> Turn
+    requires { ⌜ Fills (now unit) parts ⌝ }
+    requires { ⌜ Dialect parts ⌝ }
+    requires { ⌜ length (now bytes) < 65536 ⌝ }
+    ensures { λ r. ⌜ r ≡ turnBy (codeOf (now (unit .entry)) parts) 0 (now (bytes .entry)) verb.IfZero s ⌝ }
+{
+    let w = run_evaluate::worked(unit, parts, bytes, s.b);
+    match run_evaluate::number_of(unit, parts, bytes, w) {
+        Num::Value(v) => run_moves::go(zero_flow(s.c, v)),
+        Num::Failed(e) => run_moves::fails(e),
+    }
+}
+
+// Where a computed GOTO at a statement goes on: a value from 1 to n at the value-th of the n statements behind it, any other past them.
+fn chosen(at: u16, n: u16, v: i64) -> Flow
+    requires { ⌜ at + n < 65535 ⌝ }
+    requires { ⌜ Val (10 ^ 18) v ⌝ }
+    ensures { λ r. ⌜ r ≡ choose at n v ⌝ }
+{
+    let past = at + n + 1;
+    if number::is_neg(v) {
+        return Flow::Goto(past);
+    }
+    let k = number::magnitude(v);
+    if k == 0 {
+        return Flow::Goto(past);
+    }
+    if (n as u64) < k {
+        return Flow::Goto(past);
+    }
+    Flow::Goto(at + k as u16)
+}
+
+// Computed GOTO.
+fn computed(unit: &[u8], parts: Parts, bytes: &[u8], at: u16, s: Statement) -> Turn
+    requires { ⌜ Fills (now unit) parts ⌝ }
+    requires { ⌜ Dialect parts ⌝ }
+    requires { ⌜ length (now bytes) < 65536 ⌝ }
+    requires { ⌜ at + s .a < 65535 ⌝ }
+    ensures { λ r. ⌜ r ≡ turnBy (codeOf (now (unit .entry)) parts) at (now (bytes .entry)) verb.Computed s ⌝ }
+{
+    let w = run_evaluate::worked(unit, parts, bytes, s.b);
+    match run_evaluate::number_of(unit, parts, bytes, w) {
+        Num::Value(v) => run_moves::go(chosen(at, s.a, v)),
+        Num::Failed(e) => run_moves::fails(e),
+    }
+}
+
+// ---- a statement
+
+// What a statement answers over the data: what it stores, and where the run goes on. Nothing is changed here. Of the check it needs what 5 is about: the
+// statements behind a computed GOTO lie inside the unit, so their numbers are words. The statements with a place have one call between them, and this
+// function has one caller, `run_loop::turn_at`, which says why.
+pub fn work(unit: &[u8], parts: Parts, bytes: &[u8], at: u16) -> Turn
+    requires { ⌜ Fills (now unit) parts ⌝ }
+    requires { ⌜ Dialect parts ⌝ }
+    requires { ⌜ length (now bytes) < 65536 ⌝ }
+    requires { ⌜ at < parts .n ⌝ }
+    requires { ⌜ ShapeSound (codeOf (now unit) parts) at ⌝ }
+    ensures { λ r. ⌜ r ≡ turnOf (codeOf (now (unit .entry)) parts) at (now (bytes .entry)) ⌝ }
+{
+    let s = unit_decode::statement(unit, parts, at);
+    let verb = unit_decode::verb_of(s.code);
+    match verb {
+        Verb::At(act) => on_place(unit, parts, bytes, act, s),
+        Verb::Goto => run_moves::go(Flow::Goto(s.c)),
+        Verb::IfZero => if_zero(unit, parts, bytes, s),
+        Verb::Call => run_moves::go(Flow::Call(s.c)),
+        Verb::Return => run_moves::go(Flow::Return),
+        Verb::Stop => run_moves::go(Flow::Stop),
+        Verb::Computed => computed(unit, parts, bytes, at, s),
+        Verb::Bad => run_moves::fails(Fault::Malformed),
+    }
+}

@@ -1,0 +1,113 @@
+// What a statement stores: the one place where data changes.
+use rules_run::Write;
+use rules_unit::Parts;
+ghost use mathlib.Core.Path.{_≡_};
+ghost use mathlib.Core.Bool.{cond};
+ghost use Prim.Native.Nat.{_+_, _^_, _≤_};
+ghost use lib.ListN.{length, take, drop};
+ghost use Rattle.rules.specs.Values.{Val};
+ghost use Rattle.rules.specs.Moves.{written, shown, fitted};
+ghost use Rattle.rules_unit.specs.Decode.{Fills, Dialect, codeOf};
+ghost use Rattle.rules_run.specs.Turns.{stored, cased, cleared, applied, Room};
+
+// A number in a decimal span.
+fn store_number(parts: Parts, bytes: &mut [u8], start: usize, len: usize, v: i64)
+    requires { ⌜ Dialect parts ⌝ }
+    requires { ⌜ (start + len ≤ length (now bytes)) × (len ≤ 18) ⌝ }
+    requires { ⌜ Val (10 ^ 18) v ⌝ }
+    ensures { λ _. ⌜ now (bytes .exit) ≡ stored (now (bytes .entry)) start (written (parts .sign) len v) ⌝ }
+{
+    let end = start + len;
+    text::write(parts.sign, &mut bytes[start..end], v)
+}
+
+// A number in an alpha span.
+fn store_shown(bytes: &mut [u8], start: usize, len: usize, v: i64)
+    requires { ⌜ start + len ≤ length (now bytes) ⌝ }
+    requires { ⌜ Val (10 ^ 18) v ⌝ }
+    ensures { λ _. ⌜ now (bytes .exit) ≡ stored (now (bytes .entry)) start (shown len v) ⌝ }
+{
+    let end = start + len;
+    text::show(&mut bytes[start..end], v)
+}
+
+// An alpha literal, which lies in the unit.
+fn store_literal(
+    unit: &[u8],
+    parts: Parts,
+    bytes: &mut [u8],
+    start: usize,
+    len: usize,
+    place: u16,
+    count: u16,
+)
+    requires { ⌜ Fills (now unit) parts ⌝ }
+    requires { ⌜ start + len ≤ length (now bytes) ⌝ }
+    requires { ⌜ place + count ≤ length (codeOf (now unit) parts .literals) ⌝ }
+    ensures { λ _. ⌜ now (bytes .exit) ≡ stored (now (bytes .entry)) start (fitted len (take count (drop place (codeOf (now (unit .entry)) parts .literals)))) ⌝ }
+{
+    let from = unit_decode::literals_offset(parts) + unit_decode::long(place);
+    let to = from + unit_decode::long(count);
+    let end = start + len;
+    alpha::fit(&mut bytes[start..end], &unit[from..to])
+}
+
+// The character that CLEAR writes: a zero to decimal, a space to alpha.
+fn clear_character(decimal: bool) -> u8
+    ensures { λ r. ⌜ r ≡ cond decimal 48 32 ⌝ }
+{
+    if decimal { 48 } else { 32 }
+}
+
+// CLEAR of a span.
+fn store_cleared(bytes: &mut [u8], start: usize, len: usize, decimal: bool)
+    requires { ⌜ start + len ≤ length (now bytes) ⌝ }
+    ensures { λ _. ⌜ now (bytes .exit) ≡ stored (now (bytes .entry)) start (cleared decimal len) ⌝ }
+{
+    let end = start + len;
+    alpha::fill(&mut bytes[start..end], clear_character(decimal))
+}
+
+// UPCASE or LOCASE of a span.
+fn store_cased(bytes: &mut [u8], start: usize, len: usize, upper: bool)
+    requires { ⌜ start + len ≤ length (now bytes) ⌝ }
+    ensures { λ _. ⌜ now (bytes .exit) ≡ stored (now (bytes .entry)) start (cased upper (take len (drop start (now (bytes .entry))))) ⌝ }
+{
+    let end = start + len;
+    if upper {
+        return alpha::upcase(&mut bytes[start..end]);
+    }
+    alpha::locase(&mut bytes[start..end])
+}
+
+// Stores what a statement answered. Data changes here and nowhere else.
+pub fn store(unit: &[u8], parts: Parts, bytes: &mut [u8], w: Write)
+    requires { ⌜ Fills (now unit) parts ⌝ }
+    requires { ⌜ Dialect parts ⌝ }
+    requires { ⌜ Room (codeOf (now unit) parts) (length (now bytes)) w ⌝ }
+    ensures { λ _. ⌜ now (bytes .exit) ≡ applied (codeOf (now (unit .entry)) parts) (now (bytes .entry)) w ⌝ }
+{
+    match w {
+        Write::Nothing => {}
+        Write::Number { start, len, value } => store_number(parts, bytes, start, len, value),
+        Write::Show { start, len, value } => store_shown(bytes, start, len, value),
+        Write::Move {
+            start,
+            len,
+            from,
+            count,
+        } => run_spans::move_text(bytes, start, len, from, count),
+        Write::Literal {
+            start,
+            len,
+            place,
+            count,
+        } => store_literal(unit, parts, bytes, start, len, place, count),
+        Write::Clear {
+            start,
+            len,
+            decimal,
+        } => store_cleared(bytes, start, len, decimal),
+        Write::Case { start, len, upper } => store_cased(bytes, start, len, upper),
+    }
+}

@@ -1,0 +1,26 @@
+-- No words are longer than 63 bytes.
+-- Assumes nothing.
+use Prim.Native.Nat.{ℕ, _≤_}
+use Prim.Native.String.{String}
+use mathlib.Core.Bool.{Bool, true, false, cond}
+use lib.Dec.{T, leb, leb→le}
+use lib.ListN.{length}
+use Rattle.stop_words.specs.Words.{codes, textOf, wordsOf}
+
+record Short (s : String) : Type 0 where
+  pub most : length (codes s) ≤ 63
+
+either : (b : Bool) (s t : String) → Short s → Short t → Short (cond b s t)
+either true s t f g = f
+either false s t f g = g
+
+counted : (s : String) → T (leb (length (codes s)) 63) → Short s
+counted s h = record { most = leb→le (length (codes s)) 63 h }
+
+text-short : (n : ℕ) → Short (textOf n)
+unfolding codes
+text-short n = search (either, counted) depth 20
+
+pub words-short : (n : ℕ) → length (wordsOf n) ≤ 63
+unfolding wordsOf
+words-short n = text-short n .most

@@ -1,0 +1,43 @@
+-- `unit_check::found_of` meets its contract: the shape is asked for before the expressions, as `foundOf` asks, and what is noted stays so.
+-- Assumes nothing.
+use borrow.Author.Needs.{needs}
+use Rattle.unit_check.proofs.Scans.{found-laws}
+use Rattle.unit_check.proofs.found_of.Statement.{statement}
+use Rattle.unit_check.proofs.found_of.Tie as tie
+
+shape-good-requires : tie.Need-shape-good-requires
+shape-good-requires c κs = search needs
+
+returns : tie.Need-returns
+returns c = (search found-laws depth 3, search needs)
+
+statement-requires : tie.Need-statement-requires
+statement-requires c κs = search needs
+
+uses-good-requires : tie.Need-uses-good-requires
+uses-good-requires c κs = search needs
+
+same-length : tie.Need-same-length
+same-length c = search needs
+
+returns-2 : tie.Need-returns-2
+returns-2 c = (search found-laws depth 3, search needs)
+
+same-length-2 : tie.Need-same-length-2
+same-length-2 c = search needs
+
+returns-3 : tie.Need-returns-3
+returns-3 c = (search found-laws depth 3, search needs)
+
+pub found-of-spec : {M : Type 1} → statement M
+found-of-spec =
+    tie.close
+    (tie.spec
+    shape-good-requires
+    returns
+    statement-requires
+    uses-good-requires
+    same-length
+    returns-2
+    same-length-2
+    returns-3)

@@ -1,0 +1,173 @@
+// The expressions of a statement: their uses, and whether each is of the sort that its use wants.
+use rules_unit::Parts;
+use rules_unit::Role;
+use rules_unit::Sort;
+use rules_unit::Statement;
+use rules_unit::Use;
+use rules_unit::Want;
+ghost use mathlib.Core.Path.{_≡_};
+ghost use mathlib.Core.Bool.{true, false};
+ghost use lib.ListN.{getD};
+ghost use Rattle.rules_unit.specs.declared.Use.the-variants as used;
+ghost use Rattle.rules_unit.specs.declared.Want.the-variants as want;
+ghost use Rattle.rules_unit.specs.Decode.{Fills, codeOf};
+ghost use Rattle.rules_unit.specs.Expressions.{suits, useb, usesb};
+ghost use Rattle.rules_unit.specs.Table.{useOf, usesOf};
+ghost use Rattle.unit_sorts.specs.Notes.{NotedOf};
+
+// How many uses a statement has, with those that are Nothing: one for each part.
+pub const COUNT: usize = 3;
+
+// How a part of a statement uses an expression, by its role; Nothing where it uses none.
+fn use_of(role: Role, x: u16) -> Use
+    ensures { λ r. ⌜ r ≡ useOf role x ⌝ }
+{
+    match role {
+        Role::Unused => Use::Nothing,
+        Role::Written(w) => Use::Of {
+            want: w,
+            at: x,
+            written: true,
+        },
+        Role::Read(w) => Use::Of {
+            want: w,
+            at: x,
+            written: false,
+        },
+        Role::Target => Use::Nothing,
+        Role::Table => Use::Nothing,
+        Role::Never => Use::Nothing,
+    }
+}
+
+// The use k of a statement, from 0, in the order in which they are worked out; Nothing where there is none.
+pub fn use_at(s: Statement, k: usize) -> Use
+    ensures { λ r. ⌜ r ≡ getD (usesOf s) k used.Nothing ⌝ }
+{
+    let row = unit_decode::row_of(unit_decode::verb_of(s.code));
+    let a = row.a;
+    let b = row.b;
+    let c = row.c;
+    if k == 0 {
+        return use_of(a, s.a);
+    }
+    if k == 1 {
+        return use_of(b, s.b);
+    }
+    if k == 2 {
+        return use_of(c, s.c);
+    }
+    Use::Nothing
+}
+
+// Whether the sort k is that of a place.
+fn suits_place(k: Sort) -> bool
+    ensures { λ r. ⌜ r ≡ suits want.Place k ⌝ }
+{
+    match k {
+        Sort::Wrong => false,
+        Sort::Number => false,
+        Sort::Text => false,
+        Sort::Decimal => true,
+        Sort::Alpha => true,
+    }
+}
+
+// Whether the sort k is that of a decimal place.
+fn suits_decimal_place(k: Sort) -> bool
+    ensures { λ r. ⌜ r ≡ suits want.DecimalPlace k ⌝ }
+{
+    match k {
+        Sort::Wrong => false,
+        Sort::Number => false,
+        Sort::Text => false,
+        Sort::Decimal => true,
+        Sort::Alpha => false,
+    }
+}
+
+// Whether the sort k is that of an alpha place.
+fn suits_alpha_place(k: Sort) -> bool
+    ensures { λ r. ⌜ r ≡ suits want.AlphaPlace k ⌝ }
+{
+    match k {
+        Sort::Wrong => false,
+        Sort::Number => false,
+        Sort::Text => false,
+        Sort::Decimal => false,
+        Sort::Alpha => true,
+    }
+}
+
+// Whether the sort k is that of a number or an alpha source.
+fn suits_source(k: Sort) -> bool
+    ensures { λ r. ⌜ r ≡ suits want.Source k ⌝ }
+{
+    match k {
+        Sort::Wrong => false,
+        Sort::Number => true,
+        Sort::Text => true,
+        Sort::Decimal => true,
+        Sort::Alpha => true,
+    }
+}
+
+// Whether the sort k is that of a number.
+fn suits_number(k: Sort) -> bool
+    ensures { λ r. ⌜ r ≡ suits want.Number k ⌝ }
+{
+    match k {
+        Sort::Wrong => false,
+        Sort::Number => true,
+        Sort::Text => false, // An alpha literal is no number.
+        Sort::Decimal => true,
+        Sort::Alpha => false,
+    }
+}
+
+// Whether an expression of the sort k is of the sort wanted.
+fn suits_use(w: Want, k: Sort) -> bool
+    ensures { λ r. ⌜ r ≡ suits w k ⌝ }
+{
+    match w {
+        Want::Place => suits_place(k),
+        Want::DecimalPlace => suits_decimal_place(k),
+        Want::AlphaPlace => suits_alpha_place(k),
+        Want::Source => suits_source(k),
+        Want::Number => suits_number(k),
+    }
+}
+
+// Whether the expression of a use is well formed and of the sort wanted. What is found of it is noted.
+fn use_good(unit: &[u8], parts: Parts, notes: &mut [u8], u: Use) -> bool
+    requires { ⌜ Fills (now unit) parts ⌝ }
+    requires { ⌜ NotedOf (now unit) parts (now notes) ⌝ }
+    ensures { λ r. ⌜ r ≡ useb (codeOf (now (unit .entry)) parts) u ⌝ }
+    ensures { λ _. ⌜ NotedOf (now (unit .entry)) parts (now (notes .exit)) ⌝ }
+{
+    match u {
+        Use::Nothing => true,
+        Use::Of {
+            want,
+            at,
+            written: _,
+        } => suits_use(want, unit_sorts::sort_at(unit, parts, notes, at)),
+    }
+}
+
+// Whether the expressions of a statement are well formed and of the sorts that it wants. What is found of them is noted.
+pub fn uses_good(unit: &[u8], parts: Parts, notes: &mut [u8], s: Statement) -> bool
+    requires { ⌜ Fills (now unit) parts ⌝ }
+    requires { ⌜ NotedOf (now unit) parts (now notes) ⌝ }
+    ensures { λ r. ⌜ r ≡ usesb (codeOf (now (unit .entry)) parts) (usesOf s) ⌝ }
+    ensures { λ _. ⌜ NotedOf (now (unit .entry)) parts (now (notes .exit)) ⌝ }
+{
+    let mut k: usize = 0;
+    while k < COUNT {
+        if !use_good(unit, parts, notes, use_at(s, k)) {
+            return false;
+        }
+        k += 1;
+    }
+    true
+}
