@@ -14,7 +14,7 @@ ghost use Rattle.rules_run.specs.States.{started};
 ghost use Rattle.rules_run.specs.Stops.{stopNumber};
 ghost use Rattle.rules_run.specs.Runs.{Ran, runOf};
 ghost use Rattle.rules_fence.specs.Breaches.{breachNumber, fenceOf, breachIn};
-ghost use Rattle.stop_words.specs.Words.{Said, saidOf};
+ghost use Rattle.rules_host.specs.Words.{Said, saidOf};
 
 // Checks a unit by the rules 1 to 5 of document 01, in their order. The answer is Passed with the lengths of the unit's parts,
 // or Refused with the first rule that does not hold and its place: `refusal_number` and `refusal_place` give both as numbers.

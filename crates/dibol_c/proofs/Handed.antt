@@ -9,9 +9,9 @@ use Rattle.rules_run.specs.declared.State.{State}
 use Rattle.rules_run.specs.declared.Outcome.{Outcome}
 use Rattle.rules_run.specs.Runs.{Ran, runOf}
 use Rattle.rules_run.specs.Stops.{stopNumber}
-use Rattle.stop_words.specs.Laid.{laid}
-use Rattle.run_state.specs.Numbers.{numbersOf, stateOf}
-use Rattle.dibol_c.specs.Calls.{Handed, refusedb, handedOf}
+use Rattle.rules_host.specs.Laid.{laid}
+use Rattle.rules_host.specs.Numbers.{numbersOf, stateOf}
+use Rattle.rules_host.specs.Calls.{Handed, refusedb, handedOf}
 
 module _ (u d w : List ℕ) (k : ℕ) (a : List ℕ) (s : State) (is : s ≡ stateOf w) where
   module _ (q : Outcome) (d′ : List ℕ) (ran : _≡_ {A = Ran} (record { outcome = q; bytes = d′ }) (runOf u d s k)) where

@@ -13,8 +13,8 @@ use Rattle.rules_unit.specs.Literals.{stretchOf}
 use Rattle.rules_fence.specs.declared.Verdict.{Verdict}
 use Rattle.rules_fence.specs.declared.Verdict.the-variants as verdict
 use Rattle.rules_fence.specs.Breaches.{breachNumber, fenceOf, breachIn}
-use Rattle.stop_words.specs.Laid.{laid}
-use Rattle.dibol_c.specs.Calls.{Told, checkTold, fenceTold, literalTold}
+use Rattle.rules_host.specs.Laid.{laid}
+use Rattle.rules_host.specs.Calls.{Told, checkTold, fenceTold, literalTold}
 
 abbrev tells : ℕ → List ℕ → Told
 tells n m = record { value = n; answer = m }

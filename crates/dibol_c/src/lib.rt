@@ -7,9 +7,9 @@ ghost use mathlib.Core.List.{[], _∷_};
 ghost use Rattle.rules_unit.specs.Checks.{checkOf};
 ghost use Rattle.rules_unit.specs.Literals.{stretchOf};
 ghost use Rattle.rules_fence.specs.Breaches.{breachNumber, fenceOf, breachIn};
-ghost use Rattle.stop_words.specs.Laid.{laid};
-ghost use Rattle.stop_words.specs.Words.{Said, saidOf};
-ghost use Rattle.dibol_c.specs.Calls.{Told, checkTold, fenceTold, literalTold, Handed, refusedb, handedOf};
+ghost use Rattle.rules_host.specs.Laid.{laid};
+ghost use Rattle.rules_host.specs.Words.{Said, saidOf};
+ghost use Rattle.rules_host.specs.Calls.{Told, checkTold, fenceTold, literalTold, Handed, refusedb, handedOf};
 
 // ---- answers
 

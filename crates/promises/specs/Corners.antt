@@ -28,7 +28,7 @@ use Rattle.rules_unit.specs.Checks.{filledb, rangesb, entryb, goodFields, rowb,
 use Rattle.rules_unit.specs.Literals.{stretchOf, literalOf}
 use Rattle.rules_run.specs.Spans.{within, elementSpan, rangeSpan, lengthSpan, spanIn}
 use Rattle.rules_run.specs.Evaluation.{digitsFrom, plainNumber, literalNumber, reference, stepBy, placeBy, place, lastOf, workedFrom, workedOf, calc}
-use Rattle.rules_run.specs.States.{entriesb, soundb}
+use Rattle.rules_run.specs.States.{returnsb, soundb}
 use Rattle.rules_run.specs.Turns as turns
 use Rattle.promises.specs.Rows.{number, text, stop, Row, _is_, AllHold, limit, top, base, bytes, minus, answer, into, AM, NZ, NUM, expression, element, range, forth, back}
 use Rattle.promises.specs.Samples.{named, cleared, read, of-one, of-two, wide, sound, parts}
@@ -257,7 +257,7 @@ pub record States : Type 0 where
   pub unused-not-zero : soundb 9 (record { at = 3; depth = 1; returns = 4 ∷ 5 ∷ replicate 48 0 }) ≡ false
 
 pub states : States
-unfolding entriesb soundb
+unfolding returnsb soundb
 states =
     record { at-the-end = refl; past-the-end = refl; fifty-calls = refl; one-more = refl; returns-past = refl; returns-zero = refl; unused-not-zero = refl }
 

@@ -37,11 +37,11 @@ use Rattle.rules_run.specs.declared.Stop.the-variants as stop
 use Rattle.rules_run.specs.Runs.{counting, runOf}
 use Rattle.rules_run.specs.Answers.{Erred, StopNo, noOf, Given}
 use Rattle.rules_run.proofs.Resumed.{call-resumed}
-use Rattle.stop_words.specs.Words as words
-use Rattle.stop_words.proofs.Short.{words-short}
-use Rattle.run_state.specs.Numbers.{numbersOf, Held, stateb, stateOf}
-use Rattle.dibol_c.specs.Calls.{Handed, refusedb, handedOf, untouched, HostReads}
-use Rattle.dibol_c.proofs.Resume as resume
+use Rattle.rules_host.specs.Words as words
+use Rattle.rules_host.proofs.Short.{words-short}
+use Rattle.rules_host.specs.Numbers.{numbersOf, Fits, stateb, stateOf}
+use Rattle.rules_host.specs.Calls.{Handed, refusedb, handedOf, untouched, HostReads}
+use Rattle.rules_host.proofs.Resume as resume
 use Rattle.dibol_c.proofs.dibol_run.Reads as c-run
 
 -- ---- the contract of dibol_run
@@ -97,7 +97,7 @@ module _ (u d w : List ℕ) (m : ℕ) (a : List ℕ) where
 
 -- ---- from one call to the next
 
-pub read-after-write : (s : State) → Held s → stateOf (numbersOf s) ≡ s
+pub read-after-write : (s : State) → Fits s → stateOf (numbersOf s) ≡ s
 read-after-write = resume.read-written
 
 module _ (u d w : List ℕ) (m : ℕ) (a : List ℕ) where

@@ -28,8 +28,8 @@ use Rattle.rules_run.specs.declared.Outcome.{Outcome}
 use Rattle.rules_run.specs.Runs.{Ran}
 use Rattle.rules_fence.specs.declared.Breach.{Breach}
 use Rattle.rules_fence.specs.declared.Verdict.{Verdict}
-use Rattle.stop_words.specs.Words.{Said}
-use Rattle.dibol_c.specs.Calls.{Told, Handed}
+use Rattle.rules_host.specs.Words.{Said}
+use Rattle.rules_host.specs.Calls.{Told, Handed}
 use Rattle.dibol.proofs.check.Reads as check
 use Rattle.dibol.proofs.fence.Reads as fence
 use Rattle.dibol.proofs.breach.Reads as breach

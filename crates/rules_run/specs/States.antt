@@ -12,17 +12,17 @@ use lib.ListN.{length, getD, set, replicate}
 use Rattle.rules_run.specs.declared.State.{State}
 
 -- "50 return numbers (0 to N), unused ones zero"
-abbrev pub entryb : ℕ → ℕ → ℕ → ℕ → Bool
-entryb n depth i x = cond (ltb i depth) (leb x n) (eqb x 0)
+abbrev pub returnb : ℕ → ℕ → ℕ → ℕ → Bool
+returnb n depth i x = cond (ltb i depth) (leb x n) (eqb x 0)
 
--- The entries from the place i on.
-unfoldable pub entriesb : ℕ → ℕ → ℕ → List ℕ → Bool
-entriesb n depth i [] = true
-entriesb n depth i (x ∷ xs) = let rest = entriesb n depth (i + 1) xs in cond (entryb n depth i x) rest false
+-- The return numbers from the place i on.
+unfoldable pub returnsb : ℕ → ℕ → ℕ → List ℕ → Bool
+returnsb n depth i [] = true
+returnsb n depth i (x ∷ xs) = let rest = returnsb n depth (i + 1) xs in cond (returnb n depth i x) rest false
 
 -- "The resume state holds a statement number (0 to N), the number of open calls (0 to 50) and 50 return numbers"
 unfoldable pub soundb : ℕ → State → Bool
-soundb n s = cond (leb (s .at) n) (cond (leb (s .depth) 50) (entriesb n (s .depth) 0 (s .returns)) false) false
+soundb n s = cond (leb (s .at) n) (cond (leb (s .depth) 50) (returnsb n (s .depth) 0 (s .returns)) false) false
 
 -- The same sentence with quantifiers.
 pub record Sound (n : ℕ) (s : State) : Type 0 where

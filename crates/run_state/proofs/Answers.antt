@@ -5,8 +5,8 @@ use native.Mathlib.Omega.{arith}
 use mathlib.Core.Path.{_≡_, refl}
 use mathlib.Core.List.{List, [], _∷_}
 use lib.ListN.{length, set}
-use Rattle.stop_words.specs.Laid.{laid}
-use Rattle.stop_words.proofs.Laid.{laid-next, laid-full}
+use Rattle.rules_host.specs.Laid.{laid}
+use Rattle.rules_host.proofs.Laid.{laid-next, laid-full}
 
 module _ (a b : ℕ) where
   -- No room for the first, none for the second, and room for both.

@@ -1,4 +1,4 @@
-pub mod Entries
+pub mod Returns
 pub mod Answers
 pub mod Reading
 pub mod Writing

@@ -11,9 +11,9 @@ use lib.ListN.{length, getD, take, drop, set, length-drop, drop-of-length-le}
 use lib.Seq.{drop-cons, getD-drop}
 use borrow.Author.Tests.{le-leb, lt-leb, eq-eqb, ne-eqb}
 use Rattle.rules_run.specs.declared.State.{State}
-use Rattle.stop_words.specs.Laid.{laid}
-use Rattle.stop_words.proofs.Laid.{laid-next, laid-all, laid-same}
-use Rattle.run_state.specs.Numbers.{smallb, stateb, nowhere, stateOf}
+use Rattle.rules_host.specs.Laid.{laid}
+use Rattle.rules_host.proofs.Laid.{laid-next, laid-all, laid-same}
+use Rattle.rules_host.specs.Numbers.{smallb, stateb, noState, stateOf}
 
 -- ---- numbers that are no state's
 
@@ -27,7 +27,7 @@ over [] i h k = absurd (omega arith)
 over (x ∷ w) zero h k = rw (lt-leb x 65535 k)
 over (x ∷ w) (suc i) h k = rw (over w i (omega arith) k) (neither (leb x 65535))
 
-module _ (w : List ℕ) (z : State) (is : z ≡ nowhere) where
+module _ (w : List ℕ) (z : State) (is : z ≡ noState) where
   -- There are not 52.
   pub read-other : (length w ≡ 52 → ⊥) → z ≡ stateOf w
   unfolding stateOf stateb

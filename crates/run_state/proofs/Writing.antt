@@ -6,8 +6,8 @@ use native.Mathlib.Omega.{arith}
 use mathlib.Core.Path.{_≡_, refl, sym, ap, _∙_}
 use mathlib.Core.List.{List, [], _∷_}
 use lib.ListN.{length, getD, take, set}
-use Rattle.stop_words.specs.Laid.{laid}
-use Rattle.stop_words.proofs.Laid.{laid-next, laid-full, laid-all}
+use Rattle.rules_host.specs.Laid.{laid}
+use Rattle.rules_host.proofs.Laid.{laid-next, laid-full, laid-all}
 
 -- The first two are put already.
 again : (at depth : ℕ) (returns l : List ℕ) → laid (at ∷ (depth ∷ returns)) (laid (at ∷ (depth ∷ [])) l) ≡ laid (at ∷ (depth ∷ returns)) l

@@ -2,15 +2,15 @@
 use rules_run::State;
 ghost use mathlib.Core.Path.{_≡_};
 ghost use mathlib.Core.List.{[], _∷_};
-ghost use Rattle.stop_words.specs.Laid.{laid};
-ghost use Rattle.rules_run.specs.States.{entryb, entriesb, soundb};
-ghost use Rattle.run_state.specs.Numbers.{numbersOf, nowhere, stateOf};
+ghost use Rattle.rules_host.specs.Laid.{laid};
+ghost use Rattle.rules_run.specs.States.{returnb, returnsb, soundb};
+ghost use Rattle.rules_host.specs.Numbers.{numbersOf, noState, stateOf};
 
 // ---- a sound state
 
 // Whether the return number x at the place i is one: 0 to n for an open call, and zero for none.
-fn entry_sound(n: u16, depth: u16, i: u16, x: u16) -> bool
-    ensures { λ r. ⌜ r ≡ entryb n depth i x ⌝ }
+fn return_sound(n: u16, depth: u16, i: u16, x: u16) -> bool
+    ensures { λ r. ⌜ r ≡ returnb n depth i x ⌝ }
 {
     if i < depth {
         return x <= n;
@@ -19,14 +19,14 @@ fn entry_sound(n: u16, depth: u16, i: u16, x: u16) -> bool
 }
 
 // Whether all return numbers are.
-fn entries_sound(n: u16, depth: u16, returns: [u16; 50]) -> bool
-    ensures { λ r. ⌜ r ≡ entriesb n depth 0 returns ⌝ }
+fn returns_sound(n: u16, depth: u16, returns: [u16; 50]) -> bool
+    ensures { λ r. ⌜ r ≡ returnsb n depth 0 returns ⌝ }
 {
     let mut i: u16 = 0;
     while i < 50 {
         let at = i as usize;
         let x = returns[at];
-        if !entry_sound(n, depth, i, x) {
+        if !return_sound(n, depth, i, x) {
             return false;
         }
         i += 1;
@@ -45,14 +45,14 @@ pub fn sound(n: u16, s: State) -> bool
         return false;
     }
     let returns = s.returns;
-    entries_sound(n, s.depth, returns)
+    returns_sound(n, s.depth, returns)
 }
 
 // ---- a state in numbers
 
 // A state that is sound for no unit, since no unit has so many statements.
 fn no_state() -> State
-    ensures { λ r. ⌜ r ≡ nowhere ⌝ }
+    ensures { λ r. ⌜ r ≡ noState ⌝ }
 {
     State {
         at: 65535,

@@ -1,6 +1,6 @@
 // The stops of document 01 in words.
 ghost use mathlib.Core.Path.{_≡_};
-ghost use Rattle.stop_words.specs.Words.{Said, said, saidOf};
+ghost use Rattle.rules_host.specs.Words.{Said, said, saidOf};
 
 // Puts a text at the front of another, as many of its bytes as fit, and answers its whole length.
 fn put(from: &[u8], text: &mut [u8]) -> usize

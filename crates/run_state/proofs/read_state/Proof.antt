@@ -4,8 +4,8 @@
 use Prim.Native.Nat.{_+_, _-_, _≤_}
 use mathlib.Core.Path.{_≡_}
 use lib.ListN.{length, getD, take, drop}
-use Rattle.stop_words.specs.Laid.{laid}
-use Rattle.stop_words.proofs.Laid.{laid-none}
+use Rattle.rules_host.specs.Laid.{laid}
+use Rattle.rules_host.proofs.Laid.{laid-none}
 use Rattle.run_state.proofs.Reading.{passed, read-other, read-over, read-return, read-start, read-next, read-put, read-all}
 use borrow.Author.Needs.{needs}
 use Rattle.run_state.proofs.read_state.Statement.{statement}

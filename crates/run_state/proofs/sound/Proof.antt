@@ -1,7 +1,7 @@
--- `run_state::sound` meets its contract: the statement number, the open calls and the entries are tested in the order of `soundb`.
+-- `run_state::sound` meets its contract: the statement number, the open calls and the return numbers are tested in the order of `soundb`.
 -- Assumes nothing.
 use borrow.Author.Needs.{needs}
-use Rattle.run_state.proofs.Entries.{sound-laws}
+use Rattle.run_state.proofs.Returns.{sound-laws}
 use Rattle.run_state.proofs.sound.Statement.{statement}
 use Rattle.run_state.proofs.sound.Tie as tie
 
@@ -11,11 +11,11 @@ returns c = search sound-laws depth 3
 returns-2 : tie.Need-returns-2
 returns-2 c = search sound-laws depth 3
 
-entries-sound-requires : tie.Need-entries-sound-requires
-entries-sound-requires c κs = search needs
+returns-sound-requires : tie.Need-returns-sound-requires
+returns-sound-requires c κs = search needs
 
 returns-3 : tie.Need-returns-3
 returns-3 c = search sound-laws depth 3
 
 pub sound-spec : {M : Type 1} → statement M
-sound-spec = tie.close (tie.spec returns returns-2 entries-sound-requires returns-3)
+sound-spec = tie.close (tie.spec returns returns-2 returns-sound-requires returns-3)

@@ -5,7 +5,7 @@ use Prim.Native.Nat.{_-_, _≤_}
 use mathlib.Core.Path.{_≡_}
 use mathlib.Core.List.{_∷_}
 use lib.ListN.{length, take}
-use Rattle.stop_words.specs.Laid.{laid}
+use Rattle.rules_host.specs.Laid.{laid}
 use Rattle.run_state.proofs.Writing.{write-start, write-next, write-full, write-all}
 use borrow.Author.Needs.{needs}
 use Rattle.run_state.proofs.write_state.Statement.{statement}

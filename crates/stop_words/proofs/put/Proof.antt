@@ -5,8 +5,9 @@ use Prim.Native.Nat.{_≤_, _-_}
 use mathlib.Core.Path.{_≡_}
 use lib.ListN.{length, take}
 use borrow.Author.Needs.{needs}
-use Rattle.stop_words.specs.Laid.{laid}
-use Rattle.stop_words.proofs.Laid.{laid-none, laid-next, laid-full, laid-all, put-by}
+use Rattle.rules_host.specs.Laid.{laid}
+use Rattle.rules_host.proofs.Laid.{laid-none, laid-next, laid-full, laid-all}
+use Rattle.stop_words.proofs.Said.{put-by}
 use Rattle.stop_words.proofs.put.Statement.{statement}
 use Rattle.stop_words.proofs.put.Tie as tie
 

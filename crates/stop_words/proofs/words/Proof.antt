@@ -1,7 +1,7 @@
--- `stop_words::words` meets its contract: each number's text is the one that `textOf` names, and every arm puts its text in the same way.
+-- `stop_words::words` meets its contract: each number's text is the one that `stopText` names, and every arm puts its text in the same way.
 -- Assumes nothing.
 use borrow.Author.Needs.{needs}
-use Rattle.stop_words.specs.Words.{wordsOf, codes}
+use Rattle.rules_host.specs.Words.{wordsOf, codes}
 use Rattle.stop_words.proofs.Said.{said-by, unsaid}
 use Rattle.stop_words.proofs.words.Statement.{statement}
 use Rattle.stop_words.proofs.words.Tie as tie

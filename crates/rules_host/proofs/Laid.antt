@@ -7,8 +7,7 @@ use mathlib.Core.Path.{_≡_, refl, sym, ap, _∙_}
 use mathlib.Core.List.{List, [], _∷_}
 use lib.ListN.{length, getD, take, set}
 use lib.Seq.{take-all}
-use Rattle.stop_words.specs.Laid.{laid}
-use Rattle.stop_words.specs.Words.{Said, said}
+use Rattle.rules_host.specs.Laid.{laid}
 
 -- The slice keeps its length.
 pub length-laid : (xs l : List ℕ) → length (laid xs l) ≡ length l
@@ -60,7 +59,3 @@ laid-full xs l m k h e =
 -- All of them are put.
 pub laid-all : (xs l m : List ℕ) (k : ℕ) → length xs ≤ k → m ≡ laid (take k xs) l → m ≡ laid xs l
 laid-all xs l m k h e = e ∙ ap (λ (x : List ℕ). laid x l) (take-all k xs h)
-
--- What `stop_words::put` leaves.
-pub put-by : (xs l m : List ℕ) (n : ℕ) → n ≡ length xs → m ≡ laid xs l → _≡_ {A = Said} (record { size = n; text = m }) (said xs l)
-put-by xs l m n e f = rw (e, f)

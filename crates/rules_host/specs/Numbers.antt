@@ -1,6 +1,6 @@
 -- The resume state as a host in C holds it: 52 numbers, the statement, the open calls and the 50 return numbers.
 --   numbersOf s  the numbers of the state s
---   Held s       there are 50 return numbers, and no number of s is over 65,535; a State of the code is always so
+--   Fits s       there are 50 return numbers, and no number of s is over 65,535; a State of the code is always so
 --   stateb w     the numbers w are those of a state: there are 52, and none is over 65,535
 --   stateOf w    the state that they stand for; where they stand for none, one that is sound for no unit
 -- Assumes nothing.
@@ -15,7 +15,7 @@ use Rattle.rules_run.specs.declared.State.{State}
 abbrev pub numbersOf : State → List ℕ
 numbersOf s = s .at ∷ (s .depth ∷ s .returns)
 
-pub record Held (s : State) : Type 0 where
+pub record Fits (s : State) : Type 0 where
   pub at : s .at ≤ 65535
   pub depth : s .depth ≤ 65535
   pub count : length (s .returns) ≡ 50
@@ -30,8 +30,8 @@ unfoldable pub stateb : List ℕ → Bool
 stateb w = cond (eqb (length w) 52) (smallb w) false
 
 -- Sound for no unit: N is at most 2,048.
-abbrev pub nowhere : State
-nowhere = record { at = 65535; depth = 0; returns = replicate 50 0 }
+abbrev pub noState : State
+noState = record { at = 65535; depth = 0; returns = replicate 50 0 }
 
 unfoldable pub stateOf : List ℕ → State
-stateOf w = cond (stateb w) (record { at = getD w 0 0; depth = getD w 1 0; returns = drop 2 w }) nowhere
+stateOf w = cond (stateb w) (record { at = getD w 0 0; depth = getD w 1 0; returns = drop 2 w }) noState

@@ -19,8 +19,8 @@ use Rattle.rules_run.specs.Answers.{RunNumber, Does}
 use Rattle.rules_fence.specs.declared.Verdict.{Verdict}
 use Rattle.rules_fence.specs.declared.Verdict.the-variants as verdict
 use Rattle.rules_fence.specs.Breaches.{breachNumber, breachIn}
-use Rattle.stop_words.specs.Laid.{laid}
-use Rattle.run_state.specs.Numbers.{numbersOf, stateOf}
+use Rattle.rules_host.specs.Laid.{laid}
+use Rattle.rules_host.specs.Numbers.{numbersOf, stateOf}
 
 -- ---- check, fence, literal
 

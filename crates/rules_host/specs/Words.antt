@@ -1,5 +1,5 @@
 -- The words of the stops (document 01, "Stops and their numbers"). Those of 20 to 25 are the manuals' own.
---   textOf n     the words of the stop n, as a text; none where n is no stop
+--   stopText n     the words of the stop n, as a text; none where n is no stop
 --   wordsOf n    the same as the codes of its characters
 --   saidOf n t   what a call leaves that puts them into the text t: their whole length, and the text
 -- Assumes nothing.
@@ -10,11 +10,11 @@ use mathlib.Core.Bool.{cond}
 use mathlib.Core.List.{List, [] as none, _∷_ as _then_}
 use lib.Dec.{eqb}
 use lib.ListN.{length}
-use Rattle.stop_words.specs.Laid.{laid}
+use Rattle.rules_host.specs.Laid.{laid}
 
 -- The words, a line for each stop.
-abbrev pub textOf : ℕ → String
-textOf n =
+abbrev pub stopText : ℕ → String
+stopText n =
     cond (eqb n 0) "The end was reached"
     (cond (eqb n 1) "The length, the mark or the parts do not fit"
     (cond (eqb n 2) "A part is outside its range"
@@ -39,7 +39,7 @@ codes [] = none
 codes (c ∷ s) = code c then codes s
 
 unfoldable pub wordsOf : ℕ → List ℕ
-wordsOf n = codes (textOf n)
+wordsOf n = codes (stopText n)
 
 -- What a call leaves: the whole length, and the text.
 pub record Said : Type 0 where

@@ -5,7 +5,7 @@ use Prim.Native.String.{String}
 use mathlib.Core.Bool.{Bool, true, false, cond}
 use lib.Dec.{T, leb, leb→le}
 use lib.ListN.{length}
-use Rattle.stop_words.specs.Words.{codes, textOf, wordsOf}
+use Rattle.rules_host.specs.Words.{codes, stopText, wordsOf}
 
 record Short (s : String) : Type 0 where
   pub most : length (codes s) ≤ 63
@@ -17,7 +17,7 @@ either false s t f g = g
 counted : (s : String) → T (leb (length (codes s)) 63) → Short s
 counted s h = record { most = leb→le (length (codes s)) 63 h }
 
-text-short : (n : ℕ) → Short (textOf n)
+text-short : (n : ℕ) → Short (stopText n)
 unfolding codes
 text-short n = search (either, counted) depth 20
 

@@ -31,9 +31,9 @@ use Rattle.rules_run.proofs.Calls.{beforeb, call-refused, call-wrong-size, call
 use Rattle.rules_run.proofs.Steps.{every-run}
 use Rattle.rules_run.proofs.Answers.{call-exactly, does-exactly, refused-by-number, erred-by-number, given-exactly}
 use Rattle.rules_run.proofs.SoundRuns.{run-sound}
-use Rattle.stop_words.proofs.Laid.{laid-same}
-use Rattle.run_state.specs.Numbers.{numbersOf, Held, smallb, stateb, nowhere, stateOf}
-use Rattle.dibol_c.specs.Calls.{Handed, refusedb, handedOf, untouched, HostReads}
+use Rattle.rules_host.proofs.Laid.{laid-same}
+use Rattle.rules_host.specs.Numbers.{numbersOf, Fits, smallb, stateb, noState, stateOf}
+use Rattle.rules_host.specs.Calls.{Handed, refusedb, handedOf, untouched, HostReads}
 
 -- ---- read after write
 
@@ -42,15 +42,15 @@ unfolding smallb
 small-all [] h = refl
 small-all (x ∷ l) h = rw (le-leb x 65535 (h 0 (omega arith)), small-all l (λ i k. h (suc i) (omega arith)))
 
-pub read-written : (s : State) → Held s → stateOf (numbersOf s) ≡ s
+pub read-written : (s : State) → Fits s → stateOf (numbersOf s) ≡ s
 unfolding stateOf stateb smallb
 read-written s h =
     let n : suc (suc (length (s .returns))) ≡ 52 = omega (arith, h .count) in
     rw (eq-eqb (suc (suc (length (s .returns)))) 52 n, le-leb (s .at) 65535 (h .at), le-leb (s .depth) 65535 (h .depth), small-all (s .returns) (h .each))
 
 -- A sound state of a unit is held.
-sound-held : (u : List ℕ) (p : Parts) (s : State) → checkOf u ≡ checked.Passed p → Sound (p .n) s → length (s .returns) ≡ 50 → Held s
-sound-held u p s e t l =
+sound-fits : (u : List ℕ) (p : Parts) (s : State) → checkOf u ≡ checked.Passed p → Sound (p .n) s → length (s .returns) ≡ 50 → Fits s
+sound-fits u p s e t l =
     let n : p .n ≤ 2048 = passed-sound u p e .ranges .n-most in
     record { at = omega (arith, t .place); depth = omega (arith, t .calls); count = l; each = λ i h. by i h (ltb i (s .depth)) refl }
   where
@@ -60,12 +60,12 @@ sound-held u p s e t l =
 
 -- ---- what is no state
 
-pub none-unsound : (u : List ℕ) (p : Parts) → checkOf u ≡ checked.Passed p → Sound (p .n) nowhere → ⊥
+pub none-unsound : (u : List ℕ) (p : Parts) → checkOf u ≡ checked.Passed p → Sound (p .n) noState → ⊥
 none-unsound u p e t = omega (arith, t .place, passed-sound u p e .ranges .n-most)
 
-pub none-nowhere : (w : List ℕ) → stateb w ≡ false → stateOf w ≡ nowhere
+pub none-state : (w : List ℕ) → stateb w ≡ false → stateOf w ≡ noState
 unfolding stateOf
-none-nowhere w e = rw e
+none-state w e = rw e
 
 -- Where the state read is sound for a unit, its numbers are a state's.
 sound-state : (u w : List ℕ) (p : Parts) → checkOf u ≡ checked.Passed p → Sound (p .n) (stateOf w) → stateb w ≡ true
@@ -73,7 +73,7 @@ sound-state u w p e t = by (stateb w) refl
   where
     by : (b : Bool) → stateb w ≡ b → stateb w ≡ true
     by true f = f
-    by false f = absurd (none-unsound u p e (subst (Sound (p .n)) (none-nowhere w f) t))
+    by false f = absurd (none-unsound u p e (subst (Sound (p .n)) (none-state w f) t))
 
 state-52 : (w : List ℕ) → stateb w ≡ true → length w ≡ 52
 unfolding stateb
@@ -145,18 +145,18 @@ module _ (u d w : List ℕ) (m : ℕ) (a : List ℕ) where
     left-unsound l n = rw (call-unsound u d (stateOf w) m p e l n)
 
     pub left-none : length d ≡ p .d → stateb w ≡ false → handedOf u d w m a ≡ untouched 7 0 d w a
-    left-none l n = left-unsound l (λ t. none-unsound u p e (subst (Sound (p .n)) (none-nowhere w n) t))
+    left-none l n = left-unsound l (λ t. none-unsound u p e (subst (Sound (p .n)) (none-state w n) t))
 
   -- Any other stop: the numbers are a state's, and so are those of the next state.
-  ran-held : refusedb (stopNumber (runOf u d (stateOf w) m .outcome .stop)) ≡ false → (length w ≡ 52) × Held (runOf u d (stateOf w) m .outcome .state)
+  ran-held : refusedb (stopNumber (runOf u d (stateOf w) m .outcome .stop)) ≡ false → (length w ≡ 52) × Fits (runOf u d (stateOf w) m .outcome .state)
   ran-held =
-      every-call (λ r. refusedb (stopNumber (r .outcome .stop)) ≡ false → (length w ≡ 52) × Held (r .outcome .state)) u d (stateOf w) m
+      every-call (λ r. refusedb (stopNumber (r .outcome .stop)) ≡ false → (length w ≡ 52) × Fits (r .outcome .state)) u d (stateOf w) m
       (λ e b f. absurd (false≢true (sym f ∙ before-refuses e b)))
       (λ p e l t f.
       let s : stateb w ≡ true = sound-state u w p e t in
       let c = codeOf u p in (
         state-52 w s,
-        sound-held u p (runFrom c m (stateOf w) d 0 .outcome .state) e (run-sound c (passed-sound u p e .code) m (stateOf w) d 0 t)
+        sound-fits u p (runFrom c m (stateOf w) d 0 .outcome .state) e (run-sound c (passed-sound u p e .code) m (stateOf w) d 0 t)
             (run-kept c m (stateOf w) d 0 ∙ state-returns w s),
       ))
 

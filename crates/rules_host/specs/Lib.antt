@@ -1,0 +1,4 @@
+pub mod Laid
+pub mod Words
+pub mod Numbers
+pub mod Calls
