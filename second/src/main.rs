@@ -6,7 +6,7 @@ mod timing;
 
 use second::{answer, bench, breach, image, literal_range, read_unit, run, words};
 use second::{State, BENCH_ALLOWANCE};
-use shown::shown;
+use shown::{named, shown};
 use std::env::args_os;
 use std::ffi::{OsStr, OsString};
 use std::fs;
@@ -111,12 +111,12 @@ fn batch() -> io::Result<()> {
 }
 
 fn read_file(file: &OsStr) -> io::Result<Vec<u8>> {
-    let told = |error| io::Error::other(format!("{}: {error}", shown(file.as_bytes())));
+    let told = |error| io::Error::other(format!("{}: {error}", named(file.as_bytes())));
     fs::read(file).map_err(told)
 }
 
 fn number<T: FromStr>(text: &OsStr) -> io::Result<T> {
     let number = text.to_str().and_then(|text| text.parse().ok());
-    let told = || io::Error::other(format!("{} is no number here", shown(text.as_bytes())));
+    let told = || io::Error::other(format!("{} is no number here", named(text.as_bytes())));
     number.ok_or_else(told)
 }

@@ -14,9 +14,18 @@ pub fn shown(bytes: &[u8]) -> String {
     text
 }
 
+/// A name as it is shown: in quotes if it has a space or a quote, so that it is seen where it ends.
+pub fn named(name: &[u8]) -> String {
+    let text = shown(name);
+    if text.contains([' ', '"']) {
+        return format!("\"{}\"", text.replace('"', "\\\""));
+    }
+    text
+}
+
 #[cfg(test)]
 mod tests {
-    use super::shown;
+    use super::{named, shown};
 
     #[test]
     fn both_sides_of_what_is_printable() {
@@ -32,6 +41,15 @@ mod tests {
     fn a_backslash_stands_twice() {
         assert_eq!(shown(br"\x41\"), r"\\x41\\");
         assert_ne!(shown(br"\x0A"), shown(b"\n"));
+    }
+
+    #[test]
+    fn a_name_with_a_space_or_a_quote_stands_in_quotes() {
+        assert_eq!(named(b"seats.unit"), "seats.unit");
+        assert_eq!(named(b"two seats"), r#""two seats""#);
+        assert_eq!(named(b"a\"b"), r#""a\"b""#);
+        assert_eq!(named(br"a\b"), r"a\\b");
+        assert_eq!(named(b"a\nb"), r"a\x0Ab");
     }
 
     #[test]

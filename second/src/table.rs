@@ -1,6 +1,6 @@
 //! Tables: a row for each file and a last line with the sums.
 
-use crate::shown::shown;
+use crate::shown::named;
 use second::{breach, fence, words, Fence, Refusal, LONGEST};
 use std::ffi::OsStr;
 use std::fs;
@@ -44,7 +44,7 @@ fn table(
     let mut counts = vec![0; sums.len()];
     let mut unread = 0;
     for file in files {
-        let name = shown(file.as_bytes());
+        let name = named(file.as_bytes());
         if let Ok(unit) = fs::read(file) {
             let (sum, words) = answer(&unit);
             counts[sum] += 1;
