@@ -13,7 +13,7 @@
 use native.Mathlib.Omega.{arith}
 use mathlib.Core.Path.{_≡_, refl, sym, _∙_}
 use mathlib.Core.Bool.{false}
-use borrow.Author.Tests.{lt-ltb, le-ltb}
+use borrow.Author.Tests.{lt-leb, le-leb}
 use mathlib.Core.List.{List, [], _∷_, _++_}
 use Prim.Native.Nat.{ℕ, _≤_}
 use lib.IntN.{pos}
@@ -169,7 +169,7 @@ not-too-long u e a b l =
 -- "a = n from 1 to 255"
 pub too-many : (c : Code) (i n : ℕ) → 256 ≤ n → tableb c i n ≡ false
 unfolding tableb
-too-many c i n h = rw (le-ltb n 1 (omega (arith, h)), lt-ltb 255 n (omega (arith, h)))
+too-many c i n h = rw (le-leb 1 n (omega (arith, h)), lt-leb n 255 (omega (arith, h)))
 
 -- "needs n GOTO statements right after it inside the unit"
 pub table-outside : last-of-all ≡ refusal 5 0

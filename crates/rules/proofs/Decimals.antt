@@ -2,7 +2,7 @@
 -- kept with their sign, and that what is written to a decimal is valid.
 -- Assumes nothing.
 use mathlib.Core.Path.{_≡_, refl, sym, ap, _∙_}
-use mathlib.Core.Bool.{Bool, true, false, cond, _&&_, and-eq-true-iff}
+use mathlib.Core.Bool.{Bool, true, false, cond}
 use mathlib.Core.Logic.{inl}
 use mathlib.Core.List.{List, [], _∷_}
 use Prim.Native.Nat.{ℕ, zero, suc, _+_, _-_, _*_, _/_, _%_, _^_, _≤_, _<_}
@@ -14,6 +14,8 @@ use lib.Dec.{ltb, leb, lit<}
 use lib.IntN.{ℤ, natAbs}
 use lib.ListN.{length, getD, length-replicate, getD-replicate, length-map}
 use borrow.Author.Tests.{ltb-true, leb-true, lt-ltb, le-ltb, le-leb, lt-leb}
+use Rattle.rules.proofs.Tests.{both}
+use Rattle.rules.specs.Tests.{_&&_}
 use Rattle.rules.specs.declared.Num.the-variants.{Value}
 use Rattle.rules.specs.Values.{Letters, signed, isNeg, isFrom, Valid, lastOf, readFrom, readOf}
 use Rattle.rules.specs.Moves.{placed, zeroAt, digitAt, written, shownAt, width, shown, fitted, upper, lower, upcased, locased, blanks, zeros}
@@ -65,7 +67,7 @@ from-high z b h = simp (le-leb z b (omega arith), le-ltb b (z + 10) h)
 -- The digit that it stands for.
 pub from-digit : (z b : ℕ) → isFrom z b ≡ true → b - z < 10
 from-digit z b e =
-    let t = and-eq-true-iff (leb z b) (ltb b (z + 10)) .0 e in
+    let t = both (leb z b) (ltb b (z + 10)) .0 e in
     omega (arith, leb-true z b (t .0), ltb-true b (z + 10) (t .1))
 
 -- ---- digits of numbers

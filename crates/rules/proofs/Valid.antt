@@ -2,7 +2,7 @@
 -- a number exactly when it is valid.
 -- Assumes nothing.
 use mathlib.Core.Path.{_≡_, refl, sym, ap, _∙_}
-use mathlib.Core.Bool.{Bool, true, false, cond, _&&_, _||_, false≢true, and-eq-true-iff}
+use mathlib.Core.Bool.{Bool, true, false, cond, _||_, false≢true}
 use mathlib.Core.Logic.{_⊎_, inl, inr}
 use mathlib.Core.List.{List, [], _∷_}
 use Prim.Native.Nat.{ℕ, zero, suc, _+_, _-_, _*_, _<_}
@@ -11,6 +11,8 @@ use lib.Dec.{ltb, leb}
 use lib.IntN.{ℤ, pos}
 use lib.ListN.{length, getD}
 use borrow.Author.Tests.{ltb-true, ltb-false, leb-true, le-leb, lt-leb}
+use Rattle.rules.proofs.Tests.{both}
+use Rattle.rules.specs.Tests.{_&&_}
 use Rattle.rules.specs.declared.Num.{Num}
 use Rattle.rules.specs.declared.Num.the-variants.{Value, Failed}
 use Rattle.rules.specs.declared.Fault.the-variants as fault
@@ -39,18 +41,18 @@ module _ (base : ℕ) where
   from-digits : (b : ℕ) (bs : List ℕ) → validFrom base b bs ≡ true → Digits (b ∷ bs) (length bs)
   unfolding validFrom
   from-digits b [] e j h = absurd (omega arith)
-  from-digits b (x ∷ xs) e zero h = and-eq-true-iff (isFrom 48 b) (validFrom base x xs) .0 e .0
-  from-digits b (x ∷ xs) e (suc j) h = from-digits x xs (and-eq-true-iff (isFrom 48 b) (validFrom base x xs) .0 e .1) j (omega arith)
+  from-digits b (x ∷ xs) e zero h = both (isFrom 48 b) (validFrom base x xs) .0 e .0
+  from-digits b (x ∷ xs) e (suc j) h = from-digits x xs (both (isFrom 48 b) (validFrom base x xs) .0 e .1) j (omega arith)
 
   from-last : (b : ℕ) (bs : List ℕ) → validFrom base b bs ≡ true → Last base (getD (b ∷ bs) (length bs) 0)
   unfolding validFrom
   from-last b [] e = either (isFrom 48 b) (isFrom base b) e
-  from-last b (x ∷ xs) e = from-last x xs (and-eq-true-iff (isFrom 48 b) (validFrom base x xs) .0 e .1)
+  from-last b (x ∷ xs) e = from-last x xs (both (isFrom 48 b) (validFrom base x xs) .0 e .1)
 
   from-of : (b : ℕ) (bs : List ℕ) → Digits (b ∷ bs) (length bs) → Last base (getD (b ∷ bs) (length bs) 0) → validFrom base b bs ≡ true
   unfolding validFrom
   from-of b [] d l = of-either (isFrom 48 b) (isFrom base b) l
-  from-of b (x ∷ xs) d l = and-eq-true-iff (isFrom 48 b) (validFrom base x xs) .1 (d 0 (omega arith), from-of x xs (λ j h. d (suc j) (omega arith)) l)
+  from-of b (x ∷ xs) d l = both (isFrom 48 b) (validFrom base x xs) .1 (d 0 (omega arith), from-of x xs (λ j h. d (suc j) (omega arith)) l)
 
 -- The statement with quantifiers gives the test, and the test gives the statement.
 pub valid-of : {limit base : ℕ} {s : List ℕ} → Valid limit base s → validb limit base s ≡ true
@@ -58,7 +60,7 @@ unfolding validb
 valid-of {s = []} v = absurd (omega (arith, v .some))
 valid-of {limit} {base} {s = b ∷ bs} v =
     let e : length (b ∷ bs) - 1 ≡ length bs = omega arith in
-    and-eq-true-iff (leb (length (b ∷ bs)) limit) (validFrom base b bs) .1
+    both (leb (length (b ∷ bs)) limit) (validFrom base b bs) .1
     (le-leb (length (b ∷ bs)) limit (v .most), from-of base b bs (λ j h. v .digits j (omega arith)) (rw e at (v .last)))
 
 pub valid-to : {limit base : ℕ} {s : List ℕ} → validb limit base s ≡ true → Valid limit base s
@@ -66,7 +68,7 @@ unfolding validb
 valid-to {s = []} e = absurd (false≢true e)
 valid-to {limit} {base} {s = b ∷ bs} e =
     let n : length (b ∷ bs) - 1 ≡ length bs = omega arith in
-    let t = and-eq-true-iff (leb (length (b ∷ bs)) limit) (validFrom base b bs) .0 e in
+    let t = both (leb (length (b ∷ bs)) limit) (validFrom base b bs) .0 e in
     record {
       some = omega arith;
       most = leb-true (length (b ∷ bs)) limit (t .0);

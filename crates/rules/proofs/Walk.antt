@@ -2,7 +2,7 @@
 -- are comparisons of numbers, or a callee's answer that its contract equates to the definition's test.
 -- Assumes nothing.
 use Prim.Native.Nat.{ℕ}
-use mathlib.Core.Path.{_≡_, refl, sym, _∙_}
+use mathlib.Core.Path.{_≡_, refl, sym, ap, _∙_}
 use mathlib.Core.Bool.{Bool, true, false, cond, not}
 use lib.Dec.{eqb}
 use borrow.Author.Tests.{lt-ltb, le-ltb, le-leb, lt-leb, eq-eqb, ne-eqb, not-true, not-false}
@@ -27,6 +27,13 @@ told-yes r b h e = sym e ∙ h
 
 pub told-no : (r b : Bool) → r ≡ false → r ≡ b → b ≡ false
 told-no r b h e = sym e ∙ h
+
+-- the same where the definition's test is that b is not so
+pub denied-no : (r b : Bool) → r ≡ true → r ≡ b → not b ≡ false
+denied-no r b h e = ap not (sym e ∙ h)
+
+pub denied-yes : (r b : Bool) → r ≡ false → r ≡ b → not b ≡ true
+denied-yes r b h e = ap not (sym e ∙ h)
 
 -- in the arm of key k of a `match` on x: x is not m
 pub key-no : (x k m : ℕ) → x ≡ k → eqb k m ≡ false → eqb x m ≡ false

@@ -1,4 +1,5 @@
 pub mod Stops
+pub mod Tests
 pub mod Values
 pub mod Arithmetic
 pub mod Moves

@@ -8,12 +8,13 @@
 --   blanks n, zeros n     CLEAR of alpha and of decimal
 -- Each answers the new characters alone: where they are stored is no matter of these rules. 32 is a space, 43 '+', 45 '-', 48 '0'.
 -- Assumes nothing.
-use mathlib.Core.Bool.{Bool, true, false, cond, _&&_}
+use mathlib.Core.Bool.{Bool, true, false, cond}
 use mathlib.Core.List.{List, [], _∷_, map}
 use Prim.Native.Nat.{ℕ, zero, suc, _+_, _-_, _*_, _/_, _%_, _^_}
 use lib.Dec.{ltb, leb, eqb}
 use lib.IntN.{ℤ, natAbs}
 use lib.ListN.{replicate}
+use Rattle.rules.specs.Tests.{_&&_}
 use Rattle.rules.specs.declared.Num.{Num}
 use Rattle.rules.specs.declared.Num.the-variants.{Failed}
 use Rattle.rules.specs.declared.Fault.the-variants as fault

@@ -10,6 +10,7 @@ use Prim.Native.Nat.{ℕ, zero, suc, _+_, _-_, _*_, _/_}
 use mathlib.Core.Bool.{Bool, true, false, cond, _||_}
 use mathlib.Core.List.{List, [], _∷_}
 use lib.Dec.{ltb, leb, eqb}
+use Rattle.rules.specs.Tests.{_&&_}
 use Rattle.rules_unit.specs.declared.Field.{Field}
 use Rattle.rules_unit.specs.declared.How.{How}
 use Rattle.rules_unit.specs.declared.Item.{Item}
@@ -74,7 +75,7 @@ apartOf f a n = cond (isDecimal (f .kind)) (leb (a + n) (f .offset) || leb (f .o
 -- The k fields from g on.
 unfoldable pub apartFrom : Code → ℕ → ℕ → ℕ → ℕ → Bool
 apartFrom c a n zero g = true
-apartFrom c a n (suc k) g = let rest = apartFrom c a n k (g + 1) in cond (apartOf (c .field g) a n) rest false
+apartFrom c a n (suc k) g = let rest = apartFrom c a n k (g + 1) in apartOf (c .field g) a n && rest
 
 -- "An alpha destination shares no byte with a decimal field."
 unfoldable pub alphaBreach : Code → Bool → ℕ → ℕ → Breach

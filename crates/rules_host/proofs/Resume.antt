@@ -8,7 +8,7 @@ use mathlib.Core.List.{List, [], _∷_}
 use mathlib.Core.Logic.{_↔_, inl, inr}
 use lib.Dec.{ltb, eqb}
 use lib.ListN.{length, getD, replicate, length-drop, length-set}
-use borrow.Author.Tests.{le-ltb, le-leb, lt-leb, eq-eqb, eqb-true, ltb-true, ltb-false}
+use borrow.Author.Tests.{le-leb, lt-leb, eq-eqb, eqb-true, ltb-true, ltb-false}
 use Rattle.rules_unit.specs.declared.Parts.{Parts}
 use Rattle.rules_unit.specs.declared.Refusal.{Refusal}
 use Rattle.rules_unit.specs.declared.Refusal.the-variants as refusal
@@ -176,12 +176,12 @@ module _ (u d w : List ℕ) (m : ℕ) (a : List ℕ) where
 run-refuses : (n : ℕ) → RunNumber n → refusedb n ≡ false
 unfolding refusedb
 run-refuses n (inl e) = rw e
-run-refuses n (inr (inl h)) = rw (le-ltb n 1 (omega (arith, h .0)), lt-leb n 7 (omega (arith, h .0)))
+run-refuses n (inr (inl h)) = rw (le-leb 1 n (omega (arith, h .0)), lt-leb n 7 (omega (arith, h .0)))
 run-refuses n (inr (inr e)) = rw e
 
 range-refuses : (n : ℕ) → 1 ≤ n → n ≤ 7 → refusedb n ≡ true
 unfolding refusedb
-range-refuses n x y = rw (le-ltb n 1 x, le-leb n 7 y)
+range-refuses n x y = rw (le-leb 1 n x, le-leb n 7 y)
 
 pub host-reads : (u d w : List ℕ) (m : ℕ) (a : List ℕ) → HostReads u d w m a (handedOf u d w m a)
 unfolding handedOf

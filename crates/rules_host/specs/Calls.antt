@@ -6,9 +6,10 @@
 -- Assumes nothing.
 use Prim.Native.Nat.{ℕ, _≤_}
 use mathlib.Core.Path.{_≡_}
-use mathlib.Core.Bool.{Bool, false, cond}
+use mathlib.Core.Bool.{Bool, cond}
 use mathlib.Core.List.{List, [], _∷_}
-use lib.Dec.{ltb, leb}
+use lib.Dec.{leb}
+use Rattle.rules.specs.Tests.{_&&_}
 use Rattle.rules_unit.specs.declared.Checked.{Checked}
 use Rattle.rules_unit.specs.declared.Checked.the-variants as checked
 use Rattle.rules_unit.specs.declared.Stretch.{Stretch}
@@ -57,7 +58,7 @@ pub record Handed : Type 0 where
 
 -- 1 to 7
 unfoldable pub refusedb : ℕ → Bool
-refusedb n = cond (ltb n 1) false (leb n 7)
+refusedb n = leb 1 n && leb n 7
 
 -- The state's numbers stay as they were after 1 to 7, and are those of the next state after any other stop; in the answer are the stop, the
 -- place and the count.

@@ -6,10 +6,11 @@
 -- Assumes nothing.
 use Prim.Native.Nat.{ℕ, _<_, _≤_}
 use mathlib.Core.Path.{_≡_}
-use mathlib.Core.Bool.{Bool, true, false, cond}
+use mathlib.Core.Bool.{Bool, true, cond}
 use mathlib.Core.List.{List, [], _∷_}
 use lib.Dec.{leb, eqb}
 use lib.ListN.{length, getD, drop, replicate}
+use Rattle.rules.specs.Tests.{_&&_}
 use Rattle.rules_run.specs.declared.State.{State}
 
 abbrev pub numbersOf : State → List ℕ
@@ -24,10 +25,10 @@ pub record Fits (s : State) : Type 0 where
 -- No number is over 65,535.
 unfoldable pub smallb : List ℕ → Bool
 smallb [] = true
-smallb (x ∷ xs) = let rest = smallb xs in cond (leb x 65535) rest false
+smallb (x ∷ xs) = let rest = smallb xs in leb x 65535 && rest
 
 unfoldable pub stateb : List ℕ → Bool
-stateb w = cond (eqb (length w) 52) (smallb w) false
+stateb w = eqb (length w) 52 && smallb w
 
 -- Sound for no unit: N is at most 2,048.
 abbrev pub noState : State

@@ -4,7 +4,7 @@
 --   worked-within             what an expression comes to lies where the rules say
 -- Assumes nothing.
 use mathlib.Core.Path.{_≡_, refl}
-use mathlib.Core.Bool.{Bool, true, false, cond}
+use mathlib.Core.Bool.{true, false}
 use mathlib.Core.List.{List, [], _∷_}
 use Prim.Native.Nat.{ℕ, _+_, _^_, _≤_, _<_}
 use native.Mathlib.Omega.{arith}
@@ -18,6 +18,7 @@ use Rattle.rules.specs.declared.Num.the-variants.{Failed}
 use Rattle.rules.proofs.Signed.{pow-le18}
 use Rattle.rules.proofs.Range.{InRange, range-if}
 use Rattle.rules.proofs.Walk.{cond-case}
+use Rattle.rules.proofs.Tests.{both}
 use Rattle.rules_unit.specs.declared.How.{How}
 use Rattle.rules_unit.specs.declared.How.the-variants as how
 use Rattle.rules_unit.specs.declared.Item.{Item}
@@ -75,11 +76,7 @@ module _ (c : Code) (d : List ℕ) (bound : ℕ) (truths : 1 < bound) (sums : c 
 
   text-inside : (p l : ℕ) → textb c p l ≡ true → p + l ≤ length (c .literals)
   unfolding textb
-  text-inside p l e = inside (leb 1 l) e
-    where
-      inside : (t : Bool) → cond t (leb (p + l) (length (c .literals))) false ≡ true → p + l ≤ length (c .literals)
-      inside true g = leb-true (p + l) (length (c .literals)) g
-      inside false g = let z : _≡_ {A = ℕ} 0 1 = cc in absurd (omega arith)
+  text-inside p l e = leb-true (p + l) (length (c .literals)) (both (leb 1 l) (leb (p + l) (length (c .literals))) .0 e .1)
 
   text-bounded : (p l : ℕ) (st : List ℤ) → Bounded bound c (length d) (textBy c p l st)
   text-bounded p l [] =

@@ -15,6 +15,7 @@ use Rattle.rules.specs.declared.Fault.{Fault}
 use Rattle.rules.specs.declared.Fault.the-variants as fault
 use Rattle.rules.specs.declared.Num.{Num}
 use Rattle.rules.specs.declared.Num.the-variants.{Value, Failed}
+use Rattle.rules.proofs.Tests.{both}
 use Rattle.rules_unit.specs.declared.How.{How}
 use Rattle.rules_unit.specs.declared.How.the-variants as how
 use Rattle.rules_unit.specs.declared.Op.{Op}
@@ -29,7 +30,6 @@ use Rattle.rules_run.specs.declared.Worked.{Worked}
 use Rattle.rules_run.specs.declared.Worked.the-variants as worked
 use Rattle.rules_run.specs.Spans.{spanIn}
 use Rattle.rules_run.specs.Evaluation.{plainNumber, literalNumber, readSpan, reference, apply, push, room, stepBy, onHeld}
-use Rattle.rules_run.proofs.Ranges.{both}
 use Rattle.rules_run.proofs.Faults.{passes, calc-passes, read-passes}
 
 abbrev pub formedb : Fault → Bool
@@ -48,9 +48,9 @@ module _ (c : Code) where
   pub literal-formed : (p l : ℕ) → numberb c p l ≡ true → passes formedb (literalNumber c p l) ≡ true
   unfolding numberb literalNumber plainNumber
   literal-formed p l o =
-      let a = both (leb 1 l) _ o in
-      let b = both (leb l (c .limit)) _ (a .1) in
-      let e = both (leb (p + l) (length (c .literals))) (digitsb (take l (drop p (c .literals)))) (b .1) in
+      let a = both (leb 1 l) _ .0 o in
+      let b = both (leb l (c .limit)) _ .0 (a .1) in
+      let e = both (leb (p + l) (length (c .literals))) (digitsb (take l (drop p (c .literals)))) .0 (b .1) in
       rw (a .0, b .0, e .0, e .1)
 
   span-formed : (d : List ℕ) (s : Span) → passes formedb (readSpan c d s) ≡ true

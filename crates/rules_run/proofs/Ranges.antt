@@ -1,8 +1,8 @@
 -- What an item makes of numbers in a range is in it (document 01, "Values and references"). The range is any that holds the dialect's
 -- numbers: its truths, its sums and its digits.
 -- Assumes nothing.
-use mathlib.Core.Path.{_≡_, refl}
-use mathlib.Core.Bool.{Bool, true, false, cond, not, _&&_, _||_, false≢true}
+use mathlib.Core.Path.{_≡_}
+use mathlib.Core.Bool.{true, not, _||_}
 use mathlib.Core.List.{List, [], _∷_}
 use Prim.Native.Nat.{ℕ, _+_, _-_, _*_, _^_, _≤_, _<_}
 use native.Mathlib.Nat.{pow-le-pow-right, lt-of-lt-of-le}
@@ -12,11 +12,13 @@ use lib.IntN.{ℤ, pos, _+ℤ_, _-ℤ_, _*ℤ_}
 use lib.Signed.{ltZ, leZ}
 use lib.ListN.{length, take, drop, length-take}
 use borrow.Author.Tests.{leb-true}
+use Rattle.rules.specs.Tests.{_&&_}
 use Rattle.rules.specs.declared.Num.{Num}
 use Rattle.rules.specs.declared.Num.the-variants.{Value, Failed}
 use Rattle.rules.specs.declared.Fault.the-variants as fault
 use Rattle.rules.specs.Values.{Val, isFrom}
 use Rattle.rules.specs.Arithmetic.{kept, isTrue, eqZ, xorb}
+use Rattle.rules.proofs.Tests.{both}
 use Rattle.rules.proofs.Range.{InRange, range-if, range-kept, range-div, range-round, range-neg, range-truth}
 use Rattle.rules.proofs.Answers.{range-read}
 use Rattle.rules.proofs.Decimals.{from-digit, more-digits}
@@ -36,14 +38,9 @@ pub range-up : {low high : ℕ} → low ≤ high → (n : Num) → InRange low n
 range-up h (Value z) v = record { small = omega (arith, v .small) }
 range-up h (Failed e) v = tt
 
--- Of two tests, one after the other, both are met.
-pub both : (t x : Bool) → cond t x false ≡ true → (t ≡ true) × (x ≡ true)
-both true x e = (refl, e)
-both false x e = absurd (false≢true e)
-
 digits-head : (b : ℕ) (bs : List ℕ) → digitsb (b ∷ bs) ≡ true → (isFrom 48 b ≡ true) × (digitsb bs ≡ true)
 unfolding digitsb
-digits-head b bs e = both (isFrom 48 b) (digitsb bs) e
+digits-head b bs e = both (isFrom 48 b) (digitsb bs) .0 e
 
 -- Digits after the i digits of acc, at most n in all.
 digits-most : (n acc i : ℕ) (s : List ℕ) → acc < 10 ^ i → i + length s ≤ n → digitsb s ≡ true → digitsFrom acc s < 10 ^ n

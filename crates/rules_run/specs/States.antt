@@ -4,11 +4,12 @@
 --   gone, called, returned  what a jump, a CALL and a RETURN make of it
 -- Assumes nothing.
 use mathlib.Core.Path.{_≡_}
-use mathlib.Core.Bool.{Bool, true, false, cond}
+use mathlib.Core.Bool.{Bool, true, cond}
 use mathlib.Core.List.{List, [], _∷_}
 use Prim.Native.Nat.{ℕ, _+_, _-_, _<_, _≤_}
 use lib.Dec.{ltb, leb, eqb}
 use lib.ListN.{length, getD, set, replicate}
+use Rattle.rules.specs.Tests.{_&&_}
 use Rattle.rules_run.specs.declared.State.{State}
 
 -- "50 return numbers (0 to N), unused ones zero"
@@ -18,11 +19,11 @@ returnb n depth i x = cond (ltb i depth) (leb x n) (eqb x 0)
 -- The return numbers from the place i on.
 unfoldable pub returnsb : ℕ → ℕ → ℕ → List ℕ → Bool
 returnsb n depth i [] = true
-returnsb n depth i (x ∷ xs) = let rest = returnsb n depth (i + 1) xs in cond (returnb n depth i x) rest false
+returnsb n depth i (x ∷ xs) = let rest = returnsb n depth (i + 1) xs in returnb n depth i x && rest
 
 -- "The resume state holds a statement number (0 to N), the number of open calls (0 to 50) and 50 return numbers"
 unfoldable pub soundb : ℕ → State → Bool
-soundb n s = cond (leb (s .at) n) (cond (leb (s .depth) 50) (returnsb n (s .depth) 0 (s .returns)) false) false
+soundb n s = leb (s .at) n && leb (s .depth) 50 && returnsb n (s .depth) 0 (s .returns)
 
 -- The same sentence with quantifiers.
 pub record Sound (n : ℕ) (s : State) : Type 0 where

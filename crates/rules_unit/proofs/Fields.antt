@@ -43,7 +43,7 @@ module _ (c : Code) where
         λ t. r .1 .1 .1 .1 .1 .1 t .0,
       ))
       (λ r. (r .0 .known, (r .0 .blank, (r .0 .some, (r .0 .many, (r .0 .inside, (r .0 .once, λ t. (r .1 t, (r .0 .short, λ w. tt)))))))))
-      (tells-not (isBad (c .field i .kind))
+      (tells-and (tells-not (isBad (c .field i .kind)))
       (tells-and (tells-eq (c .field i .zero) 0)
       (tells-and (tells-le 1 (sizeOf c i))
       (tells-and (tells-le 1 (countOf c i))

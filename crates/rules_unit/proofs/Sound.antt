@@ -21,7 +21,7 @@ use Rattle.rules_unit.specs.Decode.{Fills, partsOf, fullLength, codeOf}
 use Rattle.rules_unit.specs.Checks.{filledb, rangesb, goodFields, statementsFrom, partsCheck, checkOf}
 use Rattle.rules_unit.specs.Sound.{Filled, Ranges, SoundCode, SoundUnit}
 use Rattle.rules_unit.specs.Answers.{FirstField, FirstThree, Says}
-use Rattle.rules_unit.proofs.Tells.{Tells, tells-le, tells-eq, tells-as, tells-and, tells-from, tells-no, tells-fails}
+use Rattle.rules_unit.proofs.Tells.{Tells, tells-le, tells-eq, tells-as, tells-and, tells-no, tells-fails}
 use Rattle.rules_unit.proofs.Fields.{Upto, fields-upto, upto-only, decimal-not}
 use Rattle.rules_unit.proofs.Statements.{Scans, statements-say, statements-pass, statements-shape, statements-use}
 
@@ -33,8 +33,8 @@ filled-tells u =
     tells-as
     (λ r. record { least = r .0; most = r .1 .0; mark = r .1 .1 .0; mark-last = r .1 .1 .1 .0; fills = record { whole = r .1 .1 .1 .1 } })
     (λ r. (r .least, (r .most, (r .mark, (r .mark-last, r .fills .whole)))))
-    (tells-from (length u) 12
-    (tells-from 57353 (length u)
+    (tells-and (tells-le 12 (length u))
+    (tells-and (tells-le (length u) 57353)
     (tells-and (tells-eq (getD u (length u - 2) 0) 0x44)
     (tells-and (tells-eq (getD u (length u - 1) 0) 0x42) (tells-eq (fullLength (partsOf u)) (length u))))))
 
@@ -44,9 +44,10 @@ ranges-tell p =
     tells-as
     (λ r. record { d-least = r .0; d-most = r .1 .0; f-most = r .1 .1 .0; e-most = r .1 .1 .1 .0; p-most = r .1 .1 .1 .1 .0; n-least = r .1 .1 .1 .1 .1 .0; n-most = r .1 .1 .1 .1 .1 .1 })
     (λ r. (r .d-least, (r .d-most, (r .f-most, (r .e-most, (r .p-most, (r .n-least, r .n-most)))))))
-    (tells-from (p .d) 1
-    (tells-from 16383 (p .d)
-    (tells-from 512 (p .f) (tells-from 16383 (p .e) (tells-from 4095 (p .p) (tells-from (p .n) 1 (tells-le (p .n) 2048)))))))
+    (tells-and (tells-le 1 (p .d))
+    (tells-and (tells-le (p .d) 16383)
+    (tells-and (tells-le (p .f) 512)
+    (tells-and (tells-le (p .e) 16383) (tells-and (tells-le (p .p) 4095) (tells-and (tells-le 1 (p .n)) (tells-le (p .n) 2048)))))))
 
 -- ---- the check
 

@@ -29,7 +29,7 @@ use Rattle.rules_unit.specs.Checks.{isGoto, gotosb, tableb, roleb, rowb,
 use Rattle.rules_unit.specs.Sound.{TableSound, RoleSound, RowSound, ShapeSound, UsesSound, StatementSound}
 use Rattle.rules_unit.specs.Answers.{FirstStatement, FirstExpression}
 use Rattle.rules_unit.proofs.WellFormed.{tells-self, use-tells}
-use Rattle.rules_unit.proofs.Tells.{Tells, tells-lt, tells-eq, tells-true, tells-false, tells-as, tells-and, tells-from, tells-no, tells-fails, one-more}
+use Rattle.rules_unit.proofs.Tells.{Tells, tells-lt, tells-le, tells-eq, tells-true, tells-false, tells-as, tells-and, tells-no, tells-fails, one-more}
 
 module _ (c : Code) where
   -- ---- 5
@@ -58,7 +58,7 @@ module _ (c : Code) where
       tells-as
       (λ r. record { least = r .0; most = r .1 .0; inside = r .1 .1 .0; gotos = λ j g h. r .1 .1 .1 j (omega arith) (omega arith) })
       (λ r. (r .least, (r .most, (r .inside, λ j g h. r .gotos j (omega arith) (omega arith)))))
-      (tells-from n 1 (tells-from 255 n (tells-and (tells-lt (i + n) (c .statements)) (gotos-tell n (i + 1)))))
+      (tells-and (tells-le 1 n) (tells-and (tells-le n 255) (tells-and (tells-lt (i + n) (c .statements)) (gotos-tell n (i + 1)))))
 
   role-tells : (i : ℕ) (r : Role) (x : ℕ) → Tells (roleb c i r x) (RoleSound c i r x)
   role-tells i role.Unused x = tells-eq x 0

@@ -3,9 +3,11 @@
 use Prim.Native.Nat.{ℕ, _+_, _<_, _≤_}
 use native.Mathlib.Omega.{arith}
 use mathlib.Core.Path.{_≡_, refl, subst}
-use mathlib.Core.Bool.{Bool, true, false, cond, false≢true, true≢false}
+use mathlib.Core.Bool.{Bool, true, false, cond, not, false≢true, true≢false}
 use lib.Dec.{ltb, leb, eqb}
-use borrow.Author.Tests.{ltb-true, ltb-false, leb-true, eqb-true, lt-ltb, le-ltb, le-leb, eq-eqb}
+use borrow.Author.Tests.{ltb-true, ltb-false, leb-true, eqb-true, lt-ltb, le-leb, eq-eqb}
+use Rattle.rules.specs.Tests.{_&&_}
+use Rattle.rules.proofs.Tests.{both}
 
 -- The test t is true exactly when P holds.
 pub record Tells (t : Bool) (P : Type 0) : Type 0 where
@@ -32,30 +34,14 @@ pub tells-as : {t : Bool} {P Q : Type 0} → (P → Q) → (Q → P) → Tells t
 tells-as f g s = record { to = λ e. f (s .to e); of = λ x. s .of (g x) }
 
 -- both of two tests
-pub tells-and : {t x : Bool} {P Q : Type 0} → Tells t P → Tells x Q → Tells (cond t x false) (P × Q)
-tells-and {t} {x} {P} {Q} p q = record { to = to t x (p .to) (q .to); of = λ r. of t x (p .of (r .0)) (q .of (r .1)) }
-  where
-    to : (t x : Bool) → (t ≡ true → P) → (x ≡ true → Q) → cond t x false ≡ true → P × Q
-    to true x f g e = (f refl, g e)
-    to false x f g e = absurd (false≢true e)
+pub tells-and : {t x : Bool} {P Q : Type 0} → Tells t P → Tells x Q → Tells (t && x) (P × Q)
+tells-and {t} {x} p q =
+    record { to = λ e. (p .to (both t x .0 e .0), q .to (both t x .0 e .1)); of = λ r. both t x .1 (p .of (r .0), q .of (r .1)) }
 
-    of : (t x : Bool) → t ≡ true → x ≡ true → cond t x false ≡ true
-    of t x e f = rw e f
-
--- a test that must be false, then another
-pub tells-not : (t : Bool) {x : Bool} {Q : Type 0} → Tells x Q → Tells (cond t false x) ((t ≡ false) × Q)
-tells-not t {x} {Q} q = record { to = to t x (q .to); of = λ r. of t x (r .0) (q .of (r .1)) }
-  where
-    to : (t x : Bool) → (x ≡ true → Q) → cond t false x ≡ true → (t ≡ false) × Q
-    to true x g e = absurd (false≢true e)
-    to false x g e = (refl, g e)
-
-    of : (t x : Bool) → t ≡ false → x ≡ true → cond t false x ≡ true
-    of t x e f = rw e f
-
--- a number that must not be below another, then another test
-pub tells-from : (a b : ℕ) {x : Bool} {Q : Type 0} → Tells x Q → Tells (cond (ltb a b) false x) ((b ≤ a) × Q)
-tells-from a b q = tells-as (λ r. (ltb-false a b (r .0), r .1)) (λ r. (le-ltb a b (r .0), r .1)) (tells-not (ltb a b) q)
+-- a test that must be false
+pub tells-not : (t : Bool) → Tells (not t) (t ≡ false)
+tells-not true = record { to = λ e. absurd (false≢true e); of = λ e. absurd (true≢false e) }
+tells-not false = record { to = λ e. refl; of = λ e. refl }
 
 -- the one test or the other
 pub tells-which : (t : Bool) {x y : Bool} {P Q : Type 0} → Tells x P → Tells y Q → Tells (cond t x y) ((t ≡ true → P) × (t ≡ false → Q))

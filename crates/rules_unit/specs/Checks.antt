@@ -8,10 +8,11 @@
 --   refusalNumber, refusalPlace    the table's number and place of a refusal
 -- Assumes nothing.
 use Prim.Native.Nat.{ℕ, zero, suc, _+_, _-_}
-use mathlib.Core.Bool.{Bool, true, false, cond}
+use mathlib.Core.Bool.{Bool, true, false, cond, not}
 use lib.Dec.{ltb, leb, eqb}
 use mathlib.Core.List.{List}
 use lib.ListN.{length, getD}
+use Rattle.rules.specs.Tests.{_&&_}
 use Rattle.rules_unit.specs.declared.Parts.{Parts}
 use Rattle.rules_unit.specs.declared.Statement.{Statement}
 use Rattle.rules_unit.specs.declared.Role.{Role}
@@ -46,20 +47,22 @@ refusalPlace (refusal.BadStatement i) = i
 -- "1 | length under 12 or over 57,353, wrong mark, or parts don't fill the unit"
 unfoldable pub filledb : List ℕ → Bool
 filledb u =
-    cond (ltb (length u) 12) false
-    (cond (ltb 57353 (length u)) false
-    (cond (eqb (getD u (length u - 2) 0) 0x44)
-    (cond (eqb (getD u (length u - 1) 0) 0x42) (eqb (fullLength (partsOf u)) (length u)) false) false))
+    leb 12 (length u)
+    && leb (length u) 57353
+    && eqb (getD u (length u - 2) 0) 0x44
+    && eqb (getD u (length u - 1) 0) 0x42
+    && eqb (fullLength (partsOf u)) (length u)
 
 -- "D is 1 to 16,383; F 0 to 512; E 0 to 16,383; P 0 to 4,095; N 1 to 2,048."
 unfoldable pub rangesb : Parts → Bool
 rangesb p =
-    cond (ltb (p .d) 1) false
-    (cond (ltb 16383 (p .d)) false
-    (cond (ltb 512 (p .f)) false
-    (cond (ltb 16383 (p .e)) false
-    (cond (ltb 4095 (p .p)) false
-    (cond (ltb (p .n) 1) false (leb (p .n) 2048))))))
+    leb 1 (p .d)
+    && leb (p .d) 16383
+    && leb (p .f) 512
+    && leb (p .e) 16383
+    && leb (p .p) 4095
+    && leb 1 (p .n)
+    && leb (p .n) 2048
 
 -- ---- fields
 
@@ -68,14 +71,12 @@ rangesb p =
 -- the end of the last alpha or decimal entry before.
 unfoldable pub entryb : Code → ℕ → ℕ → Bool
 entryb c i floor =
-    cond (isBad (c .field i .kind)) false
-    (cond (eqb (c .field i .zero) 0)
-    (cond (leb 1 (sizeOf c i))
-    (cond (leb 1 (countOf c i))
-    (cond (leb (endOf c i) (c .size))
-    (cond (recordb c i) (eqb (countOf c i) 1)
-    (cond (leb floor (offsetOf c i)) (cond (decimalb c i) (leb (sizeOf c i) (c .limit)) true) false))
-    false) false) false) false)
+    not (isBad (c .field i .kind))
+    && eqb (c .field i .zero) 0
+    && leb 1 (sizeOf c i)
+    && leb 1 (countOf c i)
+    && leb (endOf c i) (c .size)
+    && cond (recordb c i) (eqb (countOf c i) 1) (leb floor (offsetOf c i) && cond (decimalb c i) (leb (sizeOf c i) (c .limit)) true)
 
 abbrev pub floorAfter : Code → ℕ → ℕ → ℕ
 floorAfter c i floor = cond (recordb c i) floor (endOf c i)
@@ -94,12 +95,12 @@ isGoto s = eqb (s .code) 7
 -- The k statements from i on are GOTO statements.
 unfoldable pub gotosb : Code → ℕ → ℕ → Bool
 gotosb c zero i = true
-gotosb c (suc k) i = let rest = gotosb c k (i + 1) in cond (isGoto (c .statement i)) rest false
+gotosb c (suc k) i = let rest = gotosb c k (i + 1) in isGoto (c .statement i) && rest
 
 -- "a = n from 1 to 255"; "Code 12 at statement i needs n GOTO statements right after it inside the unit"
 unfoldable pub tableb : Code → ℕ → ℕ → Bool
 tableb c i n =
-    cond (ltb n 1) false (cond (ltb 255 n) false (cond (ltb (i + n) (c .statements)) (gotosb c n (i + 1)) false))
+    leb 1 n && leb n 255 && ltb (i + n) (c .statements) && gotosb c n (i + 1)
 
 -- "Unused parts are zero."; "Targets are below N."
 abbrev pub roleb : Code → ℕ → Role → ℕ → Bool
@@ -111,11 +112,11 @@ roleb c i role.Table x = tableb c i x
 roleb c i role.Never x = false
 
 unfoldable pub rowb : Code → ℕ → Row → Statement → Bool
-rowb c i r s = cond (roleb c i (r .a) (s .a)) (cond (roleb c i (r .b) (s .b)) (roleb c i (r .c) (s .c)) false) false
+rowb c i r s = roleb c i (r .a) (s .a) && roleb c i (r .b) (s .b) && roleb c i (r .c) (s .c)
 
 -- "5 | statement code, zero part, count or target wrong"
 unfoldable pub shapeb : Code → ℕ → Bool
-shapeb c i = cond (eqb (c .statement i .zero) 0) (rowb c i (rowOf (verbOf (c .statement i .code))) (c .statement i)) false
+shapeb c i = eqb (c .statement i .zero) 0 && rowb c i (rowOf (verbOf (c .statement i .code))) (c .statement i)
 
 -- "5 before a's 4 before b's 4": both 4 name the statement
 unfoldable pub foundOf : Code → ℕ → Found

@@ -11,6 +11,7 @@ use mathlib.Core.Bool.{Bool, true, false, cond}
 use mathlib.Core.List.{List, [], _∷_}
 use lib.Dec.{ltb, leb, eqb}
 use lib.ListN.{length, take, drop}
+use Rattle.rules.specs.Tests.{_&&_}
 use Rattle.rules.specs.Values.{isFrom}
 use Rattle.rules_unit.specs.declared.How.{How}
 use Rattle.rules_unit.specs.declared.How.the-variants as how
@@ -31,7 +32,7 @@ use Rattle.rules_unit.specs.Codes.{Code, decimalb}
 -- "all digits 0 to 9"
 unfoldable pub digitsb : List ℕ → Bool
 digitsb [] = true
-digitsb (b ∷ bs) = let rest = digitsb bs in cond (isFrom 48 b) rest false
+digitsb (b ∷ bs) = let rest = digitsb bs in isFrom 48 b && rest
 
 -- The operators take two values, but for negate and NOT.
 abbrev pub opTakes : Op → ℕ
@@ -70,14 +71,11 @@ takes item.Bad = 0
 -- "length (1 byte, 1 to 18), all digits 0 to 9"; "Offsets, field numbers and literals lie inside their parts."
 unfoldable pub numberb : Code → ℕ → ℕ → Bool
 numberb c place len =
-    cond (leb 1 len)
-    (cond (leb len (c .limit))
-    (cond (leb (place + len) (length (c .literals))) (digitsb (take len (drop place (c .literals)))) false)
-    false) false
+    leb 1 len && leb len (c .limit) && leb (place + len) (length (c .literals)) && digitsb (take len (drop place (c .literals)))
 
 -- "length (2 bytes, at least 1)"
 unfoldable pub textb : Code → ℕ → ℕ → Bool
-textb c place len = cond (leb 1 len) (leb (place + len) (length (c .literals))) false
+textb c place len = leb 1 len && leb (place + len) (length (c .literals))
 
 abbrev pub itemb : Code → Item → Bool
 itemb c (item.Number place len) = numberb c place len
@@ -166,4 +164,4 @@ useb c (use-of.Of w at written) = suits w (sortAt c at)
 
 unfoldable pub usesb : Code → List Use → Bool
 usesb c [] = true
-usesb c (x ∷ xs) = let rest = usesb c xs in cond (useb c x) rest false
+usesb c (x ∷ xs) = let rest = usesb c xs in useb c x && rest

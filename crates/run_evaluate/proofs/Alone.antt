@@ -1,7 +1,7 @@
 -- An expression that is a reference without bounds alone: 02, the number of the field, 00.
 -- Assumes nothing.
 use mathlib.Core.Path.{_≡_, refl, sym, _∙_}
-use mathlib.Core.Bool.{Bool, true, false, cond}
+use mathlib.Core.Bool.{Bool, true}
 use mathlib.Core.List.{List, []}
 use Prim.Native.Nat.{ℕ, _+_, _<_}
 use native.Mathlib.Omega.{arith}
@@ -14,7 +14,8 @@ use Rattle.rules_unit.specs.declared.How.the-variants as how
 use Rattle.rules_unit.specs.Decode.{Fills, Dialect, wordAt, itemsAt, codeOf}
 use Rattle.rules_run.specs.declared.Worked.{Worked}
 use Rattle.rules_run.specs.Evaluation.{placeBy, workedOf}
-use Rattle.rules_run.proofs.Ranges.{both}
+use Rattle.rules.specs.Tests.{_&&_}
+use Rattle.rules.proofs.Tests.{both}
 use Rattle.run_evaluate.specs.Steps.{loneb}
 use Rattle.run_evaluate.proofs.Held.{vals-zero}
 use Rattle.run_evaluate.proofs.Coded.{code-field}
@@ -24,21 +25,21 @@ use Rattle.run_evaluate.proofs.Steps.{rest-start, field-place}
 record Lone (es : List ℕ) (i : ℕ) : Type 0 where
   there : i < length es
   field : getD es i 0 ≡ 2
-  closes : cond (ltb (i + 3) (length es)) (eqb (getD es (i + 3) 0) 0) false ≡ true
+  closes : ltb (i + 3) (length es) && eqb (getD es (i + 3) 0) 0 ≡ true
   room : i + 3 < length es
 
 -- t is what the code's own test answers
 module _ (es : List ℕ) (i : ℕ) (t : Bool) (et : t ≡ loneb es i) (o : t ≡ true) where
   lone-tells : Lone es i
   lone-tells =
-      let closes : Bool = cond (ltb (i + 3) (length es)) (eqb (getD es (i + 3) 0) 0) false in
-      let first = both (ltb i (length es)) (cond (eqb (getD es i 0) 2) closes false) (sym et ∙ o) in
-      let second = both (eqb (getD es i 0) 2) closes (first .1) in
+      let closes : Bool = ltb (i + 3) (length es) && eqb (getD es (i + 3) 0) 0 in
+      let first = both (ltb i (length es)) (eqb (getD es i 0) 2 && closes) .0 (sym et ∙ o) in
+      let second = both (eqb (getD es i 0) 2) closes .0 (first .1) in
       record {
         there = ltb-true i (length es) (first .0);
         field = eqb-true (getD es i 0) 2 (second .0);
         closes = second .1;
-        room = ltb-true (i + 3) (length es) (both (ltb (i + 3) (length es)) (eqb (getD es (i + 3) 0) 0) (second .1) .0);
+        room = ltb-true (i + 3) (length es) (both (ltb (i + 3) (length es)) (eqb (getD es (i + 3) 0) 0) .0 (second .1) .0);
       }
 
   -- both bytes of the field's number are there

@@ -10,11 +10,12 @@
 -- Assumes nothing.
 use Prim.Native.Nat.{ℕ, zero, suc, _+_, _^_, _<_}
 use mathlib.Core.Path.{_≡_}
-use mathlib.Core.Bool.{Bool, false, cond}
+use mathlib.Core.Bool.{Bool, cond}
 use mathlib.Core.List.{List, [], _∷_}
 use lib.Dec.{ltb, eqb}
 use lib.IntN.{ℤ, pos}
 use lib.ListN.{length, getD}
+use Rattle.rules.specs.Tests.{_&&_}
 use Rattle.rules.specs.declared.Num.{Num}
 use Rattle.rules.specs.declared.Num.the-variants.{Value, Failed}
 use Rattle.rules.specs.Values.{Val}
@@ -47,7 +48,7 @@ howOf code = cond (eqb code 0x03) how.Element (cond (eqb code 0x04) how.Range ho
 
 abbrev pub loneb : List ℕ → ℕ → Bool
 loneb es i =
-    cond (ltb i (length es)) (cond (eqb (getD es i 0) 0x02) (cond (ltb (i + 3) (length es)) (eqb (getD es (i + 3) 0) 0) false) false) false
+    ltb i (length es) && eqb (getD es i 0) 0x02 && ltb (i + 3) (length es) && eqb (getD es (i + 3) 0) 0
 
 -- Every value of the array is in the range.
 abbrev pub Vals : List ℤ → Type 0

@@ -2,11 +2,12 @@
 use Prim.Native.Nat.{ℕ, _+_, _-_, _<_, _≤_}
 use native.Mathlib.Omega.{arith}
 use mathlib.Core.Path.{_≡_, refl, sym, ap, _∙_}
-use mathlib.Core.Bool.{Bool, true, false, cond, not}
+use mathlib.Core.Bool.{Bool, true, false, not}
 use mathlib.Core.List.{List}
-use lib.Dec.{ltb}
+use lib.Dec.{leb}
 use native.Mathlib.Nat.{add-sub-cancel-left}
-use borrow.Author.Tests.{lt-ltb, le-ltb, eq-eqb, ne-eqb, not-true, not-false}
+use borrow.Author.Tests.{lt-ltb, le-ltb, lt-leb, le-leb, eq-eqb, ne-eqb, not-true, not-false}
+use Rattle.rules.specs.Tests.{_&&_}
 use Rattle.rules_unit.specs.declared.Parts.{Parts}
 use Rattle.rules_unit.specs.declared.Statement.{Statement}
 use Rattle.rules_unit.specs.declared.Verb.{Verb}
@@ -47,23 +48,23 @@ gotos-start c i n = ap (λ (k : ℕ). gotosb c k i) (add-sub-cancel-left i n)
 
 pub table-many : (c : Code) (i n : ℕ) → 255 < n → false ≡ tableb c i n
 unfolding tableb
-table-many c i n h = rw (le-ltb n 1 (omega arith), lt-ltb 255 n h)
+table-many c i n h = rw (le-leb 1 n (omega arith), lt-leb n 255 h)
 
 module _ (u : List ℕ) (p : Parts) (i : ℕ) where
   -- a count, where the code compares a, b and m for N, i and n
   module _ (n a b m : ℕ) (e₁ : a ≡ p .n) (e₂ : b ≡ i) (e₃ : m ≡ n) where
     pub table-past : a ≤ b + m → false ≡ tableb (codeOf u p) i n
     unfolding tableb
-    table-past h = rw (le-ltb (i + n) (p .n) (omega arith)) (by (ltb n 1) (ltb 255 n))
+    table-past h = rw (le-ltb (i + n) (p .n) (omega arith)) (by (leb 1 n) (leb n 255))
       where
-        by : (x y : Bool) → false ≡ cond x false (cond y false false)
-        by true y = refl
-        by false true = refl
-        by false false = refl
+        by : (x y : Bool) → false ≡ (x && y && false)
+        by true true = refl
+        by true false = refl
+        by false y = refl
 
     pub table-in : (z : Bool) → 1 ≤ n → n ≤ 255 → b + m < a → z ≡ gotosb (codeOf u p) n (i + 1) → z ≡ tableb (codeOf u p) i n
     unfolding tableb
-    table-in z least most h w = rw (le-ltb n 1 least, le-ltb 255 n most, lt-ltb (i + n) (p .n) (omega arith)) w
+    table-in z least most h w = rw (le-leb 1 n least, le-leb n 255 most, lt-ltb (i + n) (p .n) (omega arith)) w
 
   -- a part, where its role is known
   pub role-as : (r q : Role) (x : ℕ) (z : Bool) → r ≡ q → z ≡ roleb (codeOf u p) i q x → z ≡ roleb (codeOf u p) i r x

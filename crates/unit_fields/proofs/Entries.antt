@@ -3,12 +3,13 @@ use Prim.Native.Nat.{ℕ, _+_, _-_, _*_, _<_, _≤_}
 use native.Mathlib.Omega.{arith}
 use native.Mathlib.Nat.{mul-le-mul}
 use mathlib.Core.Path.{_≡_, sym, _∙_, subst}
-use mathlib.Core.Bool.{Bool, true, false, cond}
+use mathlib.Core.Bool.{Bool, true, false, cond, not}
 use mathlib.Core.List.{List}
 use lib.Dec.{leb, eqb}
 use lib.ListN.{length, getD}
-use borrow.Author.Tests.{lt-leb, le-leb, le-ltb, eq-eqb, ne-eqb}
-use Rattle.rules.proofs.Walk.{cond-no, cond-yes, told-yes, told-no}
+use borrow.Author.Tests.{lt-leb, le-leb, eq-eqb, ne-eqb}
+use Rattle.rules.specs.Tests.{_&&_}
+use Rattle.rules.proofs.Walk.{cond-no, cond-yes, denied-yes, denied-no}
 use Rattle.rules_unit.specs.declared.Parts.{Parts}
 use Rattle.rules_unit.specs.declared.Field.{Field}
 use Rattle.rules_unit.specs.Codes.{Code, isBad, isDecimal, isRecord}
@@ -21,7 +22,7 @@ pub filled-by : (u : List ℕ) (q : Parts) (r : ℕ) → 12 ≤ length u → len
     → getD u (length u - 1) 0 ≡ 0x42 → q ≡ partsOf u → r ≡ fullLength q → eqb r (length u) ≡ filledb u
 unfolding filledb
 filled-by u q r a b c d e f =
-    rw (le-ltb (length u) 12 a, le-ltb 57353 (length u) b, eq-eqb (getD u (length u - 2) 0) 0x44 c, eq-eqb (getD u (length u - 1) 0) 0x42 d, f, e)
+    rw (le-leb 12 (length u) a, le-leb (length u) 57353 b, eq-eqb (getD u (length u - 2) 0) 0x44 c, eq-eqb (getD u (length u - 1) 0) 0x42 d, f, e)
 
 -- a product of words
 pub product : (m n : ℕ) → m < 65536 → n < 65536 → m * n ≤ 65535 * 65535
@@ -32,15 +33,12 @@ product m n h k = mul-le-mul {n₂ = 65535} {m₂ = 65535} (omega arith) (omega 
 -- what is tested of an entry after its own numbers, and before that
 abbrev restOf : ℕ → ℕ → Field → ℕ → Bool
 restOf limit size f floor =
-    cond (leb (f .offset + f .count * f .size) size)
-    (cond (isRecord (f .kind)) (eqb (f .count) 1)
-    (cond (leb floor (f .offset)) (cond (isDecimal (f .kind)) (leb (f .size) limit) true) false))
-    false
+    leb (f .offset + f .count * f .size) size
+    && cond (isRecord (f .kind)) (eqb (f .count) 1) (leb floor (f .offset) && cond (isDecimal (f .kind)) (leb (f .size) limit) true)
 
 abbrev entryOf : ℕ → ℕ → Field → ℕ → Bool
 entryOf limit size f floor =
-    cond (isBad (f .kind)) false
-    (cond (eqb (f .zero) 0) (cond (leb 1 (f .size)) (cond (leb 1 (f .count)) (restOf limit size f floor) false) false) false)
+    not (isBad (f .kind)) && eqb (f .zero) 0 && leb 1 (f .size) && leb 1 (f .count) && restOf limit size f floor
 
 module _ (u : List ℕ) (p : Parts) (i floor : ℕ) (f : Field) (read : f ≡ codeOf u p .field i) where
   pub entry-by : (z : Bool) → z ≡ entryOf (p .digits) (p .d) f floor → z ≡ entryb (codeOf u p) i floor
@@ -77,7 +75,7 @@ module _ (u : List ℕ) (p : Parts) (i floor : ℕ) (f : Field) (read : f ≡ co
   pub floor-rises : (b : Bool) (z : ℕ) → b ≡ isRecord (f .kind) → b ≡ false → z ≡ f .offset + f .count * f .size → z ≡ floorAfter (codeOf u p) i floor
   floor-rises b z g h k = subst (λ (x : Field). z ≡ cond (isRecord (x .kind)) floor (x .offset + x .count * x .size)) read (rw (← g, h) k)
 
-pub ruleset entry-walk = (entry-by, cond-no, cond-yes, told-yes, told-no, eq-eqb, ne-eqb, lt-leb, le-leb)
+pub ruleset entry-walk = (entry-by, cond-no, cond-yes, denied-yes, denied-no, eq-eqb, ne-eqb, lt-leb, le-leb)
 
 pub ruleset entry-laws = (entry-long, entry-record, entry-below, entry-decimal, entry-alpha)
 
