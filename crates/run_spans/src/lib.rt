@@ -1,16 +1,13 @@
-// Spans: finding the bytes that a reference names, and moving text inside the data.
+// Finding the bytes that a reference names.
 use rules_run::Span;
 use rules_unit::Field;
 use rules_unit::How;
 ghost use mathlib.Core.Path.{_≡_};
 ghost use Prim.Native.Nat.{_+_, _*_, _^_, _<_, _≤_};
 ghost use lib.IntN.{pos, _-ℤ_};
-ghost use lib.ListN.{length, take, drop};
 ghost use Rattle.rules.specs.Values.{Val};
-ghost use Rattle.rules.specs.Moves.{fitted};
 ghost use Rattle.rules_unit.specs.declared.How.the-variants as how;
 ghost use Rattle.rules_run.specs.Spans.{within, elementSpan, rangeSpan, lengthSpan, spanIn};
-ghost use Rattle.rules_run.specs.Turns.{stored};
 
 // The n bytes from a, or Outside where they leave the window from lo up to hi.
 fn inside(lo: usize, hi: usize, a: usize, n: usize) -> Span
@@ -146,53 +143,4 @@ pub fn span_in(lo: usize, hi: usize, field: Field, how: How, x: i64, y: i64) -> 
         How::Range => range_span(lo, hi, offset, x, y),
         How::Length => length_span(lo, hi, offset, x, y),
     }
-}
-
-// Moves n bytes from the front: for a destination that stands before its source.
-fn move_up(bytes: &mut [u8], to: usize, from: usize, n: usize)
-    requires { ⌜ (to ≤ from) × (from + n ≤ length (now bytes)) ⌝ }
-    ensures { λ _. ⌜ now (bytes .exit) ≡ stored (now (bytes .entry)) to (take n (drop from (now (bytes .entry)))) ⌝ }
-{
-    let mut i = 0;
-    while i < n {
-        bytes[to + i] = bytes[from + i];
-        i += 1;
-    }
-}
-
-// Moves n bytes from the back: for a destination that stands behind its source.
-fn move_down(bytes: &mut [u8], to: usize, from: usize, n: usize)
-    requires { ⌜ (from ≤ to) × (to + n ≤ length (now bytes)) ⌝ }
-    ensures { λ _. ⌜ now (bytes .exit) ≡ stored (now (bytes .entry)) to (take n (drop from (now (bytes .entry)))) ⌝ }
-{
-    let mut i = n;
-    while 0 < i {
-        i -= 1;
-        bytes[to + i] = bytes[from + i];
-    }
-}
-
-// Moves n bytes as if they had been copied away first.
-fn shift(bytes: &mut [u8], to: usize, from: usize, n: usize)
-    requires { ⌜ (to + n ≤ length (now bytes)) × (from + n ≤ length (now bytes)) ⌝ }
-    ensures { λ _. ⌜ now (bytes .exit) ≡ stored (now (bytes .entry)) to (take n (drop from (now (bytes .entry)))) ⌝ }
-{
-    if to <= from {
-        return move_up(bytes, to, from, n);
-    }
-    move_down(bytes, to, from, n)
-}
-
-// Alpha to alpha inside the data: the count bytes at from, cut or filled to len, stored at start.
-pub fn move_text(bytes: &mut [u8], start: usize, len: usize, from: usize, count: usize)
-    requires { ⌜ (start + len ≤ length (now bytes)) × (from + count ≤ length (now bytes)) ⌝ }
-    ensures { λ _. ⌜ now (bytes .exit) ≡ stored (now (bytes .entry)) start (fitted len (take count (drop from (now (bytes .entry))))) ⌝ }
-{
-    if len <= count {
-        return shift(bytes, start, from, len);
-    }
-    shift(bytes, start, from, count);
-    let a = start + count;
-    let e = start + len;
-    alpha::fill(&mut bytes[a..e], 32)
 }

@@ -1,3 +1,4 @@
 pub mod Literals
+pub mod Moving
 pub mod Storing
 pub mod Writes

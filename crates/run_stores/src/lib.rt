@@ -31,6 +31,55 @@ fn store_shown(bytes: &mut [u8], start: usize, len: usize, v: i64)
     text::show(&mut bytes[start..end], v)
 }
 
+// Moves n bytes from the front: for a destination that stands before its source.
+fn move_up(bytes: &mut [u8], to: usize, from: usize, n: usize)
+    requires { ⌜ (to ≤ from) × (from + n ≤ length (now bytes)) ⌝ }
+    ensures { λ _. ⌜ now (bytes .exit) ≡ stored (now (bytes .entry)) to (take n (drop from (now (bytes .entry)))) ⌝ }
+{
+    let mut i = 0;
+    while i < n {
+        bytes[to + i] = bytes[from + i];
+        i += 1;
+    }
+}
+
+// Moves n bytes from the back: for a destination that stands behind its source.
+fn move_down(bytes: &mut [u8], to: usize, from: usize, n: usize)
+    requires { ⌜ (from ≤ to) × (to + n ≤ length (now bytes)) ⌝ }
+    ensures { λ _. ⌜ now (bytes .exit) ≡ stored (now (bytes .entry)) to (take n (drop from (now (bytes .entry)))) ⌝ }
+{
+    let mut i = n;
+    while 0 < i {
+        i -= 1;
+        bytes[to + i] = bytes[from + i];
+    }
+}
+
+// Moves n bytes as if they had been copied away first.
+fn shift(bytes: &mut [u8], to: usize, from: usize, n: usize)
+    requires { ⌜ (to + n ≤ length (now bytes)) × (from + n ≤ length (now bytes)) ⌝ }
+    ensures { λ _. ⌜ now (bytes .exit) ≡ stored (now (bytes .entry)) to (take n (drop from (now (bytes .entry)))) ⌝ }
+{
+    if to <= from {
+        return move_up(bytes, to, from, n);
+    }
+    move_down(bytes, to, from, n)
+}
+
+// Alpha to alpha inside the data: the count bytes at from, cut or filled to len, stored at start.
+fn move_text(bytes: &mut [u8], start: usize, len: usize, from: usize, count: usize)
+    requires { ⌜ (start + len ≤ length (now bytes)) × (from + count ≤ length (now bytes)) ⌝ }
+    ensures { λ _. ⌜ now (bytes .exit) ≡ stored (now (bytes .entry)) start (fitted len (take count (drop from (now (bytes .entry))))) ⌝ }
+{
+    if len <= count {
+        return shift(bytes, start, from, len);
+    }
+    shift(bytes, start, from, count);
+    let a = start + count;
+    let e = start + len;
+    alpha::fill(&mut bytes[a..e], 32)
+}
+
 // An alpha literal, which lies in the unit.
 fn store_literal(
     unit: &[u8],
@@ -96,7 +145,7 @@ pub fn store(unit: &[u8], parts: Parts, bytes: &mut [u8], w: Write)
             len,
             from,
             count,
-        } => run_spans::move_text(bytes, start, len, from, count),
+        } => move_text(bytes, start, len, from, count),
         Write::Literal {
             start,
             len,

@@ -1,4 +1,4 @@
--- `run_spans::move_down` meets its contract: the byte that a turn moves stands before all that were written, so it is still as it was.
+-- `run_stores::move_down` meets its contract: the byte that a turn moves stands before all that were written, so it is still as it was.
 -- The invariant: the bytes from i on are moved, and the data is as long as it was. The measure: i, the bytes that are left to move.
 -- Assumes nothing.
 use mathlib.Core.Path.{_≡_, _∙_}
@@ -8,9 +8,9 @@ use lib.ListN.{length, take, drop}
 use borrow.Author.Needs.{needs}
 use native.Mathlib.Omega.{arith}
 use Rattle.rules_run.specs.Turns.{stored}
-use Rattle.run_spans.proofs.Moving.{down-start, down-turn, down-end}
-use Rattle.run_spans.proofs.move_down.Statement.{statement}
-use Rattle.run_spans.proofs.move_down.Tie as tie
+use Rattle.run_stores.proofs.Moving.{down-start, down-turn, down-end}
+use Rattle.run_stores.proofs.move_down.Statement.{statement}
+use Rattle.run_stores.proofs.move_down.Tie as tie
 
 abbrev Inv-loop : tie.InvT-loop
 Inv-loop bytes₀ to from n i₀ bytes i =

@@ -1,9 +1,9 @@
--- `run_spans::shift` meets its contract: either direction stores the same text, and each is asked only where its loop reads no byte that it has written.
+-- `run_stores::shift` meets its contract: either direction stores the same text, and each is asked only where its loop reads no byte that it has written.
 -- Assumes nothing.
 use borrow.Author.Needs.{needs}
 use native.Mathlib.Omega.{arith}
-use Rattle.run_spans.proofs.shift.Statement.{statement}
-use Rattle.run_spans.proofs.shift.Tie as tie
+use Rattle.run_stores.proofs.shift.Statement.{statement}
+use Rattle.run_stores.proofs.shift.Tie as tie
 
 move-up-requires : tie.Need-move-up-requires
 move-up-requires c κs = omega arith

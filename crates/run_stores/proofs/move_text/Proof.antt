@@ -1,12 +1,12 @@
--- `run_spans::move_text` meets its contract: text that fills the room is moved and cut, and spaces go behind any other once it is moved.
+-- `run_stores::move_text` meets its contract: text that fills the room is moved and cut, and spaces go behind any other once it is moved.
 -- Assumes nothing.
 use mathlib.Core.Path.{_∙_}
 use denote.Ref.{now}
 use borrow.Author.Needs.{needs}
 use native.Mathlib.Omega.{arith}
-use Rattle.run_spans.proofs.Moving.{cut, filled}
-use Rattle.run_spans.proofs.move_text.Statement.{statement}
-use Rattle.run_spans.proofs.move_text.Tie as tie
+use Rattle.run_stores.proofs.Moving.{cut, filled}
+use Rattle.run_stores.proofs.move_text.Statement.{statement}
+use Rattle.run_stores.proofs.move_text.Tie as tie
 
 shift-requires : tie.Need-shift-requires
 shift-requires c κs = search needs

@@ -1,4 +1,4 @@
--- `run_spans::move_up` meets its contract: the byte that a turn moves stands behind all that were written, so it is still as it was.
+-- `run_stores::move_up` meets its contract: the byte that a turn moves stands behind all that were written, so it is still as it was.
 -- The invariant: the first i bytes are moved, and the data is as long as it was. The measure: the bytes that are left to move.
 -- Assumes nothing.
 use mathlib.Core.Path.{_≡_, _∙_}
@@ -8,9 +8,9 @@ use lib.ListN.{length, take, drop}
 use borrow.Author.Needs.{needs}
 use native.Mathlib.Omega.{arith}
 use Rattle.rules_run.specs.Turns.{stored}
-use Rattle.run_spans.proofs.Moving.{up-start, up-turn}
-use Rattle.run_spans.proofs.move_up.Statement.{statement}
-use Rattle.run_spans.proofs.move_up.Tie as tie
+use Rattle.run_stores.proofs.Moving.{up-start, up-turn}
+use Rattle.run_stores.proofs.move_up.Statement.{statement}
+use Rattle.run_stores.proofs.move_up.Tie as tie
 
 abbrev Inv-loop : tie.InvT-loop
 Inv-loop bytes₀ to from n i₀ bytes i = (i ≤ n) × (bytes ≡ stored bytes₀ to (take i (drop from bytes₀))) × (length bytes ≡ length bytes₀)
