@@ -37,7 +37,7 @@ fn ahead(lo: usize, hi: usize, offset: usize, size: usize, k: usize) -> Span
 }
 
 // The element that starts k sizes before the field. A large k is told before it is multiplied.
-fn behind(lo: usize, hi: usize, offset: usize, size: usize, k: usize) -> Span
+fn before(lo: usize, hi: usize, offset: usize, size: usize, k: usize) -> Span
     requires { ⌜ (offset < 65536) × (1 ≤ size) × (size < 65536) ⌝ }
     ensures { λ r. ⌜ r ≡ within lo hi (pos offset -ℤ pos (k * size)) size ⌝ }
 {
@@ -62,10 +62,10 @@ fn element_span(lo: usize, hi: usize, offset: usize, size: usize, s: i64) -> Spa
     }
     let k = number::magnitude(s) as usize;
     if number::is_neg(s) {
-        return behind(lo, hi, offset, size, k + 1);
+        return before(lo, hi, offset, size, k + 1);
     }
     if k == 0 {
-        return behind(lo, hi, offset, size, 1);
+        return before(lo, hi, offset, size, 1);
     }
     ahead(lo, hi, offset, size, k - 1)
 }

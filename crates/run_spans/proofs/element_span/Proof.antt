@@ -10,7 +10,7 @@ use Rattle.run_spans.proofs.Finding.{told, told-below}
 use Rattle.run_spans.proofs.element_span.Statement.{statement}
 use Rattle.run_spans.proofs.element_span.Tie as tie
 
--- the function's entry, and what the two calls tell of s
+-- the function's entry, and what the two calls tell of s; the calls of `before` are `before2` and `before3`
 abbrev entry : (c : tie.After-is-neg) → tie.Start
 entry c = c .before .before .before
 
@@ -34,28 +34,28 @@ magnitude-requires c κs = omega (arith, again (c .before .pre .1) .small)
 is-neg-requires : tie.Need-is-neg-requires
 is-neg-requires c κs = search needs
 
-add-behind : tie.Need-add-behind
-add-behind c =
+add-before : tie.Need-add-before
+add-before c =
     let n = c .before in
     omega (arith, told-below (entry n .pre .1) (n .before .magnitude .ensures))
 
-behind-requires : tie.Need-behind-requires
-behind-requires c κs = search needs
+before-requires : tie.Need-before-requires
+before-requires c κs = search needs
 
 returns-2 : tie.Need-returns-2
 returns-2 c =
     let n = c .before .before in
     let s = entry n .args in
-    c .behind .ensures ∙ element-down (s .lo) (s .hi) (s .offset) (s .size) (n .before .magnitude .result) (down (c .before))
+    c .before2 .ensures ∙ element-down (s .lo) (s .hi) (s .offset) (s .size) (n .before .magnitude .result) (down (c .before))
 
-behind-requires-2 : tie.Need-behind-requires-2
-behind-requires-2 c κs = search needs
+before-requires-2 : tie.Need-before-requires-2
+before-requires-2 c κs = search needs
 
 returns-3 : tie.Need-returns-3
 returns-3 c =
     let p = c .before .before in
     let s = entry (p .before) .args in
-    c .behind2 .ensures ∙ element-down (s .lo) (s .hi) (s .offset) (s .size) 0 (up p ∙ ap pos (c .before .if3 .taken))
+    c .before3 .ensures ∙ element-down (s .lo) (s .hi) (s .offset) (s .size) 0 (up p ∙ ap pos (c .before .if3 .taken))
 
 sub-ahead : tie.Need-sub-ahead
 sub-ahead c = search needs
@@ -71,4 +71,4 @@ returns-4 c =
 
 pub element-span-spec : {M : Type 1} → statement M
 element-span-spec =
-    tie.close (tie.spec inside-requires returns magnitude-requires is-neg-requires add-behind behind-requires returns-2 behind-requires-2 returns-3 sub-ahead ahead-requires returns-4)
+    tie.close (tie.spec inside-requires returns magnitude-requires is-neg-requires add-before before-requires returns-2 before-requires-2 returns-3 sub-ahead ahead-requires returns-4)
