@@ -230,5 +230,5 @@ pub fn fixed_span(unit: &[u8], parts: Parts, how: How, field: u16, s: Seen) -> S
     let most = unit_decode::long(parts.d);
     let x = start_bound(how, s);
     let y = last_bound(s);
-    run_spans::span_in(0, most, entry, how, x, y)
+    run_spans::span_of(most, entry, how, x, y)
 }

@@ -14,7 +14,7 @@ use Rattle.rules_unit.specs.Decode.{codeOf}
 use Rattle.rules_unit.specs.Expressions.{itemb}
 use Rattle.rules_run.specs.declared.Span.{Span}
 use Rattle.rules_run.specs.declared.Span.the-variants.{At, Outside}
-use Rattle.rules_run.proofs.Windows.{inside-window}
+use Rattle.rules_run.proofs.Located as located
 use Rattle.rules_fence.specs.declared.Breach.{Breach}
 use Rattle.rules_fence.specs.declared.Breach.the-variants as breach
 use Rattle.rules_fence.specs.declared.Seen.{Seen}
@@ -34,7 +34,7 @@ module _ (u : List ℕ) (p : Parts) (h : How) (f : ℕ) (s : Seen) (dest b : Boo
     -- "it must stay inside the D bytes"
     pub found-inside : (a n : ℕ) → span ≡ At a n → a + n ≤ p .d
     found-inside a n e =
-        inside-window 0 (p .d) (codeOf u p .field f) h (startBound h s) (lastBound s) (fixed-as (codeOf u p) h f s (sym eb ∙ t) ∙ sym es ∙ e) .1
+        located.found-inside (p .d) (codeOf u p .field f) h (startBound h s) (lastBound s) (fixed-as (codeOf u p) h f s (sym eb ∙ t) ∙ sym es ∙ e)
 
     pub reference-at : (a n : ℕ) (r : Breach) → span ≡ At a n → r ≡ spanBreach (codeOf u p) dest f (At a n) → r ≡ referenceBreach (codeOf u p) dest h f s
     unfolding referenceBreach

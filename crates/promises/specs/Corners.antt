@@ -26,7 +26,7 @@ use Rattle.rules_unit.specs.Table.{verbOf}
 use Rattle.rules_unit.specs.Expressions.{digitsb, numberb, textb, sortFrom, sortAt, usesb}
 use Rattle.rules_unit.specs.Checks.{filledb, rangesb, entryb, goodFields, rowb, shapeb, foundOf, statementsFrom, partsCheck, checkOf}
 use Rattle.rules_unit.specs.Literals.{stretchOf, literalOf}
-use Rattle.rules_run.specs.Spans.{within, elementSpan, rangeSpan, lengthSpan, spanIn}
+use Rattle.rules_run.specs.Spans.{within, elementSpan, rangeSpan, lengthSpan, spanOf}
 use Rattle.rules_run.specs.Evaluation.{digitsFrom, plainNumber, literalNumber, reference, stepBy, placeBy, place, lastOf, workedFrom, workedOf, calc}
 use Rattle.rules_run.specs.States.{returnsb, soundb}
 use Rattle.rules_run.specs.Turns as turns
@@ -187,7 +187,7 @@ references =
     ∷ []
 
 pub references-hold : AllHold references
-unfolding reference readOf readFrom digitsb digitsFrom plainNumber literalNumber calc stepBy within elementSpan rangeSpan lengthSpan spanIn placeBy place lastOf workedFrom workedOf
+unfolding reference readOf readFrom digitsb digitsFrom plainNumber literalNumber calc stepBy within elementSpan rangeSpan lengthSpan spanOf placeBy place lastOf workedFrom workedOf
 references-hold = refl
 
 -- ---- items

@@ -46,7 +46,7 @@ use Rattle.rules_run.specs.declared.Span.the-variants.{At, Outside}
 use Rattle.rules_run.specs.declared.Stop.the-variants as stop
 use Rattle.rules_run.specs.Stops.{stopNumber}
 use Rattle.rules_run.specs.States.{Sound, started, gone}
-use Rattle.rules_run.specs.Spans.{spanIn, Located}
+use Rattle.rules_run.specs.Spans.{spanOf, Located}
 use Rattle.rules_run.specs.Evaluation.{workedOf, numberOf}
 use Rattle.rules_run.specs.Runs.{to, stuck, nextOf, dataAfter, Ran, ended, runFrom}
 use Rattle.rules_run.specs.Answers.{Ready, RunNumber, Does, StopNo, noOf, Given}
@@ -123,12 +123,11 @@ div-23 = causes.div-23
 pub round-26 : (v k : ℤ) → (roundOf v k ≡ Failed fault.RoundCount) ↔ ((n : ℕ) → k ≡ pos n → n ≤ 18 → ⊥)
 round-26 = causes.round-26
 
--- "A span may leave its field in either direction; it must stay inside the D bytes. Otherwise 21.": in the window from lo up to hi, which is from 0 up to D
-pub span-exactly : (lo hi : ℕ) (f : Field) (a n : ℕ) (h : How) (x y : ℤ) → (spanIn lo hi f h x y ≡ At a n) ↔ Located f h x y a n × ((lo ≤ a) × (a + n ≤ hi))
+-- "A span may leave its field in either direction; it must stay inside the D bytes. Otherwise 21.": the size is D
+pub span-exactly : (size : ℕ) (f : Field) (a n : ℕ) (h : How) (x y : ℤ) → (spanOf size f h x y ≡ At a n) ↔ Located f h x y a n × (a + n ≤ size)
 span-exactly = located.span-exactly
 
-pub outside-21 : (lo hi : ℕ) (f : Field) (h : How) (x y : ℤ)
-    → (spanIn lo hi f h x y ≡ Outside) ↔ ((a n : ℕ) → Located f h x y a n → lo ≤ a → a + n ≤ hi → ⊥)
+pub outside-21 : (size : ℕ) (f : Field) (h : How) (x y : ℤ) → (spanOf size f h x y ≡ Outside) ↔ ((a n : ℕ) → Located f h x y a n → a + n ≤ size → ⊥)
 outside-21 = located.outside-exactly
 
 -- ---- the open calls: the statement where the state s is, over the data d

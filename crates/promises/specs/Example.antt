@@ -13,7 +13,7 @@ use Rattle.rules_unit.specs.Decode.{partsOf, kindOf, fieldAt, referenceAt, item
 use Rattle.rules_unit.specs.Table.{verbOf}
 use Rattle.rules_unit.specs.Expressions.{sortFrom, sortAt, usesb}
 use Rattle.rules_unit.specs.Checks.{filledb, rangesb, entryb, goodFields, rowb, shapeb, foundOf, statementsFrom, partsCheck, checkOf}
-use Rattle.rules_run.specs.Spans.{within, spanIn}
+use Rattle.rules_run.specs.Spans.{within, spanOf}
 use Rattle.rules_run.specs.Evaluation.{placeBy, place, lastOf, workedFrom, workedOf}
 use Rattle.rules_run.specs.States.{returnsb, soundb, started}
 use Rattle.rules_run.specs.Stops.{stopNumber}
@@ -45,5 +45,5 @@ pub record Example : Type 0 where
   pub leaves : ran .bytes ≡ bytes "42"
 
 pub example : Example
-unfolding readOf readFrom placed partsOf kindOf fieldAt referenceAt itemBy itemAt itemsIn itemsAt statementAt verbOf sortFrom sortAt usesb filledb rangesb entryb goodFields rowb shapeb foundOf statementsFrom partsCheck checkOf within spanIn placeBy place lastOf workedFrom workedOf returnsb soundb stored applied turnBy turnOf movedBy runFrom runChecked runOf
+unfolding readOf readFrom placed partsOf kindOf fieldAt referenceAt itemBy itemAt itemsIn itemsAt statementAt verbOf sortFrom sortAt usesb filledb rangesb entryb goodFields rowb shapeb foundOf statementsFrom partsCheck checkOf within spanOf placeBy place lastOf workedFrom workedOf returnsb soundb stored applied turnBy turnOf movedBy runFrom runChecked runOf
 example = record { stops = refl; reached = refl; completed = refl; leaves = refl }

@@ -19,7 +19,7 @@ use Rattle.rules_unit.specs.declared.Item.{Item}
 use Rattle.rules_unit.specs.declared.Item.the-variants as item
 use Rattle.rules_unit.specs.Codes.{Code}
 use Rattle.rules_run.specs.declared.Span.the-variants.{Outside}
-use Rattle.rules_run.specs.Spans.{spanIn}
+use Rattle.rules_run.specs.Spans.{spanOf}
 use Rattle.rules_run.specs.Evaluation.{literalNumber}
 use Rattle.rules_fence.specs.declared.Seen.{Seen}
 use Rattle.rules_fence.specs.declared.Seen.the-variants as seen
@@ -105,7 +105,7 @@ module _ (c : Code) where
   -- The reference has its bounds, and its fixed span is the one that they name.
   pub record Fixed (h : How) (f : ℕ) (s : Seen) (x y : ℤ) : Type 0 where
     pub bounded : boundedb h s ≡ true
-    pub span : fixedSpan c h f s ≡ spanIn 0 (c .size) (c .field f) h x y
+    pub span : fixedSpan c h f s ≡ spanOf (c .size) (c .field f) h x y
 
   module _ (f : ℕ) where
     fixed-one : (s : Seen) (x y : ℤ) → LastIs s x → y ≡ pos 0 → Fixed how.Element f s x y
@@ -239,7 +239,7 @@ module _ (c : Code) where
     pub x : ℤ
     pub y : ℤ
     pub bounds : Bounds c h before x y
-    pub span : fixedSpan c h f s ≡ spanIn 0 (c .size) (c .field f) h x y
+    pub span : fixedSpan c h f s ≡ spanOf (c .size) (c .field f) h x y
 
   module _ (f : ℕ) (before : List Item) where
     one-shown : (y : ℤ) (plain : Bool) → LastShown before y plain → OneBound c before y

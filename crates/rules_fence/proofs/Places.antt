@@ -20,9 +20,9 @@ use Rattle.rules_run.specs.declared.Span.{Span}
 use Rattle.rules_run.specs.declared.Span.the-variants.{At, Outside}
 use Rattle.rules_run.specs.declared.Worked.{Worked}
 use Rattle.rules_run.specs.declared.Worked.the-variants as worked
-use Rattle.rules_run.specs.Spans.{spanIn}
+use Rattle.rules_run.specs.Spans.{spanOf}
 use Rattle.rules_run.specs.Evaluation.{asPlace, placeBy, place}
-use Rattle.rules_run.proofs.Windows.{span-some}
+use Rattle.rules_run.proofs.Located.{span-some}
 use Rattle.rules_fence.specs.declared.Seen.{Seen}
 use Rattle.rules_fence.specs.declared.Seen.the-variants as seen
 use Rattle.rules_fence.specs.Bounds.{fixedSpan}
@@ -54,13 +54,13 @@ WorkedOk c dest span (worked.Failed e) = mildb false e ≡ true
 module _ (c : Code) (s : SoundCode c) (d : List ℕ) (e : length d ≡ c .size) where
   -- ---- the span that the values held give is the fixed one
 
-  pub fixed-whole : (f : ℕ) (b : Seen) → fixedSpan c how.First f b ≡ spanIn 0 (length d) (c .field f) how.First (pos 0) (pos 0)
+  pub fixed-whole : (f : ℕ) (b : Seen) → fixedSpan c how.First f b ≡ spanOf (length d) (c .field f) how.First (pos 0) (pos 0)
   unfolding fixedSpan
   fixed-whole f b = rw e
 
   module _ (dest : Bool) (f : ℕ) where
     pub fixed-element : (b : Seen) (x : ℤ) (st : List ℤ) → SpanKept c dest f (fixedSpan c how.Element f b) → Held b (x ∷ st)
-        → fixedSpan c how.Element f b ≡ spanIn 0 (length d) (c .field f) how.Element x (pos 0)
+        → fixedSpan c how.Element f b ≡ spanOf (length d) (c .field f) how.Element x (pos 0)
     unfolding fixedSpan
     fixed-element seen.Nothing x st r q = absurd r
     fixed-element (seen.One y plain) x st r q = rw (e, q)
@@ -68,14 +68,14 @@ module _ (c : Code) (s : SoundCode c) (d : List ℕ) (e : length d ≡ c .size) 
     fixed-element (seen.Two w y plain) x (z ∷ st) r q = rw (e, q .0)
 
     pub fixed-range : (b : Seen) (y x : ℤ) (st : List ℤ) → SpanKept c dest f (fixedSpan c how.Range f b) → Held b (y ∷ (x ∷ st))
-        → fixedSpan c how.Range f b ≡ spanIn 0 (length d) (c .field f) how.Range x y
+        → fixedSpan c how.Range f b ≡ spanOf (length d) (c .field f) how.Range x y
     unfolding fixedSpan
     fixed-range seen.Nothing y x st r q = absurd r
     fixed-range (seen.One z plain) y x st r q = absurd r
     fixed-range (seen.Two w z plain) y x st r q = rw (e, q .0, q .1)
 
     pub fixed-length : (b : Seen) (y x : ℤ) (st : List ℤ) → SpanKept c dest f (fixedSpan c how.Length f b) → Held b (y ∷ (x ∷ st))
-        → fixedSpan c how.Length f b ≡ spanIn 0 (length d) (c .field f) how.Length x y
+        → fixedSpan c how.Length f b ≡ spanOf (length d) (c .field f) how.Length x y
     unfolding fixedSpan
     fixed-length seen.Nothing y x st r q = absurd r
     fixed-length (seen.One z plain) y x st r q = absurd r
@@ -84,23 +84,23 @@ module _ (c : Code) (s : SoundCode c) (d : List ℕ) (e : length d ≡ c .size) 
     -- ---- a last reference
 
     module _ (h : How) (x y : ℤ) where
-      as-place : (span : Span) → f < c .fields → span ≡ spanIn 0 (length d) (c .field f) h x y → SpanKept c dest f span → WorkedOk c dest span (asPlace c f span)
+      as-place : (span : Span) → f < c .fields → span ≡ spanOf (length d) (c .field f) h x y → SpanKept c dest f span → WorkedOk c dest span (asPlace c f span)
       as-place Outside k q r = absurd r
       as-place (At a n) k q r = by (decimalb c f) refl (ltb (c .limit) n)
         where
           ok : (t : Bool) → decimalb c f ≡ t → PlaceOk c dest (At a n) t a n
-          ok t z = record { field = f; known = k; kind = z; is = refl; fenced = r; some = span-some 0 (length d) (c .field f) h x y (s .entries f k .own .some) (sym q) }
+          ok t z = record { field = f; known = k; kind = z; is = refl; fenced = r; some = span-some (length d) (c .field f) h x y (s .entries f k .own .some) (sym q) }
 
           by : (t : Bool) → decimalb c f ≡ t → (u : Bool) → WorkedOk c dest (At a n) (cond t (cond u (worked.Failed fault.TooLong) (worked.Place true a n)) (worked.Place false a n))
           by true z true = refl
           by true z false = ok true z
           by false z u = ok false z
 
-      place-by : (span : Span) → span ≡ spanIn 0 (length d) (c .field f) h x y → SpanKept c dest f span → WorkedOk c dest span (placeBy c d h f x y)
+      place-by : (span : Span) → span ≡ spanOf (length d) (c .field f) h x y → SpanKept c dest f span → WorkedOk c dest span (placeBy c d h f x y)
       unfolding placeBy
       place-by span q r = by (ltb f (c .fields)) refl
         where
-          by : (t : Bool) → ltb f (c .fields) ≡ t → WorkedOk c dest span (cond t (asPlace c f (spanIn 0 (length d) (c .field f) h x y)) (worked.Failed fault.Malformed))
+          by : (t : Bool) → ltb f (c .fields) ≡ t → WorkedOk c dest span (cond t (asPlace c f (spanOf (length d) (c .field f) h x y)) (worked.Failed fault.Malformed))
           by true p = rw (← q) (as-place span (ltb-true f (c .fields) p) q r)
           by false p = refl
 

@@ -17,8 +17,8 @@ use Rattle.rules_unit.specs.Sound.{SoundCode}
 use Rattle.rules_unit.proofs.Fields.{some-byte}
 use Rattle.rules_run.specs.declared.Span.{Span}
 use Rattle.rules_run.specs.declared.Span.the-variants.{At, Outside}
-use Rattle.rules_run.specs.Spans.{spanIn}
-use Rattle.rules_run.proofs.Windows.{span-some}
+use Rattle.rules_run.specs.Spans.{spanOf}
+use Rattle.rules_run.proofs.Located.{span-some}
 use Rattle.rules_fence.specs.declared.Breach.{Breach}
 use Rattle.rules_fence.specs.declared.Breach.the-variants as breach
 use Rattle.rules_fence.specs.declared.Seen.the-variants as seen
@@ -152,8 +152,8 @@ module _ (c : Code) (s : SoundCode c) (a n : ℕ) (o : 1 ≤ n) where
 -- ---- a reference
 
 module _ (c : Code) (s : SoundCode c) (dest : Bool) (f : ℕ) (l : f < c .fields) (h : How) (before : List Item) where
-  some : (x y : ℤ) (a n : ℕ) → spanIn 0 (c .size) (c .field f) h x y ≡ At a n → 1 ≤ n
-  some x y a n e = span-some 0 (c .size) (c .field f) h x y (s .entries f l .own .some) e
+  some : (x y : ℤ) (a n : ℕ) → spanOf (c .size) (c .field f) h x y ≡ At a n → 1 ≤ n
+  some x y a n e = span-some (c .size) (c .field f) h x y (s .entries f l .own .some) e
 
   named-breaks : (a n : ℕ) (b : Breach) → Names c h f before (At a n) → SpanBreaks c dest f a n b → RefBreaks c dest h f before b
   named-breaks a n breach.None w r = r

@@ -19,9 +19,9 @@ use Rattle.rules_unit.specs.Sound.{SoundCode}
 use Rattle.rules_run.specs.declared.Span.{Span}
 use Rattle.rules_run.specs.declared.Span.the-variants.{At, Outside}
 use Rattle.rules_run.specs.declared.Worked.{Worked}
-use Rattle.rules_run.specs.Spans.{spanIn}
+use Rattle.rules_run.specs.Spans.{spanOf}
 use Rattle.rules_run.specs.Evaluation.{readSpan, reference, apply, stepBy, onHeld}
-use Rattle.rules_run.proofs.Windows.{span-some}
+use Rattle.rules_run.proofs.Located.{span-some}
 use Rattle.rules_run.proofs.Faults.{on-room}
 use Rattle.rules_fence.specs.declared.Seen.{Seen}
 use Rattle.rules_fence.specs.Bounds.{fixedSpan}
@@ -32,16 +32,16 @@ use Rattle.rules_fence.proofs.Mild.{mildb, mildNum, mild-value, Mild}
 use Rattle.rules_fence.proofs.Places.{Held, fixed-whole, fixed-element, fixed-range, fixed-length}
 
 module _ (c : Code) (s : SoundCode c) (d : List ℕ) (e : length d ≡ c .size) (v : AllValid c d) (f : ℕ) where
-  ref-mild : (h : How) (x y : ℤ) (span : Span) → span ≡ spanIn 0 (length d) (c .field f) h x y → SpanKept c false f span → mildNum false (reference c d h f x y) ≡ true
+  ref-mild : (h : How) (x y : ℤ) (span : Span) → span ≡ spanOf (length d) (c .field f) h x y → SpanKept c false f span → mildNum false (reference c d h f x y) ≡ true
   unfolding reference
   ref-mild h x y span q r = by (ltb f (c .fields)) (decimalb c f) refl refl
     where
-      read : f < c .fields → decimalb c f ≡ true → (span : Span) → span ≡ spanIn 0 (length d) (c .field f) h x y → SpanKept c false f span → mildNum false (readSpan c d span) ≡ true
-      read k t (At a n) q r = mild-value false (span-reads c s d e v k t (span-some 0 (length d) (c .field f) h x y (s .entries f k .own .some) (sym q)) r)
+      read : f < c .fields → decimalb c f ≡ true → (span : Span) → span ≡ spanOf (length d) (c .field f) h x y → SpanKept c false f span → mildNum false (readSpan c d span) ≡ true
+      read k t (At a n) q r = mild-value false (span-reads c s d e v k t (span-some (length d) (c .field f) h x y (s .entries f k .own .some) (sym q)) r)
       read k t Outside q r = absurd r
 
       by : (t u : Bool) → ltb f (c .fields) ≡ t → decimalb c f ≡ u
-          → mildNum false (cond t (cond u (readSpan c d (spanIn 0 (length d) (c .field f) h x y)) (Failed fault.Malformed)) (Failed fault.Malformed)) ≡ true
+          → mildNum false (cond t (cond u (readSpan c d (spanOf (length d) (c .field f) h x y)) (Failed fault.Malformed)) (Failed fault.Malformed)) ≡ true
       by true true p o = rw (← q) (read (ltb-true f (c .fields) p) o span q r)
       by true false p o = refl
       by false u p o = refl

@@ -21,8 +21,8 @@ use Rattle.rules_unit.specs.Sound.{SoundCode}
 use Rattle.rules_unit.proofs.Statements.{uses-good}
 use Rattle.rules_run.specs.declared.Span.{Span}
 use Rattle.rules_run.specs.declared.Span.the-variants.{At, Outside}
-use Rattle.rules_run.specs.Spans.{spanIn}
-use Rattle.rules_run.proofs.Windows.{span-some}
+use Rattle.rules_run.specs.Spans.{spanOf}
+use Rattle.rules_run.proofs.Located.{span-some}
 use Rattle.rules_fence.specs.declared.Seen.{Seen}
 use Rattle.rules_fence.specs.declared.Seen.the-variants as seen
 use Rattle.rules_fence.specs.Bounds.{seenAfter, fixedSpan}
@@ -37,12 +37,12 @@ module _ (c : Code) (s : SoundCode c) where
   -- ---- references
 
   module _ (dest : Bool) (f : ℕ) (k : f < c .fields) where
-    by-span : (h : How) (x y : ℤ) (span : Span) → span ≡ spanIn 0 (c .size) (c .field f) h x y → Kept (spanBreach c dest f span) (SpanKept c dest f span)
-    by-span h x y (At a n) q = span-tells c s a n (span-some 0 (c .size) (c .field f) h x y (s .entries f k .own .some) (sym q)) dest f k
+    by-span : (h : How) (x y : ℤ) (span : Span) → span ≡ spanOf (c .size) (c .field f) h x y → Kept (spanBreach c dest f span) (SpanKept c dest f span)
+    by-span h x y (At a n) q = span-tells c s a n (span-some (c .size) (c .field f) h x y (s .entries f k .own .some) (sym q)) dest f k
     by-span h x y Outside q = kept-never _ refl
 
-    found : (h : How) (x y : ℤ) → Kept (spanBreach c dest f (spanIn 0 (c .size) (c .field f) h x y)) (SpanKept c dest f (spanIn 0 (c .size) (c .field f) h x y))
-    found h x y = by-span h x y (spanIn 0 (c .size) (c .field f) h x y) refl
+    found : (h : How) (x y : ℤ) → Kept (spanBreach c dest f (spanOf (c .size) (c .field f) h x y)) (SpanKept c dest f (spanOf (c .size) (c .field f) h x y))
+    found h x y = by-span h x y (spanOf (c .size) (c .field f) h x y) refl
 
     reference-tells : (h : How) (b : Seen) → Kept (referenceBreach c dest h f b) (SpanKept c dest f (fixedSpan c h f b))
     unfolding referenceBreach fixedSpan

@@ -20,7 +20,7 @@ use Rattle.rules_unit.specs.declared.Item.the-variants as item
 use Rattle.rules_unit.specs.Codes.{Code}
 use Rattle.rules_run.specs.declared.Span.{Span}
 use Rattle.rules_run.specs.declared.Span.the-variants.{Outside}
-use Rattle.rules_run.specs.Spans.{spanIn}
+use Rattle.rules_run.specs.Spans.{spanOf}
 use Rattle.rules_run.specs.Evaluation.{literalNumber}
 use Rattle.rules_fence.specs.declared.Seen.{Seen}
 use Rattle.rules_fence.specs.declared.Seen.the-variants as seen
@@ -87,13 +87,13 @@ boundedb how.Length (seen.Two x y plain) = true
 
 -- The span by the rules of a run: Outside where 21 would be given, and where a bound is not written so.
 unfoldable pub fixedSpan : Code → How → ℕ → Seen → Span
-fixedSpan c how.First f s = spanIn 0 (c .size) (c .field f) how.First (pos 0) (pos 0)
+fixedSpan c how.First f s = spanOf (c .size) (c .field f) how.First (pos 0) (pos 0)
 fixedSpan c how.Element f seen.Nothing = Outside
-fixedSpan c how.Element f (seen.One y plain) = spanIn 0 (c .size) (c .field f) how.Element y (pos 0)
-fixedSpan c how.Element f (seen.Two x y plain) = spanIn 0 (c .size) (c .field f) how.Element y (pos 0)
+fixedSpan c how.Element f (seen.One y plain) = spanOf (c .size) (c .field f) how.Element y (pos 0)
+fixedSpan c how.Element f (seen.Two x y plain) = spanOf (c .size) (c .field f) how.Element y (pos 0)
 fixedSpan c how.Range f seen.Nothing = Outside
 fixedSpan c how.Range f (seen.One y plain) = Outside
-fixedSpan c how.Range f (seen.Two x y plain) = spanIn 0 (c .size) (c .field f) how.Range x y
+fixedSpan c how.Range f (seen.Two x y plain) = spanOf (c .size) (c .field f) how.Range x y
 fixedSpan c how.Length f seen.Nothing = Outside
 fixedSpan c how.Length f (seen.One y plain) = Outside
-fixedSpan c how.Length f (seen.Two x y plain) = spanIn 0 (c .size) (c .field f) how.Length x y
+fixedSpan c how.Length f (seen.Two x y plain) = spanOf (c .size) (c .field f) how.Length x y

@@ -31,7 +31,7 @@ use Rattle.rules_unit.specs.Codes.{Code, decimalb, offsetOf, sizeOf, countOf, e
 use Rattle.rules_unit.specs.Table.{usesOf}
 use Rattle.rules_run.specs.declared.Span.{Span}
 use Rattle.rules_run.specs.declared.Span.the-variants.{At, Outside}
-use Rattle.rules_run.specs.Spans.{spanIn}
+use Rattle.rules_run.specs.Spans.{spanOf}
 use Rattle.rules_run.specs.Evaluation.{literalNumber}
 
 -- ---- "Each bound of 03, 04 and 05 is a number literal, or one followed by negate, standing directly before"
@@ -80,7 +80,7 @@ pub record Names (c : Code) (h : How) (f : ℕ) (before : List Item) (span : Spa
   pub x : ℤ
   pub y : ℤ
   pub bounds : Bounds c h before x y
-  pub is-span : spanIn 0 (c .size) (c .field f) h x y ≡ span
+  pub is-span : spanOf (c .size) (c .field f) h x y ≡ span
 
 -- ---- one span
 
@@ -112,7 +112,7 @@ pub record RefFenced (c : Code) (dest : Bool) (h : How) (f : ℕ) (before : List
   pub x : ℤ
   pub y : ℤ
   pub bounds : Bounds c h before x y
-  pub kept : SpanKept c dest f (spanIn 0 (c .size) (c .field f) h x y)
+  pub kept : SpanKept c dest f (spanOf (c .size) (c .field f) h x y)
 
 -- Of a place only the last reference names a destination; those before it are read.
 abbrev pub destb : Bool → List Item → Bool

@@ -29,9 +29,9 @@ use Rattle.rules_run.specs.declared.Span.{Span}
 use Rattle.rules_run.specs.declared.Span.the-variants.{At, Outside}
 use Rattle.rules_run.specs.declared.Worked.{Worked}
 use Rattle.rules_run.specs.declared.Worked.the-variants as worked
-use Rattle.rules_run.specs.Spans.{spanIn}
+use Rattle.rules_run.specs.Spans.{spanOf}
 use Rattle.rules_run.specs.Evaluation.{apply, Held, go, halt, stepBy, left, onHeld, asPlace, placeBy, place, textBy, lastOf, workedFrom, workedOf, numberOf, readAt, Within}
-use Rattle.rules_run.proofs.Windows.{inside-window}
+use Rattle.rules_run.proofs.Located.{found-inside}
 use Rattle.rules_run.proofs.Ranges.{apply-range, read-range}
 use Rattle.rules_run.proofs.Held.{Vals, HeldIn, step-in}
 
@@ -54,8 +54,8 @@ module _ (c : Code) (d : List ℕ) (bound : ℕ) (truths : 1 < bound) (sums : c 
   by-bounded : (h : How) (f : ℕ) (x y : ℤ) → Bounded bound c (length d) (placeBy c d h f x y)
   unfolding placeBy
   by-bounded h f x y =
-      cond-case (Bounded bound c (length d)) (ltb f (c .fields)) (asPlace c f (spanIn 0 (length d) (c .field f) h x y)) (worked.Failed fault.Malformed)
-      (λ _. found-bounded f (spanIn 0 (length d) (c .field f) h x y) (λ a n e. inside-window 0 (length d) (c .field f) h x y e .1))
+      cond-case (Bounded bound c (length d)) (ltb f (c .fields)) (asPlace c f (spanOf (length d) (c .field f) h x y)) (worked.Failed fault.Malformed)
+      (λ _. found-bounded f (spanOf (length d) (c .field f) h x y) (λ a n e. found-inside (length d) (c .field f) h x y e))
       (λ _. tt)
 
   place-bounded : (h : How) (f : ℕ) (st : List ℤ) → Bounded bound c (length d) (place c d h f st)

@@ -23,7 +23,7 @@ use Rattle.rules_run.specs.declared.Span.{Span}
 use Rattle.rules_run.specs.declared.Span.the-variants.{At, Outside}
 use Rattle.rules_run.specs.declared.Worked.{Worked}
 use Rattle.rules_run.specs.declared.Worked.the-variants as worked
-use Rattle.rules_run.specs.Spans.{spanIn}
+use Rattle.rules_run.specs.Spans.{spanOf}
 use Rattle.rules_run.specs.Evaluation.{apply, left, asPlace, placeBy, place, lastOf}
 use Rattle.rules_run.proofs.Faults.{calc-passes}
 use Rattle.rules_run.proofs.Formed.{formedb, literal-formed, step-formed, op-two}
@@ -51,7 +51,7 @@ module _ (c : Code) (d : List ℕ) where
 
   by-comes : (h : How) (f : ℕ) (x y : ℤ) → ltb f (c .fields) ≡ true → Comes (placeSort (decimalb c f)) (placeBy c d h f x y)
   unfolding placeBy
-  by-comes h f x y e = rw e (span-comes f (spanIn 0 (length d) (c .field f) h x y))
+  by-comes h f x y e = rw e (span-comes f (spanOf (length d) (c .field f) h x y))
 
   place-comes : (h : How) (f : ℕ) (st : List ℤ) → ltb f (c .fields) ≡ true → length st ≡ howTakes h → Comes (placeSort (decimalb c f)) (place c d h f st)
   unfolding place

@@ -1,5 +1,4 @@
 pub mod Stored
-pub mod Windows
 pub mod Located
 pub mod Ranges
 pub mod Held

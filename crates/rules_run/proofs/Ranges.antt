@@ -31,7 +31,7 @@ use Rattle.rules_unit.specs.Codes.{Code, decimalb}
 use Rattle.rules_unit.specs.Expressions.{digitsb}
 use Rattle.rules_run.specs.declared.Span.{Span}
 use Rattle.rules_run.specs.declared.Span.the-variants.{At, Outside}
-use Rattle.rules_run.specs.Spans.{spanIn}
+use Rattle.rules_run.specs.Spans.{spanOf}
 use Rattle.rules_run.specs.Evaluation.{calc, digitsFrom, plainNumber, literalNumber, readAt, readSpan, reference, apply}
 
 pub range-up : {low high : ℕ} → low ≤ high → (n : Num) → InRange low n → InRange high n
@@ -100,7 +100,7 @@ module _ (c : Code) (d : List ℕ) (bound : ℕ) (truths : 1 < bound) (sums : c 
   unfolding reference
   reference-range h f x y =
       range-if bound (ltb f (c .fields)) _ (Failed fault.Malformed)
-      (λ _. range-if bound (decimalb c f) _ (Failed fault.Malformed) (λ _. span-range (spanIn 0 (length d) (c .field f) h x y)) (λ _. tt))
+      (λ _. range-if bound (decimalb c f) _ (Failed fault.Malformed) (λ _. span-range (spanOf (length d) (c .field f) h x y)) (λ _. tt))
       (λ _. tt)
 
   pub apply-range : (i : Item) (x y : ℤ) → Val bound x → Val bound y → InRange bound (apply c d i x y)

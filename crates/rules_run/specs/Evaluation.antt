@@ -33,7 +33,7 @@ use Rattle.rules_run.specs.declared.Span.{Span}
 use Rattle.rules_run.specs.declared.Span.the-variants.{At, Outside}
 use Rattle.rules_run.specs.declared.Worked.{Worked}
 use Rattle.rules_run.specs.declared.Worked.the-variants as worked
-use Rattle.rules_run.specs.Spans.{spanIn}
+use Rattle.rules_run.specs.Spans.{spanOf}
 
 -- ---- items
 
@@ -84,7 +84,7 @@ readSpan c d Outside = Failed fault.Outside
 unfoldable pub reference : Code → List ℕ → How → ℕ → ℤ → ℤ → Num
 reference c d h f x y =
     cond (ltb f (c .fields))
-    (cond (decimalb c f) (readSpan c d (spanIn 0 (length d) (c .field f) h x y)) (Failed fault.Malformed))
+    (cond (decimalb c f) (readSpan c d (spanOf (length d) (c .field f) h x y)) (Failed fault.Malformed))
     (Failed fault.Malformed)
 
 abbrev pub apply : Code → List ℕ → Item → ℤ → ℤ → Num
@@ -138,7 +138,7 @@ asPlace c f Outside = worked.Failed fault.Outside
 
 unfoldable pub placeBy : Code → List ℕ → How → ℕ → ℤ → ℤ → Worked
 placeBy c d h f x y =
-    cond (ltb f (c .fields)) (asPlace c f (spanIn 0 (length d) (c .field f) h x y)) (worked.Failed fault.Malformed)
+    cond (ltb f (c .fields)) (asPlace c f (spanOf (length d) (c .field f) h x y)) (worked.Failed fault.Malformed)
 
 -- A last reference takes all that is held as its bounds.
 unfoldable pub place : Code → List ℕ → How → ℕ → List ℤ → Worked

@@ -1,8 +1,8 @@
 -- The bytes that a reference names (document 01, "Values and references").
---   within lo hi a n            n bytes from a, where they lie inside the window from lo up to hi
---   spanIn lo hi field how x y  the span of a reference with its bounds x and y, inside that window
---   Located field how x y a n   n bytes from a on are that span, said by natural numbers
--- The run's window is the data, from 0 up to D. Bounds are any numbers: nothing wraps.
+--   within size a n            n bytes from a, where they lie inside size bytes
+--   spanOf size field how x y  the span of a reference with its bounds x and y, inside size bytes
+--   Located field how x y a n  n bytes from a on are that span, said by natural numbers
+-- The size is D, the length of the data. Bounds are any numbers: nothing wraps.
 -- Assumes nothing.
 use mathlib.Core.Path.{_≡_}
 use Prim.Native.Nat.{ℕ, zero, suc, _+_, _*_, _≤_}
@@ -17,35 +17,35 @@ use Rattle.rules_run.specs.declared.Span.{Span}
 use Rattle.rules_run.specs.declared.Span.the-variants.{At, Outside}
 
 -- "A span may leave its field in either direction; it must stay inside the D bytes. Otherwise 21."
-unfoldable pub within : ℕ → ℕ → ℤ → ℕ → Span
-within lo hi (pos a) n = cond (leb lo a) (cond (leb (a + n) hi) (At a n) Outside) Outside
-within lo hi (negsuc a) n = Outside
+unfoldable pub within : ℕ → ℤ → ℕ → Span
+within size (pos a) n = cond (leb (a + n) size) (At a n) Outside
+within size (negsuc a) n = Outside
 
 -- "subscript s gives element s (0 or less lies before the field)"
-unfoldable pub elementSpan : ℕ → ℕ → ℕ → ℕ → ℤ → Span
-elementSpan lo hi offset size s = within lo hi (pos offset +ℤ (s -ℤ pos 1) *ℤ pos size) size
+unfoldable pub elementSpan : ℕ → ℕ → ℕ → ℤ → Span
+elementSpan size offset n s = within size (pos offset +ℤ (s -ℤ pos 1) *ℤ pos n) n
 
 -- "(start,end) needs 1 <= start <= end"
-unfoldable pub rangeSpan : ℕ → ℕ → ℕ → ℤ → ℤ → Span
-rangeSpan lo hi offset s e =
+unfoldable pub rangeSpan : ℕ → ℕ → ℤ → ℤ → Span
+rangeSpan size offset s e =
     cond (leZ (pos 1) s)
-    (cond (leZ s e) (within lo hi (pos offset +ℤ (s -ℤ pos 1)) (natAbs (e -ℤ s) + 1)) Outside)
+    (cond (leZ s e) (within size (pos offset +ℤ (s -ℤ pos 1)) (natAbs (e -ℤ s) + 1)) Outside)
     Outside
 
 -- "(pos:length) needs pos >= 1 and length not 0, a negative length ending at pos"
-unfoldable pub lengthSpan : ℕ → ℕ → ℕ → ℤ → ℤ → Span
-lengthSpan lo hi offset p (pos zero) = Outside
-lengthSpan lo hi offset p (pos (suc k)) =
-    cond (leZ (pos 1) p) (within lo hi (pos offset +ℤ (p -ℤ pos 1)) (suc k)) Outside
-lengthSpan lo hi offset p (negsuc k) =
-    cond (leZ (pos 1) p) (within lo hi (pos offset +ℤ (p -ℤ pos (suc k))) (suc k)) Outside
+unfoldable pub lengthSpan : ℕ → ℕ → ℤ → ℤ → Span
+lengthSpan size offset p (pos zero) = Outside
+lengthSpan size offset p (pos (suc k)) =
+    cond (leZ (pos 1) p) (within size (pos offset +ℤ (p -ℤ pos 1)) (suc k)) Outside
+lengthSpan size offset p (negsuc k) =
+    cond (leZ (pos 1) p) (within size (pos offset +ℤ (p -ℤ pos (suc k))) (suc k)) Outside
 
 -- "References .., counted from the field's first byte: no bounds gives the first element"
-unfoldable pub spanIn : ℕ → ℕ → Field → How → ℤ → ℤ → Span
-spanIn lo hi f how.First x y = within lo hi (pos (f .offset)) (f .size)
-spanIn lo hi f how.Element x y = elementSpan lo hi (f .offset) (f .size) x
-spanIn lo hi f how.Range x y = rangeSpan lo hi (f .offset) x y
-spanIn lo hi f how.Length x y = lengthSpan lo hi (f .offset) x y
+unfoldable pub spanOf : ℕ → Field → How → ℤ → ℤ → Span
+spanOf size f how.First x y = within size (pos (f .offset)) (f .size)
+spanOf size f how.Element x y = elementSpan size (f .offset) (f .size) x
+spanOf size f how.Range x y = rangeSpan size (f .offset) x y
+spanOf size f how.Length x y = lengthSpan size (f .offset) x y
 
 -- The same sentences by natural numbers: the n bytes from a on are those of a reference with the bounds x and y, wherever they lie.
 abbrev pub Located : Field → How → ℤ → ℤ → ℕ → ℕ → Type 0

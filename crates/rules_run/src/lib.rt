@@ -9,7 +9,7 @@ ghost use Rattle.rules_run.specs.Stops.{stopNumber};
 // The bytes that a reference names.
 pub enum Span {
     At { start: usize, len: usize },
-    // Bounds that are none, or bytes outside the window: 21.
+    // Bounds that are none, or bytes outside the data: 21.
     Outside,
 }
 

@@ -28,7 +28,7 @@ use Rattle.rules_unit.specs.declared.Item.the-variants as item
 use Rattle.rules_unit.specs.Codes.{Code}
 use Rattle.rules_unit.specs.Expressions.{howTakes, takes, textb}
 use Rattle.rules_run.specs.declared.Worked.the-variants as worked
-use Rattle.rules_run.specs.Spans.{spanIn}
+use Rattle.rules_run.specs.Spans.{spanOf}
 use Rattle.rules_run.specs.Evaluation.{calc, reference, apply, halt, push, room, stepBy, left, placeBy, place, textBy}
 use Rattle.run_evaluate.specs.Steps.{topDown, Vals}
 
@@ -101,7 +101,7 @@ module _ (c : Code) (d : List ℕ) (held : List ℤ) where
 
   -- An item ignores the values that it does not take, so the two that stand from m on serve for each.
   taken : (i : Item) (m : ℕ) → stepBy (takes i) (apply c d i) (topDown held (m + takes i)) ≡ room (topDown held m) (apply c d i (getD held m (pos 0)) (getD held (m + 1) (pos 0)))
-  unfolding stepBy topDown reference spanIn calc
+  unfolding stepBy topDown reference spanOf calc
   taken (item.Number place len) m = rw (add-zero m)
   taken (item.Reference how.First f) m = rw (add-zero m)
   taken (item.Reference how.Element f) m = rw (add-one m)
@@ -142,7 +142,7 @@ room-for held m g h = rw (top-length held m, lt-ltb m 16 h)
 module _ (c : Code) (d : List ℕ) (held : List ℤ) where
   pub place-held : (h : How) (f n : ℕ)
       → place c d h f (topDown held n) ≡ cond (eqb n (howTakes h)) (placeBy c d h f (getD held 0 (pos 0)) (getD held 1 (pos 0))) (worked.Failed fault.Malformed)
-  unfolding place placeBy spanIn topDown
+  unfolding place placeBy spanOf topDown
   place-held how.First f zero = refl
   place-held how.First f (suc n) = rw (ne-eqb (suc n) 0 (λ e. omega arith))
   place-held how.Element f zero = refl

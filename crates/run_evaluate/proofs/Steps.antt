@@ -32,7 +32,7 @@ use Rattle.rules_unit.specs.Expressions.{howTakes, opTakes, takes, textb}
 use Rattle.rules_unit.proofs.Items.{items-step, beyond}
 use Rattle.rules_run.specs.declared.Worked.{Worked}
 use Rattle.rules_run.specs.declared.Worked.the-variants as worked
-use Rattle.rules_run.specs.Spans.{spanIn}
+use Rattle.rules_run.specs.Spans.{spanOf}
 use Rattle.rules_run.specs.Evaluation.{calc, literalNumber, reference, apply, Held, halt, push, room, stepBy, left, onHeld, placeBy, lastOf, workedFrom, workedOf}
 use Rattle.rules_run.proofs.Ranges.{apply-range}
 use Rattle.unit_sorts.proofs.Notes.{same}
@@ -214,7 +214,7 @@ module _ (u : List ℕ) (p : Parts) (d es : List ℕ) (i n : ℕ) (held : List �
   -- without bounds
   module _ (e : itemAt es i ≡ referenceAt es i how.First) (k : 2 < length es - i) (f : ℕ) (ef : f ≡ wordAt es (i + 1)) (t : Bool) (et : t ≡ cond (ltb (i + 3) (length es)) (eqb (getD es (i + 3) 0) 0) false) where
     pub field-place : (w : Worked) → t ≡ true → n ≡ 0 → w ≡ placeBy (codeOf u p) d how.First f (pos 0) (pos 0) → Leads (codeOf u p) d es i n held (Done w)
-    unfolding placeBy spanIn
+    unfolding placeBy spanOf
     field-place w o z q = leads-done (Done w) w refl (at-last how.First e k f ef t et o ∙ rw (eq-eqb n 0 z) (sym q))
 
     pub field-bound : (r : Step) → t ≡ true → (n ≡ 0 → ⊥) → r ≡ Done (worked.Failed fault.Malformed) → Leads (codeOf u p) d es i n held r
@@ -225,7 +225,7 @@ module _ (u : List ℕ) (p : Parts) (d es : List ℕ) (i n : ℕ) (held : List �
 
     pub field-held : (v : Num) (r : Step) → t ≡ false → n < 16 → v ≡ reference (codeOf u p) d how.First f (pos 0) (pos 0) → r ≡ heldOn n (i + 3) v
         → Leads (codeOf u p) d es i n held r
-    unfolding reference spanIn
+    unfolding reference spanOf
     field-held v r o m ev q = works (item.Reference how.First f) (i + 3) (reference-going how.First e k f ef t et o) n (add-zero n) m (omega arith) v ev r q
 
   -- ---- an alpha literal

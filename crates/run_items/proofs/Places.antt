@@ -26,17 +26,17 @@ use Rattle.rules_run.specs.declared.Span.{Span}
 use Rattle.rules_run.specs.declared.Span.the-variants.{At, Outside}
 use Rattle.rules_run.specs.declared.Worked.{Worked}
 use Rattle.rules_run.specs.declared.Worked.the-variants as worked
-use Rattle.rules_run.specs.Spans.{spanIn}
+use Rattle.rules_run.specs.Spans.{spanOf}
 use Rattle.rules_run.specs.Evaluation.{readSpan, reference, asPlace, placeBy}
-use Rattle.rules_run.proofs.Windows.{inside-window}
+use Rattle.rules_run.proofs.Located as located
 
 -- The part of the data that the reader is handed.
 pub read-part : (limit base l b a n : ℕ) (d : List ℕ) (r : Num) → l ≡ limit → b ≡ base → r ≡ readOf l b (take (a + n - a) (drop a d)) → r ≡ readOf limit base (take n (drop a d))
 read-part limit base l b a n d r e f q = rw (e, f, add-sub-cancel-left a n) at q
 
 -- "it must stay inside the D bytes"
-pub found-inside : (hi : ℕ) (entry : Field) (h : How) (x y : ℤ) (s : Span) (a n : ℕ) → s ≡ spanIn 0 hi entry h x y → s ≡ At a n → a + n ≤ hi
-found-inside hi entry h x y s a n e t = inside-window 0 hi entry h x y (sym e ∙ t) .1
+pub found-inside : (size : ℕ) (entry : Field) (h : How) (x y : ℤ) (s : Span) (a n : ℕ) → s ≡ spanOf size entry h x y → s ≡ At a n → a + n ≤ size
+found-inside size entry h x y s a n e t = located.found-inside size entry h x y (sym e ∙ t)
 
 module _ (u : List ℕ) (p : Parts) (d : List ℕ) (h : How) (f : ℕ) (x y : ℤ) where
   pub reference-none : p .f ≤ f → Failed fault.Malformed ≡ reference (codeOf u p) d h f x y
@@ -56,9 +56,9 @@ module _ (u : List ℕ) (p : Parts) (d : List ℕ) (h : How) (f : ℕ) (x y : �
     unfolding reference
     reference-alpha e = sym (rw (lt-ltb f (p .f) there, kind, e))
 
-    module _ (fx : SFits w64 x) (fy : SFits w64 y) (s : Span) (es : s ≡ spanIn 0 (length d) entry h (toZ w64 (ofZ w64 x)) (toZ w64 (ofZ w64 y))) where
-      span : spanIn 0 (length d) (codeOf u p .field f) h x y ≡ s
-      span = ap (λ (g : Field). spanIn 0 (length d) g h x y) (sym ee) ∙ sym (es ∙ op-plain (spanIn 0 (length d) entry h) fx fy)
+    module _ (fx : SFits w64 x) (fy : SFits w64 y) (s : Span) (es : s ≡ spanOf (length d) entry h (toZ w64 (ofZ w64 x)) (toZ w64 (ofZ w64 y))) where
+      span : spanOf (length d) (codeOf u p .field f) h x y ≡ s
+      span = ap (λ (g : Field). spanOf (length d) g h x y) (sym ee) ∙ sym (es ∙ op-plain (spanOf (length d) entry h) fx fy)
 
       read-as : decimal ≡ true → reference (codeOf u p) d h f x y ≡ readSpan (codeOf u p) d s
       unfolding reference

@@ -111,7 +111,7 @@ pub fn read_reference(
     if unit_sorts::is_decimal(kind) {} else {
         return Num::Failed(Fault::Malformed);
     }
-    match run_spans::span_in(0, bytes.len(), entry, how, x, y) {
+    match run_spans::span_of(bytes.len(), entry, how, x, y) {
         Span::At { start, len } => read_at(parts, bytes, start, len),
         Span::Outside => Num::Failed(Fault::Outside),
     }
@@ -131,7 +131,7 @@ pub fn read_first(unit: &[u8], parts: Parts, bytes: &[u8], field: u16) -> Num
     if unit_sorts::is_decimal(kind) {} else {
         return Num::Failed(Fault::Malformed);
     }
-    match run_spans::first_in(0, bytes.len(), entry) {
+    match run_spans::first_span(bytes.len(), entry) {
         Span::At { start, len } => read_at(parts, bytes, start, len),
         Span::Outside => Num::Failed(Fault::Outside),
     }
@@ -200,7 +200,7 @@ fn place_by(unit: &[u8], parts: Parts, bytes: &[u8], how: How, field: u16, x: i6
     let kind = entry.kind;
     let decimal = unit_sorts::is_decimal(kind);
     let most = unit_decode::long(parts.digits);
-    match run_spans::span_in(0, bytes.len(), entry, how, x, y) {
+    match run_spans::span_of(bytes.len(), entry, how, x, y) {
         Span::At { start, len } => place_at(most, decimal, start, len),
         Span::Outside => Worked::Failed(Fault::Outside),
     }
@@ -218,7 +218,7 @@ pub fn place_first(unit: &[u8], parts: Parts, bytes: &[u8], field: u16) -> Worke
     let kind = entry.kind;
     let decimal = unit_sorts::is_decimal(kind);
     let most = unit_decode::long(parts.digits);
-    match run_spans::first_in(0, bytes.len(), entry) {
+    match run_spans::first_span(bytes.len(), entry) {
         Span::At { start, len } => place_at(most, decimal, start, len),
         Span::Outside => Worked::Failed(Fault::Outside),
     }

@@ -7,75 +7,72 @@ ghost use Prim.Native.Nat.{_+_, _*_, _^_, _<_, _≤_};
 ghost use lib.IntN.{pos, _-ℤ_};
 ghost use Rattle.rules.specs.Values.{Val};
 ghost use Rattle.rules_unit.specs.declared.How.the-variants as how;
-ghost use Rattle.rules_run.specs.Spans.{within, elementSpan, rangeSpan, lengthSpan, spanIn};
+ghost use Rattle.rules_run.specs.Spans.{within, elementSpan, rangeSpan, lengthSpan, spanOf};
 
-// The n bytes from a, or Outside where they leave the window from lo up to hi.
-fn inside(lo: usize, hi: usize, a: usize, n: usize) -> Span
-    ensures { λ r. ⌜ r ≡ within lo hi (pos a) n ⌝ }
+// The n bytes from a, where they lie inside size bytes, and Outside otherwise.
+fn inside(size: usize, a: usize, n: usize) -> Span
+    ensures { λ r. ⌜ r ≡ within size (pos a) n ⌝ }
 {
-    if a < lo {
+    if size < a {
         return Span::Outside;
     }
-    if hi < a {
-        return Span::Outside;
-    }
-    if hi - a < n {
+    if size - a < n {
         return Span::Outside;
     }
     Span::At { start: a, len: n }
 }
 
-// The element k + 1. A large k is told before it is multiplied.
-fn ahead(lo: usize, hi: usize, offset: usize, size: usize, k: usize) -> Span
-    requires { ⌜ (hi < 65536) × (offset < 65536) × (1 ≤ size) × (size < 65536) ⌝ }
-    ensures { λ r. ⌜ r ≡ within lo hi (pos (offset + k * size)) size ⌝ }
+// The element k + 1, of n bytes. A large k is told before it is multiplied.
+fn ahead(size: usize, offset: usize, n: usize, k: usize) -> Span
+    requires { ⌜ (size < 65536) × (offset < 65536) × (1 ≤ n) × (n < 65536) ⌝ }
+    ensures { λ r. ⌜ r ≡ within size (pos (offset + k * n)) n ⌝ }
 {
-    if hi < k {
+    if size < k {
         return Span::Outside;
     }
-    inside(lo, hi, offset + k * size, size)
+    inside(size, offset + k * n, n)
 }
 
-// The element that starts k sizes before the field. A large k is told before it is multiplied.
-fn before(lo: usize, hi: usize, offset: usize, size: usize, k: usize) -> Span
-    requires { ⌜ (offset < 65536) × (1 ≤ size) × (size < 65536) ⌝ }
-    ensures { λ r. ⌜ r ≡ within lo hi (pos offset -ℤ pos (k * size)) size ⌝ }
+// The element of n bytes that starts k elements before the field. A large k is told before it is multiplied.
+fn before(size: usize, offset: usize, n: usize, k: usize) -> Span
+    requires { ⌜ (offset < 65536) × (1 ≤ n) × (n < 65536) ⌝ }
+    ensures { λ r. ⌜ r ≡ within size (pos offset -ℤ pos (k * n)) n ⌝ }
 {
     if offset < k {
         return Span::Outside;
     }
-    let back = k * size;
+    let back = k * n;
     if offset < back {
         return Span::Outside;
     }
-    inside(lo, hi, offset - back, size)
+    inside(size, offset - back, n)
 }
 
-// The element s. One of no bytes is where the field starts, whatever s is.
-fn element_span(lo: usize, hi: usize, offset: usize, size: usize, s: i64) -> Span
-    requires { ⌜ (hi < 65536) × (offset < 65536) × (size < 65536) ⌝ }
+// The element s, of n bytes. One of no bytes is where the field starts, whatever s is.
+fn element_span(size: usize, offset: usize, n: usize, s: i64) -> Span
+    requires { ⌜ (size < 65536) × (offset < 65536) × (n < 65536) ⌝ }
     requires { ⌜ Val (10 ^ 18) s ⌝ }
-    ensures { λ r. ⌜ r ≡ elementSpan lo hi offset size s ⌝ }
+    ensures { λ r. ⌜ r ≡ elementSpan size offset n s ⌝ }
 {
-    if size == 0 {
-        return inside(lo, hi, offset, size);
+    if n == 0 {
+        return inside(size, offset, n);
     }
     let k = number::magnitude(s) as usize;
     if number::is_neg(s) {
-        return before(lo, hi, offset, size, k + 1);
+        return before(size, offset, n, k + 1);
     }
     if k == 0 {
-        return before(lo, hi, offset, size, 1);
+        return before(size, offset, n, 1);
     }
-    ahead(lo, hi, offset, size, k - 1)
+    ahead(size, offset, n, k - 1)
 }
 
 // The bytes from s to e.
-fn range_span(lo: usize, hi: usize, offset: usize, s: i64, e: i64) -> Span
+fn range_span(size: usize, offset: usize, s: i64, e: i64) -> Span
     requires { ⌜ offset < 65536 ⌝ }
     requires { ⌜ Val (10 ^ 18) s ⌝ }
     requires { ⌜ Val (10 ^ 18) e ⌝ }
-    ensures { λ r. ⌜ r ≡ rangeSpan lo hi offset s e ⌝ }
+    ensures { λ r. ⌜ r ≡ rangeSpan size offset s e ⌝ }
 {
     if number::is_neg(s) {
         return Span::Outside;
@@ -91,15 +88,15 @@ fn range_span(lo: usize, hi: usize, offset: usize, s: i64, e: i64) -> Span
     if b < a {
         return Span::Outside;
     }
-    inside(lo, hi, offset + (a - 1), b - a + 1)
+    inside(size, offset + (a - 1), b - a + 1)
 }
 
 // The n bytes from p on, or those that end at p where n is negative.
-fn length_span(lo: usize, hi: usize, offset: usize, p: i64, n: i64) -> Span
+fn length_span(size: usize, offset: usize, p: i64, n: i64) -> Span
     requires { ⌜ offset < 65536 ⌝ }
     requires { ⌜ Val (10 ^ 18) p ⌝ }
     requires { ⌜ Val (10 ^ 18) n ⌝ }
-    ensures { λ r. ⌜ r ≡ lengthSpan lo hi offset p n ⌝ }
+    ensures { λ r. ⌜ r ≡ lengthSpan size offset p n ⌝ }
 {
     if number::is_neg(p) {
         return Span::Outside;
@@ -116,31 +113,31 @@ fn length_span(lo: usize, hi: usize, offset: usize, p: i64, n: i64) -> Span
         if offset + a < k {
             return Span::Outside;
         }
-        return inside(lo, hi, offset + a - k, k);
+        return inside(size, offset + a - k, k);
     }
-    inside(lo, hi, offset + (a - 1), k)
+    inside(size, offset + (a - 1), k)
 }
 
-// The span of a reference without bounds, the field's first element, inside the window from lo up to hi.
-pub fn first_in(lo: usize, hi: usize, field: Field) -> Span
-    ensures { λ r. ⌜ r ≡ spanIn lo hi field how.First (pos 0) (pos 0) ⌝ }
+// The span of a reference without bounds, the field's first element, inside size bytes.
+pub fn first_span(size: usize, field: Field) -> Span
+    ensures { λ r. ⌜ r ≡ spanOf size field how.First (pos 0) (pos 0) ⌝ }
 {
-    inside(lo, hi, field.offset as usize, field.size as usize)
+    inside(size, field.offset as usize, field.size as usize)
 }
 
-// The span of a reference to a field with the bounds x and y, inside the window from lo up to hi.
-pub fn span_in(lo: usize, hi: usize, field: Field, how: How, x: i64, y: i64) -> Span
-    requires { ⌜ hi < 65536 ⌝ }
+// The span of a reference to a field with the bounds x and y, inside size bytes.
+pub fn span_of(size: usize, field: Field, how: How, x: i64, y: i64) -> Span
+    requires { ⌜ size < 65536 ⌝ }
     requires { ⌜ Val (10 ^ 18) x ⌝ }
     requires { ⌜ Val (10 ^ 18) y ⌝ }
-    ensures { λ r. ⌜ r ≡ spanIn lo hi field how x y ⌝ }
+    ensures { λ r. ⌜ r ≡ spanOf size field how x y ⌝ }
 {
     let offset = field.offset as usize;
-    let size = field.size as usize;
+    let n = field.size as usize;
     match how {
-        How::First => inside(lo, hi, offset, size),
-        How::Element => element_span(lo, hi, offset, size, x),
-        How::Range => range_span(lo, hi, offset, x, y),
-        How::Length => length_span(lo, hi, offset, x, y),
+        How::First => inside(size, offset, n),
+        How::Element => element_span(size, offset, n, x),
+        How::Range => range_span(size, offset, x, y),
+        How::Length => length_span(size, offset, x, y),
     }
 }

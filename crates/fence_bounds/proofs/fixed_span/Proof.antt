@@ -18,8 +18,8 @@ start-bound-requires c κs = search needs
 last-bound-requires : tie.Need-last-bound-requires
 last-bound-requires c κs = search needs
 
-span-in-requires : tie.Need-span-in-requires
-span-in-requires c κs = (search needs, (search small-start depth 3, search small-last depth 3))
+span-of-requires : tie.Need-span-of-requires
+span-of-requires c κs = (search needs, (search small-start depth 3, search small-last depth 3))
 
 returns : tie.Need-returns
 returns c = search fixed-found depth 3
@@ -32,5 +32,5 @@ fixed-span-spec =
     long-requires
     start-bound-requires
     last-bound-requires
-    span-in-requires
+    span-of-requires
     returns)

@@ -17,8 +17,8 @@ is-decimal-requires c κs = search needs
 long-requires : tie.Need-long-requires
 long-requires c κs = search needs
 
-span-in-requires : tie.Need-span-in-requires
-span-in-requires c κs = search needs
+span-of-requires : tie.Need-span-of-requires
+span-of-requires c κs = search needs
 
 enum-known-start : tie.Need-enum-known-start
 enum-known-start c = search needs
@@ -43,7 +43,7 @@ place-by-spec =
     field-requires
     is-decimal-requires
     long-requires
-    span-in-requires
+    span-of-requires
     enum-known-start
     place-at-requires
     enum-told

@@ -18,8 +18,8 @@ is-decimal-requires c κs = search needs
 long-requires : tie.Need-long-requires
 long-requires c κs = search needs
 
-first-in-requires : tie.Need-first-in-requires
-first-in-requires c κs = search needs
+first-span-requires : tie.Need-first-span-requires
+first-span-requires c κs = search needs
 
 enum-known-start : tie.Need-enum-known-start
 enum-known-start c = search needs
@@ -44,7 +44,7 @@ place-first-spec =
     field-requires
     is-decimal-requires
     long-requires
-    first-in-requires
+    first-span-requires
     enum-known-start
     place-at-requires
     enum-told

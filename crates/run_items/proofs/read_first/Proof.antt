@@ -18,8 +18,8 @@ is-decimal-requires c κs = search needs
 returns-2 : tie.Need-returns-2
 returns-2 c = search reference-alpha depth 3
 
-first-in-requires : tie.Need-first-in-requires
-first-in-requires c κs = search needs
+first-span-requires : tie.Need-first-span-requires
+first-span-requires c κs = search needs
 
 enum-known-start : tie.Need-enum-known-start
 enum-known-start c = search needs
@@ -44,7 +44,7 @@ read-first-spec =
     field-requires
     is-decimal-requires
     returns-2
-    first-in-requires
+    first-span-requires
     enum-known-start
     read-at-requires
     enum-told

@@ -17,8 +17,8 @@ is-decimal-requires c κs = search needs
 returns-2 : tie.Need-returns-2
 returns-2 c = search reference-alpha depth 3
 
-span-in-requires : tie.Need-span-in-requires
-span-in-requires c κs = search needs
+span-of-requires : tie.Need-span-of-requires
+span-of-requires c κs = search needs
 
 enum-known-start : tie.Need-enum-known-start
 enum-known-start c = search needs
@@ -43,7 +43,7 @@ read-reference-spec =
     field-requires
     is-decimal-requires
     returns-2
-    span-in-requires
+    span-of-requires
     enum-known-start
     read-at-requires
     enum-told

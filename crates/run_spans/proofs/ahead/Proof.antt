@@ -1,9 +1,9 @@
--- `run_spans::ahead` meets its contract: a count past the window's end is past it all the more when it is multiplied, and any other is small.
+-- `run_spans::ahead` meets its contract: a count past the size is past it all the more when it is multiplied, and any other is small.
 -- Assumes nothing.
 use Prim.Native.Nat.{_+_, _*_}
 use borrow.Author.Needs.{needs}
 use native.Mathlib.Omega.{arith}
-use Rattle.rules_run.proofs.Located.{high}
+use Rattle.rules_run.proofs.Located.{past}
 use Rattle.run_spans.proofs.Finding.{grows, product}
 use Rattle.run_spans.proofs.ahead.Statement.{statement}
 use Rattle.run_spans.proofs.ahead.Tie as tie
@@ -11,13 +11,13 @@ use Rattle.run_spans.proofs.ahead.Tie as tie
 returns : tie.Need-returns
 returns c =
     let s = c .before .args in
-    high (s .lo) (s .hi) (s .offset + s .k * s .size) (s .size) (omega (arith, grows (s .k) (s .size) (omega arith)))
+    past (s .size) (s .offset + s .k * s .n) (s .n) (omega (arith, grows (s .k) (s .n) (omega arith)))
 
 mul-inside : tie.Need-mul-inside
-mul-inside c = omega (arith, product (c .before .args .k) (c .before .args .size) (omega arith) (omega arith))
+mul-inside c = omega (arith, product (c .before .args .k) (c .before .args .n) (omega arith) (omega arith))
 
 add-inside : tie.Need-add-inside
-add-inside c = omega (arith, product (c .before .args .k) (c .before .args .size) (omega arith) (omega arith))
+add-inside c = omega (arith, product (c .before .args .k) (c .before .args .n) (omega arith) (omega arith))
 
 inside-requires : tie.Need-inside-requires
 inside-requires c κs = search needs

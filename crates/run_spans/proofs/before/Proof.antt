@@ -12,13 +12,13 @@ use Rattle.run_spans.proofs.before.Tie as tie
 returns : tie.Need-returns
 returns c =
     let s = c .before .args in
-    before (s .lo) (s .hi) (s .offset) (s .size) (s .k * s .size) (omega (arith, grows (s .k) (s .size) (omega arith)))
+    before (s .size) (s .offset) (s .n) (s .k * s .n) (omega (arith, grows (s .k) (s .n) (omega arith)))
 
 mul-back : tie.Need-mul-back
-mul-back c = omega (arith, product (c .before .args .k) (c .before .args .size) (omega arith) (omega arith))
+mul-back c = omega (arith, product (c .before .args .k) (c .before .args .n) (omega arith) (omega arith))
 
 returns-2 : tie.Need-returns-2
-returns-2 c = let s = c .before .before .args in before (s .lo) (s .hi) (s .offset) (s .size) (s .k * s .size) (omega arith)
+returns-2 c = let s = c .before .before .args in before (s .size) (s .offset) (s .n) (s .k * s .n) (omega arith)
 
 inside-requires : tie.Need-inside-requires
 inside-requires c κs = search needs
@@ -26,7 +26,7 @@ inside-requires c κs = search needs
 returns-3 : tie.Need-returns-3
 returns-3 c =
     let s = c .before .before .before .args in
-    c .inside .ensures ∙ after (s .lo) (s .hi) (s .offset) (s .size) (s .k * s .size) (omega arith)
+    c .inside .ensures ∙ after (s .size) (s .offset) (s .n) (s .k * s .n) (omega arith)
 
 pub before-spec : {M : Type 1} → statement M
 before-spec =

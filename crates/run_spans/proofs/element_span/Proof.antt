@@ -26,7 +26,7 @@ inside-requires c κs = search needs
 returns : tie.Need-returns
 returns c =
     let s = c .before .before .args in
-    c .inside .ensures ∙ element-none (s .lo) (s .hi) (s .offset) (s .size) (s .s) (c .before .if1 .taken)
+    c .inside .ensures ∙ element-none (s .size) (s .offset) (s .n) (s .s) (c .before .if1 .taken)
 
 magnitude-requires : tie.Need-magnitude-requires
 magnitude-requires c κs = omega (arith, again (c .before .pre .1) .small)
@@ -46,7 +46,7 @@ returns-2 : tie.Need-returns-2
 returns-2 c =
     let n = c .before .before in
     let s = entry n .args in
-    c .before2 .ensures ∙ element-down (s .lo) (s .hi) (s .offset) (s .size) (n .before .magnitude .result) (down (c .before))
+    c .before2 .ensures ∙ element-down (s .size) (s .offset) (s .n) (n .before .magnitude .result) (down (c .before))
 
 before-requires-2 : tie.Need-before-requires-2
 before-requires-2 c κs = search needs
@@ -55,7 +55,7 @@ returns-3 : tie.Need-returns-3
 returns-3 c =
     let p = c .before .before in
     let s = entry (p .before) .args in
-    c .before3 .ensures ∙ element-down (s .lo) (s .hi) (s .offset) (s .size) 0 (up p ∙ ap pos (c .before .if3 .taken))
+    c .before3 .ensures ∙ element-down (s .size) (s .offset) (s .n) 0 (up p ∙ ap pos (c .before .if3 .taken))
 
 sub-ahead : tie.Need-sub-ahead
 sub-ahead c = search needs
@@ -67,7 +67,7 @@ returns-4 : tie.Need-returns-4
 returns-4 c =
     let p = c .before .before in
     let s = entry (p .before) .args in
-    c .ahead .ensures ∙ element-up (s .lo) (s .hi) (s .offset) (s .size) (up p) (omega arith)
+    c .ahead .ensures ∙ element-up (s .size) (s .offset) (s .n) (up p) (omega arith)
 
 pub element-span-spec : {M : Type 1} → statement M
 element-span-spec =

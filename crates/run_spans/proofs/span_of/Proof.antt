@@ -1,16 +1,16 @@
--- `run_spans::span_in` meets its contract: each way of binding a reference has its own function, and the rule goes by the same four.
+-- `run_spans::span_of` meets its contract: each way of binding a reference has its own function, and the rule goes by the same four.
 -- Assumes nothing.
 use mathlib.Core.Path.{_∙_}
 use borrow.Author.Needs.{needs}
 use Rattle.run_spans.proofs.Finding.{span-whole, span-element, span-range, span-length}
-use Rattle.run_spans.proofs.span_in.Statement.{statement}
-use Rattle.run_spans.proofs.span_in.Tie as tie
+use Rattle.run_spans.proofs.span_of.Statement.{statement}
+use Rattle.run_spans.proofs.span_of.Tie as tie
 
 cast-offset : tie.Need-cast-offset
 cast-offset c = search needs
 
-cast-size : tie.Need-cast-size
-cast-size c = search needs
+cast-n : tie.Need-cast-n
+cast-n c = search needs
 
 enum-told : tie.Need-enum-told
 enum-told c = search needs
@@ -39,26 +39,26 @@ length-span-requires c κs = search needs
 returns : tie.Need-returns
 returns c =
     let s = c .before .before .before .before .before .args in
-    c .inside .ensures ∙ span-whole (s .lo) (s .hi) (s .field) (s .x) (s .y) (c .before .enum-told .given .1)
+    c .inside .ensures ∙ span-whole (s .size) (s .field) (s .x) (s .y) (c .before .enum-told .given .1)
 
 returns-2 : tie.Need-returns-2
 returns-2 c =
     let s = c .before .before .before .before .before .args in
     let f = c .before .before .before .before .before .fits in
-    c .element-span .ensures ∙ span-element (s .lo) (s .hi) (s .field) (s .x) (s .y) (c .before .enum-told2 .given .1) (f .x)
+    c .element-span .ensures ∙ span-element (s .size) (s .field) (s .x) (s .y) (c .before .enum-told2 .given .1) (f .x)
 
 returns-3 : tie.Need-returns-3
 returns-3 c =
     let s = c .before .before .before .before .before .args in
     let f = c .before .before .before .before .before .fits in
-    c .range-span .ensures ∙ span-range (s .lo) (s .hi) (s .field) (s .x) (s .y) (c .before .enum-told3 .given .1) (f .x) (f .y)
+    c .range-span .ensures ∙ span-range (s .size) (s .field) (s .x) (s .y) (c .before .enum-told3 .given .1) (f .x) (f .y)
 
 returns-4 : tie.Need-returns-4
 returns-4 c =
     let s = c .before .before .before .before .before .args in
     let f = c .before .before .before .before .before .fits in
-    c .length-span .ensures ∙ span-length (s .lo) (s .hi) (s .field) (s .x) (s .y) (c .before .enum-told4 .given .1) (f .x) (f .y)
+    c .length-span .ensures ∙ span-length (s .size) (s .field) (s .x) (s .y) (c .before .enum-told4 .given .1) (f .x) (f .y)
 
-pub span-in-spec : {M : Type 1} → statement M
-span-in-spec =
-    tie.close (tie.spec cast-offset cast-size enum-told inside-requires enum-told-2 element-span-requires enum-told-3 range-span-requires enum-told-4 length-span-requires returns returns-2 returns-3 returns-4)
+pub span-of-spec : {M : Type 1} → statement M
+span-of-spec =
+    tie.close (tie.spec cast-offset cast-n enum-told inside-requires enum-told-2 element-span-requires enum-told-3 range-span-requires enum-told-4 length-span-requires returns returns-2 returns-3 returns-4)
