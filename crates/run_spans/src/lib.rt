@@ -23,7 +23,7 @@ fn inside(size: usize, a: usize, n: usize) -> Span
 }
 
 // The element k + 1, of n bytes. A large k is told before it is multiplied.
-fn ahead(size: usize, offset: usize, n: usize, k: usize) -> Span
+fn forward(size: usize, offset: usize, n: usize, k: usize) -> Span
     requires { ⌜ (size < 65536) × (offset < 65536) × (1 ≤ n) × (n < 65536) ⌝ }
     ensures { λ r. ⌜ r ≡ within size (pos (offset + k * n)) n ⌝ }
 {
@@ -34,7 +34,7 @@ fn ahead(size: usize, offset: usize, n: usize, k: usize) -> Span
 }
 
 // The element of n bytes that starts k elements before the field. A large k is told before it is multiplied.
-fn before(size: usize, offset: usize, n: usize, k: usize) -> Span
+fn backward(size: usize, offset: usize, n: usize, k: usize) -> Span
     requires { ⌜ (offset < 65536) × (1 ≤ n) × (n < 65536) ⌝ }
     ensures { λ r. ⌜ r ≡ within size (pos offset -ℤ pos (k * n)) n ⌝ }
 {
@@ -59,12 +59,12 @@ fn element_span(size: usize, offset: usize, n: usize, s: i64) -> Span
     }
     let k = number::magnitude(s) as usize;
     if number::is_neg(s) {
-        return before(size, offset, n, k + 1);
+        return backward(size, offset, n, k + 1);
     }
     if k == 0 {
-        return before(size, offset, n, 1);
+        return backward(size, offset, n, 1);
     }
-    ahead(size, offset, n, k - 1)
+    forward(size, offset, n, k - 1)
 }
 
 // The bytes from s to e.

@@ -10,7 +10,7 @@ use Rattle.run_spans.proofs.Finding.{told, told-below}
 use Rattle.run_spans.proofs.element_span.Statement.{statement}
 use Rattle.run_spans.proofs.element_span.Tie as tie
 
--- the function's entry, and what the two calls tell of s; the calls of `before` are `before2` and `before3`
+-- the function's entry, and what the two calls tell of s
 abbrev entry : (c : tie.After-is-neg) → tie.Start
 entry c = c .before .before .before
 
@@ -34,41 +34,41 @@ magnitude-requires c κs = omega (arith, again (c .before .pre .1) .small)
 is-neg-requires : tie.Need-is-neg-requires
 is-neg-requires c κs = search needs
 
-add-before : tie.Need-add-before
-add-before c =
+add-backward : tie.Need-add-backward
+add-backward c =
     let n = c .before in
     omega (arith, told-below (entry n .pre .1) (n .before .magnitude .ensures))
 
-before-requires : tie.Need-before-requires
-before-requires c κs = search needs
+backward-requires : tie.Need-backward-requires
+backward-requires c κs = search needs
 
 returns-2 : tie.Need-returns-2
 returns-2 c =
     let n = c .before .before in
     let s = entry n .args in
-    c .before2 .ensures ∙ element-down (s .size) (s .offset) (s .n) (n .before .magnitude .result) (down (c .before))
+    c .backward .ensures ∙ element-down (s .size) (s .offset) (s .n) (n .before .magnitude .result) (down (c .before))
 
-before-requires-2 : tie.Need-before-requires-2
-before-requires-2 c κs = search needs
+backward-requires-2 : tie.Need-backward-requires-2
+backward-requires-2 c κs = search needs
 
 returns-3 : tie.Need-returns-3
 returns-3 c =
     let p = c .before .before in
     let s = entry (p .before) .args in
-    c .before3 .ensures ∙ element-down (s .size) (s .offset) (s .n) 0 (up p ∙ ap pos (c .before .if3 .taken))
+    c .backward2 .ensures ∙ element-down (s .size) (s .offset) (s .n) 0 (up p ∙ ap pos (c .before .if3 .taken))
 
-sub-ahead : tie.Need-sub-ahead
-sub-ahead c = search needs
+sub-forward : tie.Need-sub-forward
+sub-forward c = search needs
 
-ahead-requires : tie.Need-ahead-requires
-ahead-requires c κs = search needs
+forward-requires : tie.Need-forward-requires
+forward-requires c κs = search needs
 
 returns-4 : tie.Need-returns-4
 returns-4 c =
     let p = c .before .before in
     let s = entry (p .before) .args in
-    c .ahead .ensures ∙ element-up (s .size) (s .offset) (s .n) (up p) (omega arith)
+    c .forward .ensures ∙ element-up (s .size) (s .offset) (s .n) (up p) (omega arith)
 
 pub element-span-spec : {M : Type 1} → statement M
 element-span-spec =
-    tie.close (tie.spec inside-requires returns magnitude-requires is-neg-requires add-before before-requires returns-2 before-requires-2 returns-3 sub-ahead ahead-requires returns-4)
+    tie.close (tie.spec inside-requires returns magnitude-requires is-neg-requires add-backward backward-requires returns-2 backward-requires-2 returns-3 sub-forward forward-requires returns-4)

@@ -1,12 +1,12 @@
--- `run_spans::ahead` meets its contract: a count past the size is past it all the more when it is multiplied, and any other is small.
+-- `run_spans::forward` meets its contract: a count past the size is past it all the more when it is multiplied, and any other is small.
 -- Assumes nothing.
 use Prim.Native.Nat.{_+_, _*_}
 use borrow.Author.Needs.{needs}
 use native.Mathlib.Omega.{arith}
 use Rattle.rules_run.proofs.Located.{past}
 use Rattle.run_spans.proofs.Finding.{grows, product}
-use Rattle.run_spans.proofs.ahead.Statement.{statement}
-use Rattle.run_spans.proofs.ahead.Tie as tie
+use Rattle.run_spans.proofs.forward.Statement.{statement}
+use Rattle.run_spans.proofs.forward.Tie as tie
 
 returns : tie.Need-returns
 returns c =
@@ -25,6 +25,6 @@ inside-requires c κs = search needs
 returns-2 : tie.Need-returns-2
 returns-2 c = search needs
 
-pub ahead-spec : {M : Type 1} → statement M
-ahead-spec =
+pub forward-spec : {M : Type 1} → statement M
+forward-spec =
     tie.close (tie.spec returns mul-inside add-inside inside-requires returns-2)

@@ -1,4 +1,4 @@
--- `run_spans::before` meets its contract: a count past the offset is past it all the more when it is multiplied, and any other is small.
+-- `run_spans::backward` meets its contract: a count past the offset is past it all the more when it is multiplied, and any other is small.
 -- Assumes nothing.
 use Prim.Native.Nat.{_*_}
 use mathlib.Core.Path.{_∙_}
@@ -6,8 +6,8 @@ use borrow.Author.Needs.{needs}
 use native.Mathlib.Omega.{arith}
 use Rattle.rules_run.proofs.Located.{before, after}
 use Rattle.run_spans.proofs.Finding.{grows, product}
-use Rattle.run_spans.proofs.before.Statement.{statement}
-use Rattle.run_spans.proofs.before.Tie as tie
+use Rattle.run_spans.proofs.backward.Statement.{statement}
+use Rattle.run_spans.proofs.backward.Tie as tie
 
 returns : tie.Need-returns
 returns c =
@@ -28,6 +28,6 @@ returns-3 c =
     let s = c .before .before .before .args in
     c .inside .ensures ∙ after (s .size) (s .offset) (s .n) (s .k * s .n) (omega arith)
 
-pub before-spec : {M : Type 1} → statement M
-before-spec =
+pub backward-spec : {M : Type 1} → statement M
+backward-spec =
     tie.close (tie.spec returns mul-back returns-2 inside-requires returns-3)
