@@ -15,9 +15,9 @@ use Rattle.rules.proofs.Answers.{range-read}
 use Rattle.rules.proofs.Range.{of-range}
 use Rattle.rules.proofs.Signed.{again, pow-le18}
 
-module _ (limit base : ℕ) (few : limit ≤ 18) (s : List ℕ) (r : Num) (v : ℤ) (q : r ≡ readOf limit base s) (h : r ≡ Value v) where
+module _ (limit sign : ℕ) (few : limit ≤ 18) (s : List ℕ) (r : Num) (v : ℤ) (q : r ≡ readOf limit sign s) (h : r ≡ Value v) where
   read-own : Val (10 ^ limit) v
-  read-own = of-range (sym q ∙ h) (range-read limit base s)
+  read-own = of-range (sym q ∙ h) (range-read limit sign s)
 
   read-value : Val (10 ^ 18) (toZ w64 (ofZ w64 v))
   read-value = again {z = v} (record { small = omega (arith, read-own .small, pow-le18 {k = limit} (omega (arith, few))) })

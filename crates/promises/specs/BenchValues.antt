@@ -15,7 +15,7 @@ use Rattle.rules_unit.specs.Expressions.{digitsb}
 use Rattle.rules_run.specs.Spans.{within, rangeSpan, lengthSpan, spanOf}
 use Rattle.rules_run.specs.Evaluation.{digitsFrom, plainNumber, literalNumber, stepBy, placeBy, place, lastOf, workedFrom, workedOf, calc}
 use Rattle.rules_run.specs.Turns.{stored, applied, turnBy, turnOf}
-use Rattle.promises.specs.Rows.{number, text, stop, Row, _is_, AllHold, limit, top, base, bytes, minus, answer, into, image, AM, NZ, NUM, unit, expression, range, back, after}
+use Rattle.promises.specs.Rows.{number, text, stop, Row, _is_, AllHold, limit, top, sign, bytes, minus, answer, into, image, AM, NZ, NUM, unit, expression, range, back, after}
 
 abbrev pub rows : List Row
 rows =
@@ -28,9 +28,9 @@ rows =
     -- *NUM(10,11) is 21
     ∷ expression (range NUM 10 11) is stop 21
     -- *"2s" reads -23
-    ∷ answer (readOf limit base (bytes "2s")) is number (minus 23)
+    ∷ answer (readOf limit sign (bytes "2s")) is number (minus 23)
     -- *"q2" is 22
-    ∷ answer (readOf limit base (bytes "q2")) is stop 22
+    ∷ answer (readOf limit sign (bytes "q2")) is stop 22
     -- *1234 into D2 is "34"
     ∷ into 2 (Value (pos 1234)) is text (bytes "34")
     -- *-123 is "2s"

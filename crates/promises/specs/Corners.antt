@@ -30,7 +30,7 @@ use Rattle.rules_run.specs.Spans.{within, elementSpan, rangeSpan, lengthSpan, s
 use Rattle.rules_run.specs.Evaluation.{digitsFrom, plainNumber, literalNumber, reference, stepBy, placeBy, place, lastOf, workedFrom, workedOf, calc}
 use Rattle.rules_run.specs.States.{returnsb, soundb}
 use Rattle.rules_run.specs.Turns as turns
-use Rattle.promises.specs.Rows.{number, text, stop, Row, _is_, AllHold, limit, top, base, bytes, minus, answer, into, AM, NZ, NUM, expression, element, range, forth, back}
+use Rattle.promises.specs.Rows.{number, text, stop, Row, _is_, AllHold, limit, top, sign, bytes, minus, answer, into, AM, NZ, NUM, expression, element, range, forth, back}
 use Rattle.promises.specs.Samples.{named, cleared, read, of-one, of-two, wide, sound, parts}
 
 -- ---- values, moves and arithmetic
@@ -38,17 +38,17 @@ use Rattle.promises.specs.Samples.{named, cleared, read, of-one, of-two,
 abbrev pub corners : List Row
 corners =
     -- "a stored "0p" reads as 0"; p to y, and no further
-    answer (readOf limit base (bytes "0p")) is number (pos 0)
-    ∷ answer (readOf limit base (bytes "1p")) is number (minus 10)
-    ∷ answer (readOf limit base (bytes "y")) is number (minus 9)
-    ∷ answer (readOf limit base (bytes "z")) is stop 22
-    ∷ answer (readOf limit base (bytes "o")) is stop 22
-    ∷ answer (readOf limit base (bytes " 1")) is stop 22
-    ∷ answer (readOf limit base (bytes "1:")) is stop 22
+    answer (readOf limit sign (bytes "0p")) is number (pos 0)
+    ∷ answer (readOf limit sign (bytes "1p")) is number (minus 10)
+    ∷ answer (readOf limit sign (bytes "y")) is number (minus 9)
+    ∷ answer (readOf limit sign (bytes "z")) is stop 22
+    ∷ answer (readOf limit sign (bytes "o")) is stop 22
+    ∷ answer (readOf limit sign (bytes " 1")) is stop 22
+    ∷ answer (readOf limit sign (bytes "1:")) is stop 22
     -- "A decimal span of more than 18 characters then gives 20"
-    ∷ answer (readOf limit base (bytes "000000000000000001")) is number (pos 1)
-    ∷ answer (readOf limit base (bytes "000000000000000000q")) is stop 20
-    ∷ answer (readOf limit base (bytes "x000000000000000000")) is stop 20
+    ∷ answer (readOf limit sign (bytes "000000000000000001")) is number (pos 1)
+    ∷ answer (readOf limit sign (bytes "000000000000000000q")) is stop 20
+    ∷ answer (readOf limit sign (bytes "x000000000000000000")) is stop 20
     -- "zeros in front"; "The sign stays if the digits kept are not all 0."
     ∷ into 3 (Value (pos 7)) is text (bytes "007")
     ∷ into 2 (Value (minus 110)) is text (bytes "1p")

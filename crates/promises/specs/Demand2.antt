@@ -109,10 +109,10 @@ pub kept-20 : (top : ℕ) (z : ℤ) → (kept top z ≡ Failed fault.TooLong) �
 kept-20 = causes.kept-20
 
 -- "A decimal span of more than 18 characters then gives 20, and on reading, an invalid character 22."
-pub read-20 : (limit base : ℕ) (s : List ℕ) → (readOf limit base s ≡ Failed fault.TooLong) ↔ limit < length s
+pub read-20 : (limit sign : ℕ) (s : List ℕ) → (readOf limit sign s ≡ Failed fault.TooLong) ↔ limit < length s
 read-20 = causes.read-20
 
-pub read-22 : (limit base : ℕ) (s : List ℕ) → (readOf limit base s ≡ Failed fault.BadDigit) ↔ (length s ≤ limit) × (Valid limit base s → ⊥)
+pub read-22 : (limit sign : ℕ) (s : List ℕ) → (readOf limit sign s ≡ Failed fault.BadDigit) ↔ (length s ≤ limit) × (Valid limit sign s → ⊥)
 read-22 = causes.read-22
 
 -- "23 | zero divisor"

@@ -69,8 +69,8 @@ limit = 18
 abbrev pub top : ℕ
 top = 10 ^ limit
 
-abbrev pub base : ℕ
-base = 112
+abbrev pub sign : ℕ
+sign = 112
 
 -- The bytes of a quoted text.
 abbrev pub bytes : string.String → List ℕ
@@ -87,7 +87,7 @@ answer (Failed f) = stop (faultNumber f)
 
 -- What a decimal of n characters then holds.
 abbrev pub into : ℕ → Num → Answer
-into n (Value z) = text (written base n z)
+into n (Value z) = text (written sign n z)
 into n (Failed f) = stop (faultNumber f)
 
 -- The numbers 0 to 30, as literals of two digits.
@@ -117,7 +117,7 @@ back f at len = num at ∷ (num len ∷ (item.Operator op.Negate ∷ (item.Refer
 abbrev pub unitOver : ℕ → ℕ → (ℕ → Field) → (ℕ → List Item) → Code
 unitOver len n fields expressions = record {
   limit = limit;
-  base = base;
+  sign = sign;
   top = top;
   size = len;
   fields = n;

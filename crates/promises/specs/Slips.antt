@@ -26,7 +26,7 @@ use Rattle.rules_run.specs.Runs.{movedBy, runFrom, runChecked, runOf}
 use Rattle.rules_fence.specs.declared.Verdict.the-variants.{Yes, No}
 use Rattle.rules_fence.specs.Bounds.{fixedSpan}
 use Rattle.rules_fence.specs.Breaches.{elementBreach, apartFrom, alphaBreach, referenceBreach, breachFrom, usesBreach, breachOf, verdictFrom, fenceOf, breachNumber, breachIn}
-use Rattle.promises.specs.Rows.{limit, base, bytes}
+use Rattle.promises.specs.Rows.{limit, sign, bytes}
 use Rattle.promises.specs.Samples.{seats, fares, refund, smear, leaves, stops}
 
 pub record Slips : Type 0 where
@@ -41,17 +41,17 @@ pub record Slips : Type 0 where
   pub whole-record-rule : breachNumber (breachIn (fares 0) 0) ≡ 6
   pub whole-record-run : leaves 6 (fares 0) ≡ bytes "12SMEG"
   pub whole-record-stop : stops 6 (fares 0) ≡ 0
-  pub whole-record-fare : validb limit base (take 3 (leaves 6 (fares 0))) ≡ false
+  pub whole-record-fare : validb limit sign (take 3 (leaves 6 (fares 0))) ≡ false
   pub name-alone : fenceOf (fares 4) ≡ Yes
   -- A sign letter stands inside the fare; the statement 0 stops mid-element.
   pub mid-field : fenceOf (refund "12") ≡ No 0
   pub mid-field-rule : breachNumber (breachIn (refund "12") 0) ≡ 5
   pub mid-field-run : leaves 4 (refund "12") ≡ bytes "0u00"
   pub mid-field-stop : stops 4 (refund "12") ≡ 0
-  pub mid-field-fare : validb limit base (leaves 4 (refund "12")) ≡ false
+  pub mid-field-fare : validb limit sign (leaves 4 (refund "12")) ≡ false
   pub field-end : fenceOf (refund "34") ≡ Yes
   pub field-end-run : leaves 4 (refund "34") ≡ bytes "000u"
-  pub field-end-fare : validb limit base (leaves 4 (refund "34")) ≡ true
+  pub field-end-fare : validb limit sign (leaves 4 (refund "34")) ≡ true
   -- The letters move one to the right, and the first is not smeared along the rest; both parts lie in their field.
   pub no-smear : fenceOf smear ≡ Yes
   pub no-smear-run : leaves 13 smear ≡ bytes "aabcdeghijklm"

@@ -34,24 +34,24 @@ module _ (limit : ℕ) where
       record { small = rw (abs-signed t (acc * 10 + d)) (lt-of-lt-of-le (more-digits acc i d h l) (pow-le-pow-right (lit< tt) {i = i + 1} {j = limit} (omega arith))) }
 
   -- The rest of a decimal after the i digits of acc.
-  range-from : (base acc i b : ℕ) (bs : List ℕ) → acc < 10 ^ i → i + length bs < limit → InRange (10 ^ limit) (readFrom base acc b bs)
+  range-from : (sign acc i b : ℕ) (bs : List ℕ) → acc < 10 ^ i → i + length bs < limit → InRange (10 ^ limit) (readFrom sign acc b bs)
   unfolding readFrom
-  range-from base acc i b [] h k =
-      range-cond (10 ^ limit) (isFrom 48 b) (Value (pos (acc * 10 + (b - 48)))) (cond (isFrom base b) (Value (signed true (acc * 10 + (b - base)))) (Failed fault.BadDigit))
+  range-from sign acc i b [] h k =
+      range-cond (10 ^ limit) (isFrom 48 b) (Value (pos (acc * 10 + (b - 48)))) (cond (isFrom sign b) (Value (signed true (acc * 10 + (b - sign)))) (Failed fault.BadDigit))
       (λ e. one-val false acc i (b - 48) h (omega arith) (from-digit 48 b e))
-      (λ n. range-cond (10 ^ limit) (isFrom base b) (Value (signed true (acc * 10 + (b - base)))) (Failed fault.BadDigit) (λ e. one-val true acc i (b - base) h (omega arith) (from-digit base b e)) (λ e. tt))
-  range-from base acc i b (x ∷ xs) h k =
-      range-cond (10 ^ limit) (isFrom 48 b) (readFrom base (acc * 10 + (b - 48)) x xs) (Failed fault.BadDigit)
-      (λ e. range-from base (acc * 10 + (b - 48)) (i + 1) x xs (more-digits acc i (b - 48) h (from-digit 48 b e)) (omega arith))
+      (λ n. range-cond (10 ^ limit) (isFrom sign b) (Value (signed true (acc * 10 + (b - sign)))) (Failed fault.BadDigit) (λ e. one-val true acc i (b - sign) h (omega arith) (from-digit sign b e)) (λ e. tt))
+  range-from sign acc i b (x ∷ xs) h k =
+      range-cond (10 ^ limit) (isFrom 48 b) (readFrom sign (acc * 10 + (b - 48)) x xs) (Failed fault.BadDigit)
+      (λ e. range-from sign (acc * 10 + (b - 48)) (i + 1) x xs (more-digits acc i (b - 48) h (from-digit 48 b e)) (omega arith))
       (λ e. tt)
 
 -- For any digit limit: the bound is 10 to the limit.
-pub range-read : (limit base : ℕ) (s : List ℕ) → InRange (10 ^ limit) (readOf limit base s)
+pub range-read : (limit sign : ℕ) (s : List ℕ) → InRange (10 ^ limit) (readOf limit sign s)
 unfolding readOf
-range-read limit base [] = tt
-range-read limit base (b ∷ bs) =
-    range-cond (10 ^ limit) (ltb limit (length (b ∷ bs))) (Failed fault.TooLong) (readFrom base 0 b bs) (λ e. tt)
-    (λ e. range-from limit base 0 0 b bs (lit< tt) (omega (arith, ltb-false limit (suc (length bs)) e)))
+range-read limit sign [] = tt
+range-read limit sign (b ∷ bs) =
+    range-cond (10 ^ limit) (ltb limit (length (b ∷ bs))) (Failed fault.TooLong) (readFrom sign 0 b bs) (λ e. tt)
+    (λ e. range-from limit sign 0 0 b bs (lit< tt) (omega (arith, ltb-false limit (suc (length bs)) e)))
 
 -- ---- alpha to number
 

@@ -63,18 +63,18 @@ round-26 v (negsuc k) = (λ q n e h. other n e, λ none. refl)
 -- ---- decimals
 
 -- A character that is none ends the reading, with 22 and nothing else.
-from-22 : (base acc b : ℕ) (bs : List ℕ) (f : Fault) → readFrom base acc b bs ≡ Failed f → f ≡ fault.BadDigit
+from-22 : (sign acc b : ℕ) (bs : List ℕ) (f : Fault) → readFrom sign acc b bs ≡ Failed f → f ≡ fault.BadDigit
 unfolding readFrom
-from-22 base acc b [] f = by (isFrom 48 b) (isFrom base b)
+from-22 sign acc b [] f = by (isFrom 48 b) (isFrom sign b)
   where
-    by : (t u : Bool) → cond t (Value (pos (acc * 10 + (b - 48)))) (cond u (Value (signed true (acc * 10 + (b - base)))) (Failed fault.BadDigit)) ≡ Failed f → f ≡ fault.BadDigit
+    by : (t u : Bool) → cond t (Value (pos (acc * 10 + (b - 48)))) (cond u (Value (signed true (acc * 10 + (b - sign)))) (Failed fault.BadDigit)) ≡ Failed f → f ≡ fault.BadDigit
     by true u q = absurd (not-failed (pos (acc * 10 + (b - 48))) f q)
-    by false true q = absurd (not-failed (signed true (acc * 10 + (b - base))) f q)
+    by false true q = absurd (not-failed (signed true (acc * 10 + (b - sign))) f q)
     by false false q = cc
-from-22 base acc b (x ∷ xs) f = by (isFrom 48 b) (from-22 base (acc * 10 + (b - 48)) x xs f)
+from-22 sign acc b (x ∷ xs) f = by (isFrom 48 b) (from-22 sign (acc * 10 + (b - 48)) x xs f)
   where
-    by : (t : Bool) → (readFrom base (acc * 10 + (b - 48)) x xs ≡ Failed f → f ≡ fault.BadDigit)
-        → cond t (readFrom base (acc * 10 + (b - 48)) x xs) (Failed fault.BadDigit) ≡ Failed f
+    by : (t : Bool) → (readFrom sign (acc * 10 + (b - 48)) x xs ≡ Failed f → f ≡ fault.BadDigit)
+        → cond t (readFrom sign (acc * 10 + (b - 48)) x xs) (Failed fault.BadDigit) ≡ Failed f
         → f ≡ fault.BadDigit
     by true rest q = rest q
     by false rest q = cc
@@ -85,28 +85,28 @@ not-same e = let z : _≡_ {A = ℕ} 0 1 = cc in omega arith
 failed-same : (f g : Fault) → Failed f ≡ Failed g → f ≡ g
 failed-same f g e = cc
 
-module _ (limit base : ℕ) where
-  pub read-20 : (s : List ℕ) → (readOf limit base s ≡ Failed fault.TooLong) ↔ limit < length s
+module _ (limit sign : ℕ) where
+  pub read-20 : (s : List ℕ) → (readOf limit sign s ≡ Failed fault.TooLong) ↔ limit < length s
   unfolding readOf
   read-20 [] = (λ q. absurd (not-same (failed-same fault.BadDigit fault.TooLong q)), λ h. absurd (omega (arith, h)))
   read-20 (b ∷ bs) = (by (ltb limit (length (b ∷ bs))) refl, λ h. rw (lt-ltb limit (length (b ∷ bs)) h))
     where
-      by : (t : Bool) → ltb limit (length (b ∷ bs)) ≡ t → cond t (Failed fault.TooLong) (readFrom base 0 b bs) ≡ Failed fault.TooLong → limit < length (b ∷ bs)
+      by : (t : Bool) → ltb limit (length (b ∷ bs)) ≡ t → cond t (Failed fault.TooLong) (readFrom sign 0 b bs) ≡ Failed fault.TooLong → limit < length (b ∷ bs)
       by true e q = ltb-true limit (length (b ∷ bs)) e
-      by false e q = absurd (not-same (sym (from-22 base 0 b bs fault.TooLong q)))
+      by false e q = absurd (not-same (sym (from-22 sign 0 b bs fault.TooLong q)))
 
-  short-22 : (s : List ℕ) (f : Fault) → length s ≤ limit → readOf limit base s ≡ Failed f → f ≡ fault.BadDigit
+  short-22 : (s : List ℕ) (f : Fault) → length s ≤ limit → readOf limit sign s ≡ Failed f → f ≡ fault.BadDigit
   unfolding readOf
   short-22 [] f h q = cc
-  short-22 (b ∷ bs) f h q = from-22 base 0 b bs f (rw (le-ltb limit (length (b ∷ bs)) h) at q)
+  short-22 (b ∷ bs) f h q = from-22 sign 0 b bs f (rw (le-ltb limit (length (b ∷ bs)) h) at q)
 
-  pub read-22 : (s : List ℕ) → (readOf limit base s ≡ Failed fault.BadDigit) ↔ (length s ≤ limit) × (Valid limit base s → ⊥)
-  read-22 s = (λ q. (by q (ltb limit (length s)) refl, λ v. let w = valid-reads v in not-failed (w .0) fault.BadDigit (sym (w .1) ∙ q)), λ h. of (readOf limit base s) refl h)
+  pub read-22 : (s : List ℕ) → (readOf limit sign s ≡ Failed fault.BadDigit) ↔ (length s ≤ limit) × (Valid limit sign s → ⊥)
+  read-22 s = (λ q. (by q (ltb limit (length s)) refl, λ v. let w = valid-reads v in not-failed (w .0) fault.BadDigit (sym (w .1) ∙ q)), λ h. of (readOf limit sign s) refl h)
     where
-      by : readOf limit base s ≡ Failed fault.BadDigit → (t : Bool) → ltb limit (length s) ≡ t → length s ≤ limit
+      by : readOf limit sign s ≡ Failed fault.BadDigit → (t : Bool) → ltb limit (length s) ≡ t → length s ≤ limit
       by q true e = absurd (not-same (failed-same fault.BadDigit fault.TooLong (sym q ∙ read-20 s .1 (ltb-true limit (length s) e))))
       by q false e = ltb-false limit (length s) e
 
-      of : (r : Num) → readOf limit base s ≡ r → (length s ≤ limit) × (Valid limit base s → ⊥) → r ≡ Failed fault.BadDigit
+      of : (r : Num) → readOf limit sign s ≡ r → (length s ≤ limit) × (Valid limit sign s → ⊥) → r ≡ Failed fault.BadDigit
       of (Value v) q h = absurd (h .1 (reads-valid q))
       of (Failed f) q h = let e = short-22 s f (h .0) q in rw e

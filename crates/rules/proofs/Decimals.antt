@@ -29,8 +29,8 @@ unfolding placed
 length-placed f zero = refl
 length-placed f (suc n) = ap suc (length-placed f n)
 
-pub length-written : (base n : ℕ) (v : ℤ) → length (written base n v) ≡ n
-length-written base n v = length-placed (digitAt (cond (isNeg v && ltb 0 (natAbs v % 10 ^ n)) base 48) (natAbs v)) n
+pub length-written : (sign n : ℕ) (v : ℤ) → length (written sign n v) ≡ n
+length-written sign n v = length-placed (digitAt (cond (isNeg v && ltb 0 (natAbs v % 10 ^ n)) sign 48) (natAbs v)) n
 
 pub length-shown : (n : ℕ) (v : ℤ) → length (shown n v) ≡ n
 length-shown n v = length-placed (shownAt (isNeg v) (natAbs v) (width (natAbs v))) n
@@ -97,12 +97,12 @@ sign-kept false x = refl
 sign-kept true zero = refl
 sign-kept true (suc x) = rw (lt-ltb 0 (suc x) (omega arith))
 
-module _ {base : ℕ} (letters : Letters base) where
-  read-one : (t : Bool) (acc d : ℕ) → d < 10 → lastOf base acc (cond t base 48 + d) ≡ Value (signed t (acc * 10 + d))
-  read-one true acc d h = simp (from-high 48 (base + d) (omega (arith, letters .above)), from-yes base (base + d) (omega arith) (omega arith), add-sub-cancel-left)
+module _ {sign : ℕ} (letters : Letters sign) where
+  read-one : (t : Bool) (acc d : ℕ) → d < 10 → lastOf sign acc (cond t sign 48 + d) ≡ Value (signed t (acc * 10 + d))
+  read-one true acc d h = simp (from-high 48 (sign + d) (omega (arith, letters .above)), from-yes sign (sign + d) (omega arith) (omega arith), add-sub-cancel-left)
   read-one false acc d h = simp (from-yes 48 (48 + d) (omega arith) (omega arith), add-sub-cancel-left)
 
-  read-digits : (t : Bool) (k m acc : ℕ) → readFrom base acc (zeroAt (cond t base 48) k + m / 10 ^ k % 10) (placed (digitAt (cond t base 48) m) k) ≡ Value (signed t (acc * 10 ^ suc k + m % 10 ^ suc k))
+  read-digits : (t : Bool) (k m acc : ℕ) → readFrom sign acc (zeroAt (cond t sign 48) k + m / 10 ^ k % 10) (placed (digitAt (cond t sign 48) m) k) ≡ Value (signed t (acc * 10 ^ suc k + m % 10 ^ suc k))
   unfolding readFrom placed
   read-digits t zero m acc = read-one t acc (m / 1 % 10) (mod-lt (m / 1) (lit< tt)) ∙ rw (div-one m)
   read-digits t (suc k) m acc =
@@ -112,23 +112,23 @@ module _ {base : ℕ} (letters : Letters base) where
       (read-digits t k m (acc * 10 + d) ∙ ap (λ (x : ℕ). Value (signed t x)) (next-digit acc m (suc k)))
 
   -- A number that was written reads as its last n digits, with its sign.
-  pub read-written : (limit n : ℕ) (v : ℤ) → 1 ≤ n → n ≤ limit → readOf limit base (written base n v) ≡ Value (signed (isNeg v) (natAbs v % 10 ^ n))
+  pub read-written : (limit n : ℕ) (v : ℤ) → 1 ≤ n → n ≤ limit → readOf limit sign (written sign n v) ≡ Value (signed (isNeg v) (natAbs v % 10 ^ n))
   unfolding readOf placed
   read-written limit zero v h l = absurd (omega arith)
   read-written limit (suc k) v h l =
       let m = natAbs v in
       let x = m % 10 ^ suc k in
       let t = isNeg v && ltb 0 x in
-      rw (length-placed (digitAt (cond t base 48) m) k, le-ltb limit (suc k) l)
+      rw (length-placed (digitAt (cond t sign 48) m) k, le-ltb limit (suc k) l)
       (read-digits t k m 0 ∙ ap (λ (y : ℕ). Value (signed t y)) (omega arith) ∙ ap Value (sign-kept (isNeg v) x))
 
   -- So what is written is valid.
-  pub written-valid : (limit n : ℕ) (v : ℤ) → 1 ≤ n → n ≤ limit → Valid limit base (written base n v)
+  pub written-valid : (limit n : ℕ) (v : ℤ) → 1 ≤ n → n ≤ limit → Valid limit sign (written sign n v)
   written-valid limit n v h l = reads-valid (read-written limit n v h l)
 
 -- And so is what CLEAR writes.
-pub zeros-valid : (limit base n : ℕ) → 1 ≤ n → n ≤ limit → Valid limit base (zeros n)
-zeros-valid limit base n h l =
+pub zeros-valid : (limit sign n : ℕ) → 1 ≤ n → n ≤ limit → Valid limit sign (zeros n)
+zeros-valid limit sign n h l =
     record {
       some = omega (arith, length-zeros n);
       most = omega (arith, length-zeros n);

@@ -13,8 +13,8 @@ use borrow.Author.Tests.{ltb-true, ltb-false, eqb-true, eqb-false}
 use Rattle.rules.specs.Values.{isFrom, Valid}
 
 -- A part that is not empty is a decimal of its own.
-pub part-valid : {limit base : ℕ} {s : List ℕ} (a n : ℕ) → Valid limit base s → 1 ≤ n → a + n ≤ length s → Valid limit base (take n (drop a s))
-part-valid {limit} {base} {s} a n v h k =
+pub part-valid : {limit sign : ℕ} {s : List ℕ} (a n : ℕ) → Valid limit sign s → 1 ≤ n → a + n ≤ length s → Valid limit sign (take n (drop a s))
+part-valid {limit} {sign} {s} a n v h k =
     record {
       some = omega (arith, len);
       most = omega (arith, len, v .most);
@@ -28,13 +28,13 @@ part-valid {limit} {base} {s} a n v h k =
     at : (j : ℕ) → j < n → getD (take n (drop a s)) j 0 ≡ getD s (a + j) 0
     at j l = getD-take n (drop a s) j 0 l ∙ getD-drop a s j 0
 
-    by : (t : Bool) → eqb (a + n) (length s) ≡ t → (isFrom 48 (getD s (a + (n - 1)) 0) ≡ true) ⊎ (isFrom base (getD s (a + (n - 1)) 0) ≡ true)
+    by : (t : Bool) → eqb (a + n) (length s) ≡ t → (isFrom 48 (getD s (a + (n - 1)) 0) ≡ true) ⊎ (isFrom sign (getD s (a + (n - 1)) 0) ≡ true)
     by true e = let q : a + (n - 1) ≡ length s - 1 = omega (arith, eqb-true (a + n) (length s) e) in rw q (v .last)
     by false e = let q = eqb-false (a + n) (length s) e in inl (v .digits (a + (n - 1)) (omega arith))
 
 -- A valid tail written over the end of a valid decimal leaves it valid.
-pub keep-valid : {limit base : ℕ} {s new : List ℕ} (i : ℕ) → Valid limit base s → Valid limit base new → i + length new ≡ length s → Valid limit base (take i s ++ new)
-keep-valid {limit} {base} {s} {new} i v w h =
+pub keep-valid : {limit sign : ℕ} {s new : List ℕ} (i : ℕ) → Valid limit sign s → Valid limit sign new → i + length new ≡ length s → Valid limit sign (take i s ++ new)
+keep-valid {limit} {sign} {s} {new} i v w h =
     record {
       some = omega (arith, len, v .some);
       most = omega (arith, len, v .most);

@@ -1,6 +1,6 @@
 -- What the moves write (document 01, "Moves and arithmetic").
 --   placed f n            n characters, each by its place counted from the right
---   written base n v      number to decimal
+--   written sign n v      number to decimal
 --   width m, shown n v    how many digits m has; number to alpha
 --   alphaOf top s         alpha to number
 --   fitted n s            alpha to alpha
@@ -27,7 +27,7 @@ unfoldable pub placed : (ℕ → ℕ) → ℕ → List ℕ
 placed f zero = []
 placed f (suc k) = f k ∷ placed f k
 
--- The character for 0 at the place k: the sign letter's base z stands at the last place only.
+-- The character for 0 at the place k: the first sign letter z stands at the last place only.
 abbrev pub zeroAt : ℕ → ℕ → ℕ
 zeroAt z zero = z
 zeroAt z (suc k) = 48
@@ -37,7 +37,7 @@ digitAt z m k = zeroAt z k + m / 10 ^ k % 10
 
 -- "right-justified, zeros in front, high digits dropped silently. The sign stays if the digits kept are not all 0."
 abbrev pub written : ℕ → ℕ → ℤ → List ℕ
-written base n v = placed (digitAt (cond (isNeg v && ltb 0 (natAbs v % 10 ^ n)) base 48) (natAbs v)) n
+written sign n v = placed (digitAt (cond (isNeg v && ltb 0 (natAbs v % 10 ^ n)) sign 48) (natAbs v)) n
 
 -- ---- number to alpha
 

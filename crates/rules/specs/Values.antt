@@ -1,11 +1,11 @@
 -- Values and decimals (document 01, "Values and references").
 --   Val top z               z is in the range of values
---   Top top, Limit limit, Letters base    what is asked of a dialect's numbers
+--   Top top, Limit limit, Letters sign    what is asked of a dialect's numbers
 --   signed t m, isNeg z     a number from its sign and its magnitude, and its sign
 --   isFrom z b              b is one of the ten characters from z on
---   validb limit base s     s is a valid decimal, as a test; Valid says the same with quantifiers
---   readOf limit base s     what a decimal reads as
--- A dialect is a digit limit, the first magnitude `top` that has more digits (10 to the limit), and the character `base` that stands for a
+--   validb limit sign s     s is a valid decimal, as a test; Valid says the same with quantifiers
+--   readOf limit sign s     what a decimal reads as
+-- A dialect is a digit limit, the first magnitude `top` that has more digits (10 to the limit), and the character `sign` that stands for a
 -- last digit 0 with a minus. Document 01's own dialect is 18, 10 ^ 18 and 112 ('p'). 48 is '0'.
 -- Assumes nothing.
 use mathlib.Core.Path.{_≡_}
@@ -35,9 +35,9 @@ pub record Limit (limit : ℕ) : Type 0 where
   pub most : limit ≤ 18
 
 -- The ten sign letters stand above the digits, and all are bytes.
-pub record Letters (base : ℕ) : Type 0 where
-  pub above : 58 ≤ base
-  pub bytes : base + 10 ≤ 256
+pub record Letters (sign : ℕ) : Type 0 where
+  pub above : 58 ≤ sign
+  pub bytes : sign + 10 ≤ 256
 
 -- The magnitude m, with a minus where the flag says so; minus zero is 0.
 abbrev pub signed : Bool → ℕ → ℤ
@@ -54,35 +54,35 @@ isFrom z b = leb z b && ltb b (z + 10)
 
 -- "all but the last are 0 to 9 and the last is 0 to 9, or p to y": the character b and those after it
 unfoldable pub validFrom : ℕ → ℕ → List ℕ → Bool
-validFrom base b [] = isFrom 48 b || isFrom base b
-validFrom base b (x ∷ xs) = let rest = validFrom base x xs in isFrom 48 b && rest
+validFrom sign b [] = isFrom 48 b || isFrom sign b
+validFrom sign b (x ∷ xs) = let rest = validFrom sign x xs in isFrom 48 b && rest
 
 -- "A decimal of 1 to 18 characters is valid when .."
 unfoldable pub validb : ℕ → ℕ → List ℕ → Bool
-validb limit base [] = false
-validb limit base (b ∷ bs) = let rest = validFrom base b bs in leb (length (b ∷ bs)) limit && rest
+validb limit sign [] = false
+validb limit sign (b ∷ bs) = let rest = validFrom sign b bs in leb (length (b ∷ bs)) limit && rest
 
 -- The same sentence with quantifiers: j goes over all characters but the last.
-pub record Valid (limit base : ℕ) (s : List ℕ) : Type 0 where
+pub record Valid (limit sign : ℕ) (s : List ℕ) : Type 0 where
   pub some : 1 ≤ length s
   pub most : length s ≤ limit
   pub digits : (j : ℕ) → j + 1 < length s → isFrom 48 (getD s j 0) ≡ true
-  pub last : (isFrom 48 (getD s (length s - 1) 0) ≡ true) ⊎ (isFrom base (getD s (length s - 1) 0) ≡ true)
+  pub last : (isFrom 48 (getD s (length s - 1) 0) ≡ true) ⊎ (isFrom sign (getD s (length s - 1) 0) ≡ true)
 
 -- The last character b, after the digits of acc: "p to y for a negative number ending in 0 to 9"; "a stored "0p" reads as 0".
 abbrev pub lastOf : ℕ → ℕ → ℕ → Num
-lastOf base acc b =
+lastOf sign acc b =
     cond (isFrom 48 b) (Value (pos (acc * 10 + (b - 48))))
-    (cond (isFrom base b) (Value (signed true (acc * 10 + (b - base)))) (Failed fault.BadDigit))
+    (cond (isFrom sign b) (Value (signed true (acc * 10 + (b - sign)))) (Failed fault.BadDigit))
 
 -- The character b and those after it, after the digits of acc.
 unfoldable pub readFrom : ℕ → ℕ → ℕ → List ℕ → Num
-readFrom base acc b [] = lastOf base acc b
-readFrom base acc b (x ∷ xs) =
-    let more = readFrom base (acc * 10 + (b - 48)) x xs in cond (isFrom 48 b) more (Failed fault.BadDigit)
+readFrom sign acc b [] = lastOf sign acc b
+readFrom sign acc b (x ∷ xs) =
+    let more = readFrom sign (acc * 10 + (b - 48)) x xs in cond (isFrom 48 b) more (Failed fault.BadDigit)
 
 -- "A decimal span of more than 18 characters then gives 20, and on reading, an invalid character 22." No characters are no decimal.
 unfoldable pub readOf : ℕ → ℕ → List ℕ → Num
-readOf limit base [] = Failed fault.BadDigit
-readOf limit base (b ∷ bs) =
-    let number = readFrom base 0 b bs in cond (ltb limit (length (b ∷ bs))) (Failed fault.TooLong) number
+readOf limit sign [] = Failed fault.BadDigit
+readOf limit sign (b ∷ bs) =
+    let number = readFrom sign 0 b bs in cond (ltb limit (length (b ∷ bs))) (Failed fault.TooLong) number

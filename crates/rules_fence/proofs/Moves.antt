@@ -47,7 +47,7 @@ MildFlow M (flow.Bad e) = MildFault M e
 
 pub data Aimed (c : Code) (d : List ℕ) (span : Span) (w : Write) : Type 0 where
   still : w ≡ write.Nothing → Aimed c d span w
-  aims : (decimal : Bool) → PlaceOk c true span decimal (startOf w) (lenOf w) → (decimal ≡ true → Valid (c .limit) (c .base) (newOf c d w)) → Aimed c d span w
+  aims : (decimal : Bool) → PlaceOk c true span decimal (startOf w) (lenOf w) → (decimal ≡ true → Valid (c .limit) (c .sign) (newOf c d w)) → Aimed c d span w
 
 pub record TurnOk (c : Code) (d : List ℕ) (span : Span) (M : Type 0) (t : Turn) : Type 0 where
   pub aimed : Aimed c d span (t .write)
@@ -77,7 +77,7 @@ module _ (c : Code) (d : List ℕ) (span : Span) (M : Type 0) where
   counted-mild true (Failed e) m = m
   counted-mild false (Failed e) m = m
 
-  module _ (s : SoundCode c) (letters : Letters (c .base)) (e : length d ≡ c .size) (v : AllValid c d) where
+  module _ (s : SoundCode c) (letters : Letters (c .sign)) (e : length d ≡ c .size) (v : AllValid c d) where
     short : {a n : ℕ} → PlaceOk c true span true a n → n ≤ c .limit
     short k = span-short c s (k .known) (k .kind) (k .fenced)
 
@@ -108,7 +108,7 @@ module _ (c : Code) (d : List ℕ) (span : Span) (M : Type 0) where
     source-ok kind sp decimal a n k (worked.Failed x) q o m = failed-ok x (mild-plain M x o)
 
     pub clear-ok : (decimal : Bool) (a n : ℕ) → PlaceOk c true span decimal a n → TurnOk c d span M (clearAt decimal a n)
-    clear-ok true a n k = record { aimed = aims true k (λ t. zeros-valid (c .limit) (c .base) n (k .some) (short k)); mild = tt }
+    clear-ok true a n k = record { aimed = aims true k (λ t. zeros-valid (c .limit) (c .sign) n (k .some) (short k)); mild = tt }
     clear-ok false a n k = alpha-store (write.Clear a n false) k
 
     pub count-ok : (up decimal : Bool) (a n : ℕ) → PlaceOk c true span decimal a n → TurnOk c d span M (countAt c d up decimal a n)

@@ -56,7 +56,7 @@ aimOf c s = aimBy c (rowOf (verbOf (s .code))) s
 decimal-place : (k : Sort) (decimal : Bool) → k ≡ placeSort decimal → decimal ≡ true → k ≡ sort.Decimal
 decimal-place k decimal q t = q ∙ ap placeSort t
 
-module _ (c : Code) (s : SoundCode c) (letters : Letters (c .base)) (d : List ℕ) (e : length d ≡ c .size) (v : AllValid c d) where
+module _ (c : Code) (s : SoundCode c) (letters : Letters (c .sign)) (d : List ℕ) (e : length d ≡ c .size) (v : AllValid c d) where
   fenced : (dest : Bool) (a : ℕ) → ExprFenced c dest (c .items a) → WorkedOk c dest (placeSpan c (c .items a)) (workedOf c d (c .items a))
   fenced dest a r = worked-ok c d s e v dest (c .items a) (expr-to c dest (c .items a) r)
 

@@ -81,7 +81,7 @@ pub record InPlaceA (c : Code) (b : ℕ) : Type 0 where
 -- "whose decimal elements are all valid"
 pub record AllValid (c : Code) (d : List ℕ) : Type 0 where
   pub valid : (f k : ℕ) → f < c .fields → decimalb c f ≡ true → k < countOf c f
-      → Valid (c .limit) (c .base) (take (sizeOf c f) (drop (elementAt c f k) d))
+      → Valid (c .limit) (c .sign) (take (sizeOf c f) (drop (elementAt c f k) d))
 
 -- ---- alpha text to a decimal place
 

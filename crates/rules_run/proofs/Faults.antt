@@ -60,21 +60,21 @@ module _ (p : Fault → Bool) where
   calc-passes a b e top op.Or x y = refl
   calc-passes a b e top op.Xor x y = refl
 
-  from-passes : p fault.BadDigit ≡ true → (base acc b : ℕ) (bs : List ℕ) → passes p (readFrom base acc b bs) ≡ true
+  from-passes : p fault.BadDigit ≡ true → (sign acc b : ℕ) (bs : List ℕ) → passes p (readFrom sign acc b bs) ≡ true
   unfolding readFrom
-  from-passes h base acc b [] =
+  from-passes h sign acc b [] =
       pass-cond (isFrom 48 b) (Value (pos (acc * 10 + (b - 48)))) _ refl
-      (pass-cond (isFrom base b) (Value (signed true (acc * 10 + (b - base)))) (Failed fault.BadDigit) refl h)
-  from-passes h base acc b (x ∷ xs) =
-      pass-cond (isFrom 48 b) (readFrom base (acc * 10 + (b - 48)) x xs) (Failed fault.BadDigit) (from-passes h base (acc * 10 + (b - 48)) x xs) h
+      (pass-cond (isFrom sign b) (Value (signed true (acc * 10 + (b - sign)))) (Failed fault.BadDigit) refl h)
+  from-passes h sign acc b (x ∷ xs) =
+      pass-cond (isFrom 48 b) (readFrom sign (acc * 10 + (b - 48)) x xs) (Failed fault.BadDigit) (from-passes h sign (acc * 10 + (b - 48)) x xs) h
 
   module _ (long : p fault.TooLong ≡ true) (bad : p fault.BadDigit ≡ true) where
     -- What reading a decimal answers.
-    pub read-passes : (limit base : ℕ) (s : List ℕ) → passes p (readOf limit base s) ≡ true
+    pub read-passes : (limit sign : ℕ) (s : List ℕ) → passes p (readOf limit sign s) ≡ true
     unfolding readOf
-    read-passes limit base [] = bad
-    read-passes limit base (b ∷ bs) =
-        pass-cond (ltb limit (suc (length bs))) (Failed fault.TooLong) (readFrom base 0 b bs) long (from-passes bad base 0 b bs)
+    read-passes limit sign [] = bad
+    read-passes limit sign (b ∷ bs) =
+        pass-cond (ltb limit (suc (length bs))) (Failed fault.TooLong) (readFrom sign 0 b bs) long (from-passes bad sign 0 b bs)
 
     after-passes : (top : ℕ) (minus : Bool) (acc : ℕ) (s : List ℕ) → passes p (alphaFrom top minus acc s) ≡ true
     unfolding alphaFrom

@@ -54,7 +54,7 @@ module _ (c : Code) where
       rw (a .0, b .0, e .0, e .1)
 
   span-formed : (d : List ℕ) (s : Span) → passes formedb (readSpan c d s) ≡ true
-  span-formed d (At a n) = read-passes formedb refl refl (c .limit) (c .base) (take n (drop a d))
+  span-formed d (At a n) = read-passes formedb refl refl (c .limit) (c .sign) (take n (drop a d))
   span-formed d Outside = refl
 
   pub item-formed : (d : List ℕ) (i : Item) (x y : ℤ) → itemb c i ≡ true → goesOn (sortOf c i) ≡ true → passes formedb (apply c d i x y) ≡ true

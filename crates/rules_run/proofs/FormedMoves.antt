@@ -70,7 +70,7 @@ formed-choose i n (negsuc v) = refl
 
 module _ (c : Code) (d : List ℕ) where
   pub read-formed : (a n : ℕ) → passes formedb (readAt c d a n) ≡ true
-  read-formed a n = read-passes formedb refl refl (c .limit) (c .base) (take n (drop a d))
+  read-formed a n = read-passes formedb refl refl (c .limit) (c .sign) (take n (drop a d))
 
   alpha-formed : (s : List ℕ) → passes formedb (alphaOf (c .top) s) ≡ true
   alpha-formed s = alpha-passes formedb refl refl (c .top) s

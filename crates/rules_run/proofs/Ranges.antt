@@ -90,7 +90,7 @@ module _ (c : Code) (d : List ℕ) (bound : ℕ) (truths : 1 < bound) (sums : c 
       (λ _. tt)) (λ _. tt)) (λ _. tt)
 
   pub read-range : (a n : ℕ) → InRange bound (readAt c d a n)
-  read-range a n = range-up digits (readAt c d a n) (range-read (c .limit) (c .base) (take n (drop a d)))
+  read-range a n = range-up digits (readAt c d a n) (range-read (c .limit) (c .sign) (take n (drop a d)))
 
   span-range : (s : Span) → InRange bound (readSpan c d s)
   span-range (At a n) = read-range a n

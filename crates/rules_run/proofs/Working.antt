@@ -52,7 +52,7 @@ works-cond false x y f g = g
 
 module _ (c : Code) (d : List ℕ) where
   pub read-works : (a n : ℕ) → passes workb (readAt c d a n) ≡ true
-  read-works a n = read-passes workb refl refl (c .limit) (c .base) (take n (drop a d))
+  read-works a n = read-passes workb refl refl (c .limit) (c .sign) (take n (drop a d))
 
   pub alpha-works : (s : List ℕ) → passes workb (alphaOf (c .top) s) ≡ true
   alpha-works s = alpha-passes workb refl refl (c .top) s

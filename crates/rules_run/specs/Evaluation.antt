@@ -74,7 +74,7 @@ literalNumber c place len =
     (Failed fault.Malformed)) (Failed fault.Malformed)
 
 abbrev pub readAt : Code → List ℕ → ℕ → ℕ → Num
-readAt c d a n = readOf (c .limit) (c .base) (take n (drop a d))
+readAt c d a n = readOf (c .limit) (c .sign) (take n (drop a d))
 
 abbrev pub readSpan : Code → List ℕ → Span → Num
 readSpan c d (At a n) = readAt c d a n

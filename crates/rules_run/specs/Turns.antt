@@ -49,7 +49,7 @@ cleared false n = blanks n
 -- "The result is as if the source had been copied away first": the new characters are made of the data as it was.
 unfoldable pub applied : Code → List ℕ → Write → List ℕ
 applied c d write.Nothing = d
-applied c d (write.Number a n v) = stored d a (written (c .base) n v)
+applied c d (write.Number a n v) = stored d a (written (c .sign) n v)
 applied c d (write.Show a n v) = stored d a (shown n v)
 applied c d (write.Move a n from k) = stored d a (fitted n (take k (drop from d)))
 applied c d (write.Literal a n place k) = stored d a (fitted n (take k (drop place (c .literals))))

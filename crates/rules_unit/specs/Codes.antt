@@ -16,7 +16,7 @@ use Rattle.rules_unit.specs.declared.Statement.{Statement}
 pub record Code : Type 0 where
   -- the dialect: digits, sign letters, bound
   pub limit : ℕ
-  pub base : ℕ
+  pub sign : ℕ
   pub top : ℕ
   -- the data's length
   pub size : ℕ

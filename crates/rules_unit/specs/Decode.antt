@@ -169,7 +169,7 @@ statementAt u at =
 abbrev pub codeOf : List ℕ → Parts → Code
 codeOf u p = record {
   limit = p .digits;
-  base = p .sign;
+  sign = p .sign;
   top = p .top;
   size = p .d;
   fields = p .f;

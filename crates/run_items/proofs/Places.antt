@@ -31,8 +31,8 @@ use Rattle.rules_run.specs.Evaluation.{readSpan, reference, asPlace, placeBy}
 use Rattle.rules_run.proofs.Located as located
 
 -- The part of the data that the reader is handed.
-pub read-part : (limit base l b a n : ℕ) (d : List ℕ) (r : Num) → l ≡ limit → b ≡ base → r ≡ readOf l b (take (a + n - a) (drop a d)) → r ≡ readOf limit base (take n (drop a d))
-read-part limit base l b a n d r e f q = rw (e, f, add-sub-cancel-left a n) at q
+pub read-part : (limit sign l b a n : ℕ) (d : List ℕ) (r : Num) → l ≡ limit → b ≡ sign → r ≡ readOf l b (take (a + n - a) (drop a d)) → r ≡ readOf limit sign (take n (drop a d))
+read-part limit sign l b a n d r e f q = rw (e, f, add-sub-cancel-left a n) at q
 
 -- "it must stay inside the D bytes"
 pub found-inside : (size : ℕ) (entry : Field) (h : How) (x y : ℤ) (s : Span) (a n : ℕ) → s ≡ spanOf size entry h x y → s ≡ At a n → a + n ≤ size

@@ -41,10 +41,10 @@ module _ (d : List ℕ) (a n : ℕ) (room : a + n ≤ length d) where
   made : (ys : List ℕ) (f : ℕ → List ℕ) → length (f n) ≡ n → ys ≡ f (length (take (a + n - a) (drop a d))) → putMid a (a + n - a) d ys ≡ stored d a (f n)
   made ys f l e = put-back ys (f n) l (e ∙ ap f lent-length)
 
-  pub part-written : (ys : List ℕ) (base : ℕ) {v : ℤ} → SFits w64 v → ys ≡ written base (length (take (a + n - a) (drop a d))) (toZ w64 (ofZ w64 v))
-      → putMid a (a + n - a) d ys ≡ stored d a (written base n v)
-  part-written ys base {v} f e =
-      made ys (λ k. written base k v) (length-written base n v) (e ∙ ap (written base (length (take (a + n - a) (drop a d)))) (back f))
+  pub part-written : (ys : List ℕ) (sign : ℕ) {v : ℤ} → SFits w64 v → ys ≡ written sign (length (take (a + n - a) (drop a d))) (toZ w64 (ofZ w64 v))
+      → putMid a (a + n - a) d ys ≡ stored d a (written sign n v)
+  part-written ys sign {v} f e =
+      made ys (λ k. written sign k v) (length-written sign n v) (e ∙ ap (written sign (length (take (a + n - a) (drop a d)))) (back f))
 
   pub part-shown : (ys : List ℕ) {v : ℤ} → SFits w64 v → ys ≡ shown (length (take (a + n - a) (drop a d))) (toZ w64 (ofZ w64 v))
       → putMid a (a + n - a) d ys ≡ stored d a (shown n v)

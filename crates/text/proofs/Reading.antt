@@ -15,20 +15,20 @@ use Rattle.rules.specs.Values.{isFrom, lastOf, readFrom, readOf}
 
 -- ---- before the loop
 
-pub read-empty : (limit base : ℕ) (s : List ℕ) → length s ≡ 0 → readOf limit base s ≡ Failed fault.BadDigit
+pub read-empty : (limit sign : ℕ) (s : List ℕ) → length s ≡ 0 → readOf limit sign s ≡ Failed fault.BadDigit
 unfolding readOf
-read-empty limit base [] e = refl
-read-empty limit base (b ∷ bs) e = absurd (omega arith)
+read-empty limit sign [] e = refl
+read-empty limit sign (b ∷ bs) e = absurd (omega arith)
 
-pub read-long : (limit base : ℕ) (s : List ℕ) → limit < length s → readOf limit base s ≡ Failed fault.TooLong
+pub read-long : (limit sign : ℕ) (s : List ℕ) → limit < length s → readOf limit sign s ≡ Failed fault.TooLong
 unfolding readOf
-read-long limit base [] h = absurd (omega arith)
-read-long limit base (b ∷ bs) h = simp (lt-ltb limit (suc (length bs)) h)
+read-long limit sign [] h = absurd (omega arith)
+read-long limit sign (b ∷ bs) h = simp (lt-ltb limit (suc (length bs)) h)
 
-pub read-start : (limit base : ℕ) (s : List ℕ) → (length s ≡ 0 → ⊥) → length s ≤ limit → readOf limit base s ≡ readFrom base 0 (getD s 0 0) (drop 1 s)
+pub read-start : (limit sign : ℕ) (s : List ℕ) → (length s ≡ 0 → ⊥) → length s ≤ limit → readOf limit sign s ≡ readFrom sign 0 (getD s 0 0) (drop 1 s)
 unfolding readOf
-read-start limit base [] n h = absurd (n refl)
-read-start limit base (b ∷ bs) n h = simp (le-ltb limit (suc (length bs)) h)
+read-start limit sign [] n h = absurd (n refl)
+read-start limit sign (b ∷ bs) n h = simp (le-ltb limit (suc (length bs)) h)
 
 -- ---- one character
 
@@ -36,15 +36,15 @@ read-start limit base (b ∷ bs) n h = simp (le-ltb limit (suc (length bs)) h)
 pub drop-next : (s : List ℕ) (j : ℕ) → j < length s → drop j s ≡ getD s j 0 ∷ drop (j + 1) s
 drop-next s j h = drop-cons s j 0 h ∙ ap (λ (n : ℕ). getD s j 0 ∷ drop n s) (sym (add-one j))
 
-module _ (base acc : ℕ) (s : List ℕ) (i : ℕ) where
-  pub read-bad : i + 1 < length s → isFrom 48 (getD s i 0) ≡ false → readFrom base acc (getD s i 0) (drop (i + 1) s) ≡ Failed fault.BadDigit
+module _ (sign acc : ℕ) (s : List ℕ) (i : ℕ) where
+  pub read-bad : i + 1 < length s → isFrom 48 (getD s i 0) ≡ false → readFrom sign acc (getD s i 0) (drop (i + 1) s) ≡ Failed fault.BadDigit
   unfolding readFrom
   read-bad h e = rw (drop-next s (i + 1) h) (simp e)
 
-  pub read-more : i + 1 < length s → isFrom 48 (getD s i 0) ≡ true → readFrom base acc (getD s i 0) (drop (i + 1) s) ≡ readFrom base (acc * 10 + (getD s i 0 - 48)) (getD s (i + 1) 0) (drop (i + 1 + 1) s)
+  pub read-more : i + 1 < length s → isFrom 48 (getD s i 0) ≡ true → readFrom sign acc (getD s i 0) (drop (i + 1) s) ≡ readFrom sign (acc * 10 + (getD s i 0 - 48)) (getD s (i + 1) 0) (drop (i + 1 + 1) s)
   unfolding readFrom
   read-more h e = rw (drop-next s (i + 1) h) (simp e)
 
-  pub read-last : length s ≤ i + 1 → readFrom base acc (getD s i 0) (drop (i + 1) s) ≡ lastOf base acc (getD s i 0)
+  pub read-last : length s ≤ i + 1 → readFrom sign acc (getD s i 0) (drop (i + 1) s) ≡ lastOf sign acc (getD s i 0)
   unfolding readFrom
   read-last h = rw (drop-of-length-le s h)

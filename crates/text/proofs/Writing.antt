@@ -73,14 +73,14 @@ pub some-room : (n m : ℕ) → 0 < m % 10 ^ n → 1 ≤ n
 some-room zero m h = omega (arith, mod-lt m {m = 1} (lit< tt))
 some-room (suc n) m h = omega arith
 
-pub written-minus : (base n : ℕ) (v : ℤ) → isNeg v ≡ true → 0 < natAbs v % 10 ^ n → written base n v ≡ placed (digitAt base (natAbs v)) n
-written-minus base n v e h = simp (e, lt-ltb 0 (natAbs v % 10 ^ n) h)
+pub written-minus : (sign n : ℕ) (v : ℤ) → isNeg v ≡ true → 0 < natAbs v % 10 ^ n → written sign n v ≡ placed (digitAt sign (natAbs v)) n
+written-minus sign n v e h = simp (e, lt-ltb 0 (natAbs v % 10 ^ n) h)
 
-pub written-zero : (base n : ℕ) (v : ℤ) → isNeg v ≡ true → natAbs v % 10 ^ n ≤ 0 → written base n v ≡ placed (digitAt 48 (natAbs v)) n
-written-zero base n v e h = simp (e, le-ltb 0 (natAbs v % 10 ^ n) h)
+pub written-zero : (sign n : ℕ) (v : ℤ) → isNeg v ≡ true → natAbs v % 10 ^ n ≤ 0 → written sign n v ≡ placed (digitAt 48 (natAbs v)) n
+written-zero sign n v e h = simp (e, le-ltb 0 (natAbs v % 10 ^ n) h)
 
-pub written-plain : (base n : ℕ) (v : ℤ) → isNeg v ≡ false → written base n v ≡ placed (digitAt 48 (natAbs v)) n
-written-plain base n v e = simp e
+pub written-plain : (sign n : ℕ) (v : ℤ) → isNeg v ≡ false → written sign n v ≡ placed (digitAt 48 (natAbs v)) n
+written-plain sign n v e = simp e
 
 -- ---- the width: with w digits tried, 18 - w are still to be tried
 

@@ -16,10 +16,10 @@ fn wide(x: u8) -> u64
 }
 
 // The number of a decimal whose last character is b, after the digits of acc; 22 where b is neither a digit nor a sign letter.
-fn last(base: u64, acc: u64, b: u64) -> Num
-    requires { ⌜ Letters base ⌝ }
+fn last(sign: u64, acc: u64, b: u64) -> Num
+    requires { ⌜ Letters sign ⌝ }
     requires { ⌜ acc < 10 ^ 17 ⌝ }
-    ensures { λ r. ⌜ r ≡ lastOf base acc b ⌝ }
+    ensures { λ r. ⌜ r ≡ lastOf sign acc b ⌝ }
 {
     if b < 48 {
         return Num::Failed(Fault::BadDigit);
@@ -27,20 +27,20 @@ fn last(base: u64, acc: u64, b: u64) -> Num
     if b < 58 {
         return Num::Value(number::with_sign(false, acc * 10 + (b - 48)));
     }
-    if b < base {
+    if b < sign {
         return Num::Failed(Fault::BadDigit);
     }
-    if b < base + 10 {
-        return Num::Value(number::with_sign(true, acc * 10 + (b - base)));
+    if b < sign + 10 {
+        return Num::Value(number::with_sign(true, acc * 10 + (b - sign)));
     }
     Num::Failed(Fault::BadDigit)
 }
 
 // Reads a decimal: 20 where it is longer than limit, 22 where it is not valid.
-pub fn read(limit: usize, base: u64, s: &[u8]) -> Num
+pub fn read(limit: usize, sign: u64, s: &[u8]) -> Num
     requires { ⌜ Limit limit ⌝ }
-    requires { ⌜ Letters base ⌝ }
-    ensures { λ r. ⌜ r ≡ readOf limit base (now (s .entry)) ⌝ }
+    requires { ⌜ Letters sign ⌝ }
+    ensures { λ r. ⌜ r ≡ readOf limit sign (now (s .entry)) ⌝ }
 {
     let n = s.len();
     if n == 0 {
@@ -63,7 +63,7 @@ pub fn read(limit: usize, base: u64, s: &[u8]) -> Num
         acc = acc * 10 + (b - 48);
         i += 1;
     }
-    last(base, acc, wide(s[end]))
+    last(sign, acc, wide(s[end]))
 }
 
 // The last digits of m, as many as there is room for, from the right.
@@ -80,18 +80,18 @@ fn put_digits(s: &mut [u8], m: u64)
 }
 
 // Writes a number as a decimal.
-pub fn write(base: u8, s: &mut [u8], v: i64)
-    requires { ⌜ Letters base ⌝ }
+pub fn write(sign: u8, s: &mut [u8], v: i64)
+    requires { ⌜ Letters sign ⌝ }
     requires { ⌜ length (now s) ≤ 18 ⌝ }
     requires { ⌜ Val (10 ^ 18) v ⌝ }
-    ensures { λ _. ⌜ now (s .exit) ≡ written base (length (now (s .entry))) v ⌝ }
+    ensures { λ _. ⌜ now (s .exit) ≡ written sign (length (now (s .entry))) v ⌝ }
 {
     let n = s.len();
     let m = number::magnitude(v);
     put_digits(s, m);
     if number::is_neg(v) {
         if 0 < m % number::power(n) {
-            s[n - 1] = base + (m % 10) as u8;
+            s[n - 1] = sign + (m % 10) as u8;
         }
     }
 }

@@ -12,7 +12,7 @@ use Rattle.text.proofs.last.Tie as tie
 returns : tie.Need-returns
 returns c =
     let a = c .before .args in
-    simp (from-low 48 (a .b) (omega arith), from-low (a .base) (a .b) (omega (arith, c .before .pre .0 .above)))
+    simp (from-low 48 (a .b) (omega arith), from-low (a .sign) (a .b) (omega (arith, c .before .pre .0 .above)))
 
 mul-with-sign : tie.Need-mul-with-sign
 mul-with-sign c = search needs
@@ -31,7 +31,7 @@ returns-2 c =
 returns-3 : tie.Need-returns-3
 returns-3 c =
     let a = c .before .before .before .args in
-    simp (from-high 48 (a .b) (omega arith), from-low (a .base) (a .b) (omega arith))
+    simp (from-high 48 (a .b) (omega arith), from-low (a .sign) (a .b) (omega arith))
 
 add-if4 : tie.Need-add-if4
 add-if4 c = search needs
@@ -48,13 +48,13 @@ with-sign-requires-2 c κs = search needs
 returns-4 : tie.Need-returns-4
 returns-4 c =
     let a = c .before .before .before .before .before .args in
-    rw (from-high 48 (a .b) (omega arith), from-yes (a .base) (a .b) (omega arith) (omega arith))
+    rw (from-high 48 (a .b) (omega arith), from-yes (a .sign) (a .b) (omega arith) (omega arith))
     (ap Value (back (record { sfits = c .with-sign2 .ok }) ∙ c .with-sign2 .ensures))
 
 returns-5 : tie.Need-returns-5
 returns-5 c =
     let a = c .before .before .before .before .args in
-    simp (from-high 48 (a .b) (omega arith), from-high (a .base) (a .b) (omega arith))
+    simp (from-high 48 (a .b) (omega arith), from-high (a .sign) (a .b) (omega arith))
 
 pub last-spec : {M : Type 1} → statement M
 last-spec = tie.close (tie.spec returns mul-with-sign add-with-sign with-sign-requires returns-2 returns-3 add-if4 mul-with-sign-2 add-with-sign-2 with-sign-requires-2 returns-4 returns-5)

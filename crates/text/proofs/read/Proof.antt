@@ -16,17 +16,17 @@ use Rattle.text.proofs.read.Statement.{statement}
 use Rattle.text.proofs.read.Tie as tie
 
 abbrev Inv-loop : tie.InvT-loop
-Inv-loop limit base s n end acc₀ i₀ acc i =
-    (i ≤ end) × (acc < 10 ^ i) × (readOf limit base s ≡ readFrom base acc (getD s i 0) (drop (i + 1) s))
+Inv-loop limit sign s n end acc₀ i₀ acc i =
+    (i ≤ end) × (acc < 10 ^ i) × (readOf limit sign s ≡ readFrom sign acc (getD s i 0) (drop (i + 1) s))
 
 abbrev μ-loop : tie.MeasureT-loop
-μ-loop limit base s n end acc₀ i₀ acc i = end - i
+μ-loop limit sign s n end acc₀ i₀ acc i = end - i
 
 returns : tie.Need-returns Inv-loop μ-loop
-returns c = let a = c .before .before .args in sym (read-empty (a .limit) (a .base) (a .s .now) (c .if1 .taken))
+returns c = let a = c .before .before .args in sym (read-empty (a .limit) (a .sign) (a .s .now) (c .if1 .taken))
 
 returns-2 : tie.Need-returns-2 Inv-loop μ-loop
-returns-2 c = let a = c .before .before .before .args in sym (read-long (a .limit) (a .base) (a .s .now) (c .if2 .taken))
+returns-2 c = let a = c .before .before .before .args in sym (read-long (a .limit) (a .sign) (a .s .now) (c .if2 .taken))
 
 sub-end : tie.Need-sub-end Inv-loop μ-loop
 sub-end c = omega arith
@@ -34,7 +34,7 @@ sub-end c = omega arith
 loop-holds : tie.Need-loop-holds Inv-loop μ-loop
 loop-holds c =
     let a = c .before .before .before .args in
-    (omega arith, lit< tt, read-start (a .limit) (a .base) (a .s .now) (c .before .if1 .left) (c .if2 .left))
+    (omega arith, lit< tt, read-start (a .limit) (a .sign) (a .s .now) (c .before .if1 .left) (c .if2 .left))
 
 shared-slice-read-wide : tie.Need-shared-slice-read-wide Inv-loop μ-loop
 shared-slice-read-wide c = omega arith
@@ -46,13 +46,13 @@ returns-3 : tie.Need-returns-3 Inv-loop μ-loop
 returns-3 c =
     let l = c .before .before .before .before in
     let a = l .before .before .before .before .args in
-    sym (l .loop .inv .2 ∙ read-bad (a .base) (l .loop .acc) (a .s .now) (l .loop .i) (omega arith) (from-low 48 _ (rw (c .before .wide .ensures) at (c .if3 .taken))))
+    sym (l .loop .inv .2 ∙ read-bad (a .sign) (l .loop .acc) (a .s .now) (l .loop .i) (omega arith) (from-low 48 _ (rw (c .before .wide .ensures) at (c .if3 .taken))))
 
 returns-4 : tie.Need-returns-4 Inv-loop μ-loop
 returns-4 c =
     let l = c .before .before .before .before .before in
     let a = l .before .before .before .before .args in
-    sym (l .loop .inv .2 ∙ read-bad (a .base) (l .loop .acc) (a .s .now) (l .loop .i) (omega arith) (from-high 48 _ (rw (c .before .before .wide .ensures) at (c .if4 .taken))))
+    sym (l .loop .inv .2 ∙ read-bad (a .sign) (l .loop .acc) (a .s .now) (l .loop .i) (omega arith) (from-high 48 _ (rw (c .before .before .wide .ensures) at (c .if4 .taken))))
 
 small : (c : tie.At-loop Inv-loop μ-loop) → c .loop .acc < 10 ^ 17
 small c = lt-of-lt-of-le (c .loop .inv .1) (pow-le-pow-right (lit< tt) {i = c .loop .i} {j = 17} (omega arith))
@@ -75,7 +75,7 @@ loop-again c =
     let a = l .before .before .before .before .args in
     let b : c .before .before .wide .result ≡ getD (a .s .now) (l .loop .i) 0 = c .before .before .wide .ensures in
     rw b
-    (omega arith, more-digits _ _ _ (l .loop .inv .1) (omega arith), l .loop .inv .2 ∙ read-more (a .base) (l .loop .acc) (a .s .now) (l .loop .i) (omega arith) (from-yes 48 (getD (a .s .now) (l .loop .i) 0) (omega arith) (omega arith)))
+    (omega arith, more-digits _ _ _ (l .loop .inv .1) (omega arith), l .loop .inv .2 ∙ read-more (a .sign) (l .loop .acc) (a .s .now) (l .loop .i) (omega arith) (from-yes 48 (getD (a .s .now) (l .loop .i) 0) (omega arith) (omega arith)))
 
 shared-slice-read-wide-2 : tie.Need-shared-slice-read-wide-2 Inv-loop μ-loop
 shared-slice-read-wide-2 c = omega arith
@@ -92,8 +92,8 @@ returns-5 c =
     let a = l .before .before .before .before .args in
     let e : length (a .s .now) - 1 ≡ l .loop .i = omega arith in
     let b : c .before .wide2 .result ≡ getD (a .s .now) (l .loop .i) 0 = c .before .wide2 .ensures ∙ ap (λ k. getD (a .s .now) k 0) e in
-    c .last .ensures ∙ ap (lastOf (a .base) (l .loop .acc)) b
-    ∙ sym (l .loop .inv .2 ∙ read-last (a .base) (l .loop .acc) (a .s .now) (l .loop .i) (omega arith))
+    c .last .ensures ∙ ap (lastOf (a .sign) (l .loop .acc)) b
+    ∙ sym (l .loop .inv .2 ∙ read-last (a .sign) (l .loop .acc) (a .s .now) (l .loop .i) (omega arith))
 
 pub read-spec : {M : Type 1} → statement M
 read-spec = tie.close (tie.spec Inv-loop μ-loop returns returns-2 sub-end loop-holds shared-slice-read-wide wide-requires returns-3 returns-4 mul-acc add-acc add-i loop-less loop-again shared-slice-read-wide-2 wide-requires-2 last-requires returns-5)

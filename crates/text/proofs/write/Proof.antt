@@ -65,8 +65,8 @@ returns c =
     let a = p .before .before .before .before .args in
     let kept = rw (c .before .power .ensures) at (c .if2 .taken) in
     rw (s-is p, m)
-    (sign-set (a .base) (length (a .s .now)) (natAbs (a .v)) (room c)
-    ∙ sym (written-minus (a .base) (length (a .s .now)) (a .v) (sym (neg-is k) ∙ c .before .before .if1 .taken) (rw (sym m) kept)))
+    (sign-set (a .sign) (length (a .s .now)) (natAbs (a .v)) (room c)
+    ∙ sym (written-minus (a .sign) (length (a .s .now)) (a .v) (sym (neg-is k) ∙ c .before .before .if1 .taken) (rw (sym m) kept)))
 
 same-length-2 : tie.Need-same-length-2
 same-length-2 c = search needs
@@ -77,7 +77,7 @@ returns-2 c =
     let p = k .before .before .before in
     let a = p .before .before .before .before .args in
     let lost = rw (c .before .power .ensures) at (c .if2 .left) in
-    s-is p ∙ sym (written-zero (a .base) (length (a .s .now)) (a .v) (sym (neg-is k) ∙ c .before .before .if1 .taken) (rw (sym (m-is (p .before .before))) lost))
+    s-is p ∙ sym (written-zero (a .sign) (length (a .s .now)) (a .v) (sym (neg-is k) ∙ c .before .before .if1 .taken) (rw (sym (m-is (p .before .before))) lost))
 
 same-length-3 : tie.Need-same-length-3
 same-length-3 c = search needs
@@ -87,7 +87,7 @@ returns-3 c =
     let k = c .before in
     let p = k .before .before .before in
     let a = p .before .before .before .before .args in
-    s-is p ∙ sym (written-plain (a .base) (length (a .s .now)) (a .v) (sym (neg-is k) ∙ c .if1 .left))
+    s-is p ∙ sym (written-plain (a .sign) (length (a .s .now)) (a .v) (sym (neg-is k) ∙ c .if1 .left))
 
 pub write-spec : {M : Type 1} → statement M
 write-spec = tie.close (tie.spec magnitude-requires put-digits-requires is-neg-requires power-requires rem-if2 cast-s add-s sub-s slice-write-s same-length returns same-length-2 returns-2 same-length-3 returns-3)
