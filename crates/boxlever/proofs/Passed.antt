@@ -8,7 +8,7 @@ use Prim.Native.Nat.{ℕ}
 use Rattle.rules_unit.specs.declared.Parts.{Parts}
 use Rattle.rules_unit.specs.declared.Checked.{Checked}
 use Rattle.rules_unit.specs.declared.Checked.the-variants as checked
-use Rattle.rules_unit.specs.Decode.{Fills, Dialect}
+use Rattle.rules_unit.specs.Decode.{Fills, SoundDialect}
 use Rattle.rules_unit.specs.Checks.{checkOf}
 use Rattle.rules_unit.proofs.Sound.{passed-fills}
 use Rattle.rules_run.proofs.Lengths.{passed-dialect}
@@ -18,5 +18,5 @@ module _ (u : List ℕ) (v : Checked) (is : v ≡ checkOf u) (p : Parts) (e : v 
   pub fills-by : Fills u p
   fills-by = passed-fills u p (sym is ∙ e)
 
-  pub dialect-by : Dialect p
+  pub dialect-by : SoundDialect (p .dialect)
   dialect-by = passed-dialect u p (sym is ∙ e)

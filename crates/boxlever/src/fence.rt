@@ -38,7 +38,7 @@ use rules_unit::Statement;
 use rules_unit::Use;
 ghost use mathlib.Core.Path.{_≡_};
 ghost use mathlib.Core.Bool.{true};
-ghost use Rattle.rules_unit.specs.Decode.{Fills, Dialect};
+ghost use Rattle.rules_unit.specs.Decode.{Fills, SoundDialect};
 ghost use Rattle.rules_fence.specs.Bounds.{boundedb};
 ghost use Rattle.fence_bounds.specs.Asked.{Small};
 
@@ -242,7 +242,7 @@ fn say_untold(item: Item) {
 // The lines of the references of an expression, as far as its text has room.
 fn say_references(unit: &[u8], parts: Parts, e: u16, written: bool)
     requires { ⌜ Fills (now unit) parts ⌝ }
-    requires { ⌜ Dialect parts ⌝ }
+    requires { ⌜ SoundDialect (parts .dialect) ⌝ }
 {
     let es = expressions_of(unit, parts);
     let mut h = none_held(new_line());
@@ -266,7 +266,7 @@ fn say_references(unit: &[u8], parts: Parts, e: u16, written: bool)
 // The lines of the references of a use.
 fn say_use(unit: &[u8], parts: Parts, u: Use)
     requires { ⌜ Fills (now unit) parts ⌝ }
-    requires { ⌜ Dialect parts ⌝ }
+    requires { ⌜ SoundDialect (parts .dialect) ⌝ }
 {
     match u {
         Use::Nothing => (),
@@ -281,7 +281,7 @@ fn say_use(unit: &[u8], parts: Parts, u: Use)
 // The lines of the references of a statement.
 fn say_uses(unit: &[u8], parts: Parts, s: Statement)
     requires { ⌜ Fills (now unit) parts ⌝ }
-    requires { ⌜ Dialect parts ⌝ }
+    requires { ⌜ SoundDialect (parts .dialect) ⌝ }
 {
     let mut k: usize = 0;
     while k < unit_uses::COUNT {
@@ -299,7 +299,7 @@ fn say_breach(b: Breach) {
 // The lines of the statement i, if it breaks a rule: its references in the order in which they are worked out.
 fn say_breaking(unit: &[u8], parts: Parts, i: u16, show: Show)
     requires { ⌜ Fills (now unit) parts ⌝ }
-    requires { ⌜ Dialect parts ⌝ }
+    requires { ⌜ SoundDialect (parts .dialect) ⌝ }
 {
     let b = dibol::breach(unit, i as usize);
     if dibol::breach_number(b) == 0 {
@@ -314,7 +314,7 @@ fn say_breaking(unit: &[u8], parts: Parts, i: u16, show: Show)
 // The lines of all breaking statements, the first of which is given.
 fn say_all(unit: &[u8], parts: Parts, first: u16, show: Show)
     requires { ⌜ Fills (now unit) parts ⌝ }
-    requires { ⌜ Dialect parts ⌝ }
+    requires { ⌜ SoundDialect (parts .dialect) ⌝ }
 {
     let mut i = first;
     while i < parts.n {

@@ -85,9 +85,9 @@ fn no_figures() -> Figures {
 
 // A decimal in figures, as the unit's dialect writes it.
 pub fn figures_of(parts: Parts, s: &[u8]) -> Figures {
-    let digits = unit_decode::long(parts.digits);
-    let sign = parts.sign as u64;
-    if 18 < digits {
+    let limit = unit_decode::long(parts.dialect.limit);
+    let sign = parts.dialect.sign as u64;
+    if 18 < limit {
         return no_figures();
     }
     if sign < 58 {
@@ -96,7 +96,7 @@ pub fn figures_of(parts: Parts, s: &[u8]) -> Figures {
     if 246 < sign {
         return no_figures();
     }
-    match text::read(digits, sign, s) {
+    match text::read(limit, sign, s) {
         Num::Value(v) => Figures {
             good: true,
             below: number::is_neg(v),

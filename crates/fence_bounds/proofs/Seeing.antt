@@ -20,7 +20,7 @@ use Rattle.rules_unit.specs.declared.How.{How}
 use Rattle.rules_unit.specs.declared.Op.{Op}
 use Rattle.rules_unit.specs.declared.Item.{Item}
 use Rattle.rules_unit.specs.declared.Item.the-variants as item
-use Rattle.rules_unit.specs.Decode.{Dialect, codeOf}
+use Rattle.rules_unit.specs.Decode.{SoundDialect, codeOf}
 use Rattle.rules_run.specs.Evaluation.{literalNumber}
 use Rattle.rules_run.proofs.Ranges.{apply-range}
 use Rattle.rules_fence.specs.declared.Seen.{Seen}
@@ -128,7 +128,7 @@ small-operator : (t : Bool) (s : Seen) → Small s → Small (cond t (seenNegate
 small-operator true s h = small-negate s h
 small-operator false s h = small-none
 
-module _ (u : List ℕ) (p : Parts) (dialect : Dialect p) where
+module _ (u : List ℕ) (p : Parts) (dialect : SoundDialect (p .dialect)) where
   literal-small : (place len : ℕ) → InRange (10 ^ 18) (literalNumber (codeOf u p) place len)
   literal-small place len =
       apply-range (codeOf u p) [] (10 ^ 18) (omega arith) (dialect .bound .most) (pow-le18 (omega (arith, dialect .limit .most))) (item.Number place len) (pos 0) (pos 0)

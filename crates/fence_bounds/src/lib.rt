@@ -11,7 +11,7 @@ ghost use mathlib.Core.Bool.{true};
 ghost use Prim.Native.Nat.{_<_};
 ghost use Rattle.rules.specs.declared.Num.the-variants.{Value};
 ghost use Rattle.rules_unit.specs.declared.How.the-variants as how;
-ghost use Rattle.rules_unit.specs.Decode.{Fills, Dialect, codeOf};
+ghost use Rattle.rules_unit.specs.Decode.{Fills, SoundDialect, codeOf};
 ghost use Rattle.rules_fence.specs.Bounds.{isNegate, seenNumber, seenNegate, seenAfter, boundedb, fixedSpan};
 ghost use Rattle.fence_bounds.specs.Asked.{firstBound, lastBound, startBound, Small};
 
@@ -109,7 +109,7 @@ fn seen_negate(s: Seen) -> Seen
 // The bounds after an item.
 pub fn seen_after(unit: &[u8], parts: Parts, s: Seen, item: Item) -> Seen
     requires { ⌜ Fills (now unit) parts ⌝ }
-    requires { ⌜ Dialect parts ⌝ }
+    requires { ⌜ SoundDialect (parts .dialect) ⌝ }
     requires { ⌜ Small s ⌝ }
     ensures { λ r. ⌜ r ≡ seenAfter (codeOf (now (unit .entry)) parts) s item ⌝ }
 {

@@ -16,7 +16,7 @@ use Rattle.rules_unit.specs.declared.Want.{Want}
 use Rattle.rules_unit.specs.declared.Use.{Use}
 use Rattle.rules_unit.specs.declared.Use.the-variants as use-of
 use Rattle.rules_unit.specs.Codes.{Code}
-use Rattle.rules_unit.specs.Decode.{Fills, Dialect, expressionsAt, literalsAt, itemsAt, codeOf}
+use Rattle.rules_unit.specs.Decode.{Fills, SoundDialect, expressionsAt, literalsAt, itemsAt, codeOf}
 use Rattle.rules_unit.specs.Expressions.{useb}
 use Rattle.rules_unit.specs.Table.{usesOf}
 use Rattle.rules_unit.specs.Checks.{checkOf}
@@ -109,5 +109,5 @@ module _ (u : List ℕ) (p : Parts) (e : checkOf u ≡ checked.Passed p) where
   pub fills-of : Fills u p
   fills-of = passed-fills u p e
 
-  pub dialect-of : Dialect p
+  pub dialect-of : SoundDialect (p .dialect)
   dialect-of = passed-dialect u p e

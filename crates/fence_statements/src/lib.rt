@@ -10,7 +10,7 @@ ghost use mathlib.Core.Path.{_≡_};
 ghost use mathlib.Core.Bool.{true};
 ghost use Prim.Native.Nat.{_<_};
 ghost use Rattle.rules_unit.specs.declared.Checked.the-variants as checked;
-ghost use Rattle.rules_unit.specs.Decode.{Fills, Dialect, itemsAt, codeOf};
+ghost use Rattle.rules_unit.specs.Decode.{Fills, SoundDialect, itemsAt, codeOf};
 ghost use Rattle.rules_unit.specs.Expressions.{useb};
 ghost use Rattle.rules_unit.specs.Checks.{checkOf};
 ghost use Rattle.rules_fence.specs.declared.Seen.the-variants as seen;
@@ -116,7 +116,7 @@ fn breach_in(
     at: usize,
 ) -> Breach
     requires { ⌜ Fills (now unit) parts ⌝ }
-    requires { ⌜ Dialect parts ⌝ }
+    requires { ⌜ SoundDialect (parts .dialect) ⌝ }
     requires { ⌜ Ahead (codeOf (now unit) parts) (now ahead) ⌝ }
     requires { ⌜ AllKnown (codeOf (now unit) parts) (itemsAt (now es) at) ⌝ }
     requires { ⌜ Kept (codeOf (now unit) parts) dest (now es) (now notes) ⌝ }
@@ -155,7 +155,7 @@ fn breach_at(
     e: u16,
 ) -> Breach
     requires { ⌜ Fills (now unit) parts ⌝ }
-    requires { ⌜ Dialect parts ⌝ }
+    requires { ⌜ SoundDialect (parts .dialect) ⌝ }
     requires { ⌜ Ahead (codeOf (now unit) parts) (now ahead) ⌝ }
     requires { ⌜ AllKnown (codeOf (now unit) parts) (codeOf (now unit) parts .items e) ⌝ }
     requires { ⌜ Kept (codeOf (now unit) parts) dest (expressionsOf (now unit) parts) (now notes) ⌝ }
@@ -186,7 +186,7 @@ fn breach_as(
     e: u16,
 ) -> Breach
     requires { ⌜ Fills (now unit) parts ⌝ }
-    requires { ⌜ Dialect parts ⌝ }
+    requires { ⌜ SoundDialect (parts .dialect) ⌝ }
     requires { ⌜ Ahead (codeOf (now unit) parts) (now ahead) ⌝ }
     requires { ⌜ AllKnown (codeOf (now unit) parts) (codeOf (now unit) parts .items e) ⌝ }
     requires { ⌜ Both (now unit) parts (now reads) (now writes) ⌝ }
@@ -209,7 +209,7 @@ fn use_breach(
     u: Use,
 ) -> Breach
     requires { ⌜ Fills (now unit) parts ⌝ }
-    requires { ⌜ Dialect parts ⌝ }
+    requires { ⌜ SoundDialect (parts .dialect) ⌝ }
     requires { ⌜ Ahead (codeOf (now unit) parts) (now ahead) ⌝ }
     requires { ⌜ useb (codeOf (now unit) parts) u ≡ true ⌝ }
     requires { ⌜ Both (now unit) parts (now reads) (now writes) ⌝ }

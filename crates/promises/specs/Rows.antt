@@ -18,6 +18,7 @@ use Rattle.rules.specs.declared.Num.{Num}
 use Rattle.rules.specs.declared.Num.the-variants.{Value, Failed}
 use Rattle.rules.specs.Stops.{faultNumber}
 use Rattle.rules.specs.Moves.{written}
+use Rattle.rules_unit.specs.declared.Dialect.{Dialect}
 use Rattle.rules_unit.specs.declared.Kind.the-variants as kind
 use Rattle.rules_unit.specs.declared.Field.{Field}
 use Rattle.rules_unit.specs.declared.How.the-variants as how
@@ -72,6 +73,9 @@ top = 10 ^ limit
 abbrev pub sign : ℕ
 sign = 112
 
+abbrev pub dialect : Dialect
+dialect = record { limit = limit; sign = sign; top = top }
+
 -- The bytes of a quoted text.
 abbrev pub bytes : string.String → List ℕ
 bytes string.[] = []
@@ -116,9 +120,7 @@ back f at len = num at ∷ (num len ∷ (item.Operator op.Negate ∷ (item.Refer
 -- A unit of len bytes of data and n fields, with the expressions of its one statement, a SET.
 abbrev pub unitOver : ℕ → ℕ → (ℕ → Field) → (ℕ → List Item) → Code
 unitOver len n fields expressions = record {
-  limit = limit;
-  sign = sign;
-  top = top;
+  dialect = dialect;
   size = len;
   fields = n;
   field = fields;

@@ -28,7 +28,7 @@ use Rattle.rules_run.specs.States.{soundb, started}
 use Rattle.rules_run.specs.Stops.{stopNumber}
 use Rattle.rules_run.specs.Turns.{applied, turnBy}
 use Rattle.rules_run.specs.Runs.{runOf}
-use Rattle.promises.specs.Rows.{Answer, number, text, refusal, stop, limit, top, sign, bytes, unitOver, accessed, unit}
+use Rattle.promises.specs.Rows.{Answer, number, text, refusal, stop, dialect, bytes, unitOver, accessed, unit}
 
 -- ---- the slips
 
@@ -248,7 +248,7 @@ abbrev pub sound : ℕ → ℕ → ℕ → ℕ → Bool
 sound at depth to zeros = soundb 9 (record { at = at; depth = depth; returns = replicate depth to ++ replicate zeros 0 })
 
 abbrev pub parts : ℕ → ℕ → ℕ → ℕ → ℕ → Parts
-parts d f e p n = record { d = d; f = f; e = e; p = p; n = n; digits = limit; sign = sign; top = top }
+parts d f e p n = record { d = d; f = f; e = e; p = p; n = n; dialect = dialect }
 
 -- ---- moves
 

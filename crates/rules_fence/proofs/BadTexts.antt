@@ -36,14 +36,14 @@ kept-not false z e = let y : _≡_ {A = ℕ} 0 1 = cc in omega arith
 
 module _ (c : Code) (d : List ℕ) where
   -- Of an alpha source that is worked out the text is moved.
-  text-moved : (k : Sort) (x n : ℕ) (w : Worked) → alphaSort k ≡ true → Comes k w → alphaOf (c .top) (textOf c d w) ≡ Failed fault.BadDigit
+  text-moved : (k : Sort) (x n : ℕ) (w : Worked) → alphaSort k ≡ true → Comes k w → alphaOf (c .dialect .top) (textOf c d w) ≡ Failed fault.BadDigit
       → moveWorked c d true x n w ≡ failed fault.BadDigit
   unfolding alphaFrom
   text-moved k x n (worked.Number v) a m e = absurd (false≢true (ap alphaSort (sym m) ∙ a))
   text-moved k x n (worked.Place true b l) a m e = absurd (false≢true (ap alphaSort (sym m) ∙ a))
   text-moved k x n (worked.Place false b l) a m e = rw e
   text-moved k x n (worked.Text p l) a m e = rw e
-  text-moved k x n (worked.Failed f) a m e = absurd (kept-not (ltb 0 (c .top)) (pos 0) e)
+  text-moved k x n (worked.Failed f) a m e = absurd (kept-not (ltb 0 (c .dialect .top)) (pos 0) e)
 
   pub bad-text-22 : (i x n : ℕ) → BadText c d (c .statement i) → workedOf c d (c .items (c .statement i .a)) ≡ worked.Place true x n
       → turnOf c i d ≡ failed fault.BadDigit

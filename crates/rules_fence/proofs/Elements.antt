@@ -45,7 +45,7 @@ module _ (c : Code) (s : SoundCode c) where
   pub span-inside : {dest : Bool} {f a n : ℕ} → f < c .fields → SpanFenced c dest f a n → a + n ≤ c .size
   span-inside {dest} {f} h r = omega (arith, r .to, s .entries f h .own .inside)
 
-  pub span-short : {dest : Bool} {f a n : ℕ} → f < c .fields → decimalb c f ≡ true → SpanFenced c dest f a n → n ≤ c .limit
+  pub span-short : {dest : Bool} {f a n : ℕ} → f < c .fields → decimalb c f ≡ true → SpanFenced c dest f a n → n ≤ c .dialect .limit
   span-short {dest} {f} h t r = let i = r .element t .1 in omega (arith, i .from, i .to, s .entries f h .own .short t)
 
   module _ (d : List ℕ) (e : length d ≡ c .size) (v : AllValid c d) where
@@ -61,19 +61,19 @@ module _ (c : Code) (s : SoundCode c) where
 
     -- New characters at a fenced destination, that are a valid decimal where it is decimal.
     module _ (f a n : ℕ) (new : List ℕ) (h : f < c .fields) (r : SpanFenced c true f a n) (q : length new ≡ n) (o : 1 ≤ n)
-        (w : decimalb c f ≡ true → Valid (c .limit) (c .sign) new) where
+        (w : decimalb c f ≡ true → Valid (c .dialect .limit) (c .dialect .sign) new) where
       room : a + length new ≤ length d
       room = omega (arith, span-inside h r)
 
       store-element : (g k : ℕ) → g < c .fields → decimalb c g ≡ true → k < countOf c g
-          → Valid (c .limit) (c .sign) (take (sizeOf c g) (drop (elementAt c g k) (stored d a new)))
+          → Valid (c .dialect .limit) (c .dialect .sign) (take (sizeOf c g) (drop (elementAt c g k) (stored d a new)))
       store-element g k hg tg l = by (leb (elementAt c g k + sizeOf c g) a) (leb (a + n) (elementAt c g k)) refl refl
         where
           u : elementAt c g k + sizeOf c g ≤ length d
           u = omega (arith, element-in g k hg l)
 
           by : (x y : Bool) → leb (elementAt c g k + sizeOf c g) a ≡ x → leb (a + n) (elementAt c g k) ≡ y
-              → Valid (c .limit) (c .sign) (take (sizeOf c g) (drop (elementAt c g k) (stored d a new)))
+              → Valid (c .dialect .limit) (c .dialect .sign) (take (sizeOf c g) (drop (elementAt c g k) (stored d a new)))
           by true y p t = rw (part-before d a new room (elementAt c g k) (sizeOf c g) u (leb-true (elementAt c g k + sizeOf c g) a p)) (v .valid g k hg tg l)
           by false true p t =
               let t′ : a + n ≤ elementAt c g k = leb-true (a + n) (elementAt c g k) t in
@@ -93,7 +93,7 @@ module _ (c : Code) (s : SoundCode c) where
               high : max a (elementAt c g k) < endOf c g
               high = omega (arith, x₁, x₂, y₁, element-end (offsetOf c g) (sizeOf c g) (countOf c g) k l)
 
-              own : (t : Bool) → decimalb c f ≡ t → Valid (c .limit) (c .sign) (take (sizeOf c g) (drop (elementAt c g k) (stored d a new)))
+              own : (t : Bool) → decimalb c f ≡ t → Valid (c .dialect .limit) (c .dialect .sign) (take (sizeOf c g) (drop (elementAt c g k) (stored d a new)))
               own false t = absurd (r .apart t refl g (max a (elementAt c g k)) hg tg (omega arith) (omega (arith, x₂)) (omega arith) high)
               own true t =
                   let i = r .element t .1 in

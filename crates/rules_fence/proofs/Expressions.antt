@@ -75,7 +75,7 @@ module _ (c : Code) (d : List ℕ) where
         by true p =
             subst (λ (o : Op). ((st′ : List ℤ) → Held (seenAfter c b (item.Operator o)) st′ → P (k st′)) → P (onHeld (stepBy (opTakes o) (apply c d (item.Operator o)) st) k))
             (sym (negate-is o p)) (negate-step b st k t) h
-        by false p = step-any (mildb false) refl P w (opTakes o) (apply c d (item.Operator o)) st k (λ x y. calc-passes (mildb false) refl refl refl (c .top) o x y) (λ st′. h st′ (rw p tt))
+        by false p = step-any (mildb false) refl P w (opTakes o) (apply c d (item.Operator o)) st k (λ x y. calc-passes (mildb false) refl refl refl (c .dialect .top) o x y) (λ st′. h st′ (rw p tt))
 
   module _ (s : SoundCode c) (e : length d ≡ c .size) (v : AllValid c d) (dest : Bool) where
     left-ok : (span : Span) (st : List ℤ) → WorkedOk c dest span (left st)

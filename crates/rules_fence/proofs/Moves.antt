@@ -47,7 +47,7 @@ MildFlow M (flow.Bad e) = MildFault M e
 
 pub data Aimed (c : Code) (d : List ℕ) (span : Span) (w : Write) : Type 0 where
   still : w ≡ write.Nothing → Aimed c d span w
-  aims : (decimal : Bool) → PlaceOk c true span decimal (startOf w) (lenOf w) → (decimal ≡ true → Valid (c .limit) (c .sign) (newOf c d w)) → Aimed c d span w
+  aims : (decimal : Bool) → PlaceOk c true span decimal (startOf w) (lenOf w) → (decimal ≡ true → Valid (c .dialect .limit) (c .dialect .sign) (newOf c d w)) → Aimed c d span w
 
 pub record TurnOk (c : Code) (d : List ℕ) (span : Span) (M : Type 0) (t : Turn) : Type 0 where
   pub aimed : Aimed c d span (t .write)
@@ -71,21 +71,21 @@ module _ (c : Code) (d : List ℕ) (span : Span) (M : Type 0) where
   on-place (worked.Text p l) k o h = failed-ok fault.Malformed tt
   on-place (worked.Failed e) k o h = failed-ok e (mild-plain M e o)
 
-  counted-mild : (up : Bool) (r : Num) → mildNum false r ≡ true → mildNum false (counted (c .top) up r) ≡ true
-  counted-mild true (Value v) m = kept-passes (mildb false) refl (c .top) (v +ℤ pos 1)
-  counted-mild false (Value v) m = kept-passes (mildb false) refl (c .top) (v -ℤ pos 1)
+  counted-mild : (up : Bool) (r : Num) → mildNum false r ≡ true → mildNum false (counted (c .dialect .top) up r) ≡ true
+  counted-mild true (Value v) m = kept-passes (mildb false) refl (c .dialect .top) (v +ℤ pos 1)
+  counted-mild false (Value v) m = kept-passes (mildb false) refl (c .dialect .top) (v -ℤ pos 1)
   counted-mild true (Failed e) m = m
   counted-mild false (Failed e) m = m
 
-  module _ (s : SoundCode c) (letters : Letters (c .sign)) (e : length d ≡ c .size) (v : AllValid c d) where
-    short : {a n : ℕ} → PlaceOk c true span true a n → n ≤ c .limit
+  module _ (s : SoundCode c) (letters : Letters (c .dialect .sign)) (e : length d ≡ c .size) (v : AllValid c d) where
+    short : {a n : ℕ} → PlaceOk c true span true a n → n ≤ c .dialect .limit
     short k = span-short c s (k .known) (k .kind) (k .fenced)
 
     read-mild : {dest : Bool} {sp : Span} {a n : ℕ} → PlaceOk c dest sp true a n → mildNum false (readAt c d a n) ≡ true
     read-mild k = mild-value false (span-reads c s d e v (k .known) (k .kind) (k .some) (k .fenced))
 
     number-ok : (decimal : Bool) (a n : ℕ) → PlaceOk c true span decimal a n → (z : ℤ) → TurnOk c d span M (moveNumber decimal a n z)
-    number-ok true a n k z = record { aimed = aims true k (λ t. written-valid letters (c .limit) n z (k .some) (short k)); mild = tt }
+    number-ok true a n k z = record { aimed = aims true k (λ t. written-valid letters (c .dialect .limit) n z (k .some) (short k)); mild = tt }
     number-ok false a n k z = alpha-store (write.Show a n z) k
 
     num-ok : (decimal : Bool) (a n : ℕ) → PlaceOk c true span decimal a n → (r : Num) → MildNum M r → TurnOk c d span M (moveNum decimal a n r)
@@ -93,12 +93,12 @@ module _ (c : Code) (d : List ℕ) (span : Span) (M : Type 0) where
     num-ok decimal a n k (Failed x) m = failed-ok x m
 
     -- Alpha text to a decimal place: 22 may be.
-    text-ok : (a n : ℕ) → PlaceOk c true span true a n → (t : List ℕ) → (alphaOf (c .top) t ≡ Failed fault.BadDigit → M) → TurnOk c d span M (moveNum true a n (alphaOf (c .top) t))
-    text-ok a n k t m = num-ok true a n k (alphaOf (c .top) t) (num-fault M (alphaOf (c .top) t) (alpha-passes (mildb true) refl refl (c .top) t) m)
+    text-ok : (a n : ℕ) → PlaceOk c true span true a n → (t : List ℕ) → (alphaOf (c .dialect .top) t ≡ Failed fault.BadDigit → M) → TurnOk c d span M (moveNum true a n (alphaOf (c .dialect .top) t))
+    text-ok a n k t m = num-ok true a n k (alphaOf (c .dialect .top) t) (num-fault M (alphaOf (c .dialect .top) t) (alpha-passes (mildb true) refl refl (c .dialect .top) t) m)
 
     -- The source of a SET, an expression of the sort given.
     pub source-ok : (kind : Sort) (sp : Span) (decimal : Bool) (a n : ℕ) → PlaceOk c true span decimal a n → (w : Worked) → Comes kind w → WorkedOk c false sp w
-        → (decimal ≡ true → alphaSort kind ≡ true → alphaOf (c .top) (textOf c d w) ≡ Failed fault.BadDigit → M) → TurnOk c d span M (moveWorked c d decimal a n w)
+        → (decimal ≡ true → alphaSort kind ≡ true → alphaOf (c .dialect .top) (textOf c d w) ≡ Failed fault.BadDigit → M) → TurnOk c d span M (moveWorked c d decimal a n w)
     source-ok kind sp decimal a n k (worked.Number z) q o m = number-ok decimal a n k z
     source-ok kind sp decimal a n k (worked.Place true b l) q o m = num-ok decimal a n k (readAt c d b l) (num-plain M (readAt c d b l) (read-mild o))
     source-ok kind sp true a n k (worked.Place false b l) q o m = text-ok a n k (take l (drop b d)) (m refl (ap alphaSort q))
@@ -108,11 +108,11 @@ module _ (c : Code) (d : List ℕ) (span : Span) (M : Type 0) where
     source-ok kind sp decimal a n k (worked.Failed x) q o m = failed-ok x (mild-plain M x o)
 
     pub clear-ok : (decimal : Bool) (a n : ℕ) → PlaceOk c true span decimal a n → TurnOk c d span M (clearAt decimal a n)
-    clear-ok true a n k = record { aimed = aims true k (λ t. zeros-valid (c .limit) (c .sign) n (k .some) (short k)); mild = tt }
+    clear-ok true a n k = record { aimed = aims true k (λ t. zeros-valid (c .dialect .limit) (c .dialect .sign) n (k .some) (short k)); mild = tt }
     clear-ok false a n k = alpha-store (write.Clear a n false) k
 
     pub count-ok : (up decimal : Bool) (a n : ℕ) → PlaceOk c true span decimal a n → TurnOk c d span M (countAt c d up decimal a n)
-    count-ok up true a n k = num-ok true a n k (counted (c .top) up (readAt c d a n)) (num-plain M (counted (c .top) up (readAt c d a n)) (counted-mild up (readAt c d a n) (read-mild k)))
+    count-ok up true a n k = num-ok true a n k (counted (c .dialect .top) up (readAt c d a n)) (num-plain M (counted (c .dialect .top) up (readAt c d a n)) (counted-mild up (readAt c d a n) (read-mild k)))
     count-ok up false a n k = failed-ok fault.Malformed tt
 
     pub case-ok : (up decimal : Bool) (a n : ℕ) → PlaceOk c true span decimal a n → TurnOk c d span M (caseAt up decimal a n)

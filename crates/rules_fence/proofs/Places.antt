@@ -86,7 +86,7 @@ module _ (c : Code) (s : SoundCode c) (d : List ℕ) (e : length d ≡ c .size) 
     module _ (h : How) (x y : ℤ) where
       as-place : (span : Span) → f < c .fields → span ≡ spanOf (length d) (c .field f) h x y → SpanKept c dest f span → WorkedOk c dest span (asPlace c f span)
       as-place Outside k q r = absurd r
-      as-place (At a n) k q r = by (decimalb c f) refl (ltb (c .limit) n)
+      as-place (At a n) k q r = by (decimalb c f) refl (ltb (c .dialect .limit) n)
         where
           ok : (t : Bool) → decimalb c f ≡ t → PlaceOk c dest (At a n) t a n
           ok t z = record { field = f; known = k; kind = z; is = refl; fenced = r; some = span-some (length d) (c .field f) h x y (s .entries f k .own .some) (sym q) }

@@ -77,7 +77,7 @@ moved-ok n s M (flow.Bad x) m = m
 
 -- ---- the run
 
-module _ (c : Code) (s : SoundCode c) (limit : Limit (c .limit)) (letters : Letters (c .sign)) (bound : Top (c .top)) (r : Fenced c) where
+module _ (c : Code) (s : SoundCode c) (limit : Limit (c .dialect .limit)) (letters : Letters (c .dialect .sign)) (bound : Top (c .dialect .top)) (r : Fenced c) where
   -- The data and all else stay where nothing is done.
   stays : (d : List ℕ) (x : Stop) (t : State) (k : ℕ) → AllValid c d → (stopNumber x ≡ 21 → ⊥)
       → (stopNumber x ≡ 22 → (ended (c .statements) x t k d .outcome .place < c .statements) × BadText c d (c .statement (ended (c .statements) x t k d .outcome .place)))

@@ -56,7 +56,7 @@ aimOf c s = aimBy c (rowOf (verbOf (s .code))) s
 decimal-place : (k : Sort) (decimal : Bool) → k ≡ placeSort decimal → decimal ≡ true → k ≡ sort.Decimal
 decimal-place k decimal q t = q ∙ ap placeSort t
 
-module _ (c : Code) (s : SoundCode c) (letters : Letters (c .sign)) (d : List ℕ) (e : length d ≡ c .size) (v : AllValid c d) where
+module _ (c : Code) (s : SoundCode c) (letters : Letters (c .dialect .sign)) (d : List ℕ) (e : length d ≡ c .size) (v : AllValid c d) where
   fenced : (dest : Bool) (a : ℕ) → ExprFenced c dest (c .items a) → WorkedOk c dest (placeSpan c (c .items a)) (workedOf c d (c .items a))
   fenced dest a r = worked-ok c d s e v dest (c .items a) (expr-to c dest (c .items a) r)
 
@@ -68,7 +68,7 @@ module _ (c : Code) (s : SoundCode c) (letters : Letters (c .sign)) (d : List �
     at-place a k r h = on-place c d (placeSpan c (c .items a)) M (workedOf c d (c .items a)) k (fenced true a r) (λ decimal x n q p. h decimal x n p)
 
     set-ok : (a b : ℕ) → suits want.Place (sortAt c a) ≡ true → suits want.Source (sortAt c b) ≡ true → ExprFenced c true (c .items a) → ExprFenced c false (c .items b)
-        → (sortAt c a ≡ sort.Decimal → alphaSort (sortAt c b) ≡ true → alphaOf (c .top) (textOf c d (workedOf c d (c .items b))) ≡ Failed fault.BadDigit → M)
+        → (sortAt c a ≡ sort.Decimal → alphaSort (sortAt c b) ≡ true → alphaOf (c .dialect .top) (textOf c d (workedOf c d (c .items b))) ≡ Failed fault.BadDigit → M)
         → TurnOk c d (placeSpan c (c .items a)) M (onPlace (workedOf c d (c .items a)) (λ decimal x n. moveWorked c d decimal x n (workedOf c d (c .items b))))
     set-ok a b x y r q m =
         on-place c d (placeSpan c (c .items a)) M (workedOf c d (c .items a)) _ (fenced true a r)

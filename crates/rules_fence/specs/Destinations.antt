@@ -81,7 +81,7 @@ pub record InPlaceA (c : Code) (b : ℕ) : Type 0 where
 -- "whose decimal elements are all valid"
 pub record AllValid (c : Code) (d : List ℕ) : Type 0 where
   pub valid : (f k : ℕ) → f < c .fields → decimalb c f ≡ true → k < countOf c f
-      → Valid (c .limit) (c .sign) (take (sizeOf c f) (drop (elementAt c f k) d))
+      → Valid (c .dialect .limit) (c .dialect .sign) (take (sizeOf c f) (drop (elementAt c f k) d))
 
 -- ---- alpha text to a decimal place
 
@@ -106,4 +106,4 @@ BadText c d s =
     (verbOf (s .code) ≡ verb.At act.Set)
     × (sortAt c (s .a) ≡ sort.Decimal)
     × (alphaSort (sortAt c (s .b)) ≡ true)
-    × (alphaOf (c .top) (textOf c d (workedOf c d (c .items (s .b)))) ≡ Failed fault.BadDigit)
+    × (alphaOf (c .dialect .top) (textOf c d (workedOf c d (c .items (s .b)))) ≡ Failed fault.BadDigit)

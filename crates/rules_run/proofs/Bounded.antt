@@ -38,16 +38,16 @@ use Rattle.rules_run.proofs.Held.{Vals, HeldIn, step-in}
 -- A number in the range, a place inside the data's size bytes (a decimal one of no more than the limit's characters), text inside the literals.
 abbrev pub Bounded : ℕ → Code → ℕ → Worked → Type 0
 Bounded bound c size (worked.Number v) = Val bound v
-Bounded bound c size (worked.Place decimal a n) = (a + n ≤ size) × (decimal ≡ true → n ≤ c .limit)
+Bounded bound c size (worked.Place decimal a n) = (a + n ≤ size) × (decimal ≡ true → n ≤ c .dialect .limit)
 Bounded bound c size (worked.Text p l) = p + l ≤ length (c .literals)
 Bounded bound c size (worked.Failed e) = Unit {0}
 
-module _ (c : Code) (d : List ℕ) (bound : ℕ) (truths : 1 < bound) (sums : c .top ≤ bound) (digits : 10 ^ c .limit ≤ bound) where
+module _ (c : Code) (d : List ℕ) (bound : ℕ) (truths : 1 < bound) (sums : c .dialect .top ≤ bound) (digits : 10 ^ c .dialect .limit ≤ bound) where
   found-bounded : (f : ℕ) (s : Span) → ((a n : ℕ) → s ≡ At a n → a + n ≤ length d) → Bounded bound c (length d) (asPlace c f s)
   found-bounded f (At a n) h =
       cond-case (Bounded bound c (length d)) (decimalb c f) _ (worked.Place false a n)
-      (λ _. cond-case (Bounded bound c (length d)) (ltb (c .limit) n) (worked.Failed fault.TooLong) (worked.Place true a n) (λ _. tt)
-      (λ e. (h a n refl, λ _. ltb-false (c .limit) n e)))
+      (λ _. cond-case (Bounded bound c (length d)) (ltb (c .dialect .limit) n) (worked.Failed fault.TooLong) (worked.Place true a n) (λ _. tt)
+      (λ e. (h a n refl, λ _. ltb-false (c .dialect .limit) n e)))
       (λ _. (h a n refl, λ e. let z : _≡_ {A = ℕ} 0 1 = cc in absurd (omega arith)))
   found-bounded f Outside h = tt
 
@@ -134,7 +134,7 @@ within-of c size (worked.Place decimal a n) h = h
 within-of c size (worked.Text p l) h = h
 within-of c size (worked.Failed e) h = h
 
-pub worked-within : (c : Code) (d : List ℕ) → Limit (c .limit) → Top (c .top) → (is : List Item) → Within c (length d) (workedOf c d is)
+pub worked-within : (c : Code) (d : List ℕ) → Limit (c .dialect .limit) → Top (c .dialect .top) → (is : List Item) → Within c (length d) (workedOf c d is)
 worked-within c d limit bound is =
     within-of c (length d) (workedOf c d is)
     (worked-bounded c d (10 ^ 18) (omega arith) (bound .most) (pow-le18 (omega (arith, limit .most))) is)

@@ -88,14 +88,14 @@ module _ (P : Turn → Type 0) (fails : (e : Fault) → workb e ≡ true → P (
     by-worked decimal a n (worked.Number v) m = by-number decimal a n v
     by-worked decimal a n (worked.Place number b l) m =
         by-test number _ _ (by-num decimal a n (readAt c d b l) (read-works c d b l))
-        (by-test decimal _ _ (by-num true a n (alphaOf (c .top) (take l (drop b d))) (alpha-works c d (take l (drop b d)))) (puts (write.Move a n b l)))
+        (by-test decimal _ _ (by-num true a n (alphaOf (c .dialect .top) (take l (drop b d))) (alpha-works c d (take l (drop b d)))) (puts (write.Move a n b l)))
     by-worked decimal a n (worked.Text p l) m =
-        by-test decimal _ _ (by-num true a n (alphaOf (c .top) (take l (drop p (c .literals)))) (alpha-works c d (take l (drop p (c .literals))))) (puts (write.Literal a n p l))
+        by-test decimal _ _ (by-num true a n (alphaOf (c .dialect .top) (take l (drop p (c .literals)))) (alpha-works c d (take l (drop p (c .literals))))) (puts (write.Literal a n p l))
     by-worked decimal a n (worked.Failed e) m = fails e m
 
     by-count : (up decimal : Bool) (a n : ℕ) → P (countAt c d up decimal a n)
     by-count up decimal a n =
-        by-test decimal _ _ (by-num true a n (counted (c .top) up (readAt c d a n)) (counted-works c d up (readAt c d a n) (read-works c d a n))) (fails fault.Malformed refl)
+        by-test decimal _ _ (by-num true a n (counted (c .dialect .top) up (readAt c d a n)) (counted-works c d up (readAt c d a n) (read-works c d a n))) (fails fault.Malformed refl)
 
     by-case : (up decimal : Bool) (a n : ℕ) → P (caseAt up decimal a n)
     by-case up decimal a n = by-test decimal _ _ (fails fault.Malformed refl) (puts (write.Case a n up))

@@ -41,7 +41,7 @@ left-comes (v ∷ (x ∷ st)) h = absurd (omega arith)
 
 module _ (c : Code) (d : List ℕ) where
   span-comes : (f : ℕ) (s : Span) → Comes (placeSort (decimalb c f)) (asPlace c f s)
-  span-comes f (At a n) = by (decimalb c f) (ltb (c .limit) n)
+  span-comes f (At a n) = by (decimalb c f) (ltb (c .dialect .limit) n)
     where
       by : (t u : Bool) → Comes (placeSort t) (cond t (cond u (worked.Failed fault.TooLong) (worked.Place true a n)) (worked.Place false a n))
       by true true = refl
@@ -79,6 +79,6 @@ module _ (c : Code) (d : List ℕ) where
   last-comes (item.Text p l) (x ∷ st) o h = absurd (omega arith)
   last-comes (item.Operator q) st o h =
       step-formed (Comes sort.Number) (λ e m. m) (opTakes q) (apply c d (item.Operator q)) st left (op-two q) (omega arith) (omega arith)
-      (λ x y. calc-passes formedb refl refl refl (c .top) q x y) (λ st′ g. left-comes st′ (omega arith))
+      (λ x y. calc-passes formedb refl refl refl (c .dialect .top) q x y) (λ st′ g. left-comes st′ (omega arith))
   last-comes item.End st o h = absurd (false≢true o)
   last-comes item.Bad st o h = absurd (false≢true o)

@@ -98,7 +98,7 @@ module _ (p : Fault → Bool) (malformed : p fault.Malformed ≡ true) where
   literal-passes c place len =
       let s = take len (drop place (c .literals)) in
       pass-cond p (leb 1 len) _ (Failed fault.Malformed)
-      (pass-cond p (leb len (c .limit)) _ (Failed fault.Malformed)
+      (pass-cond p (leb len (c .dialect .limit)) _ (Failed fault.Malformed)
       (pass-cond p (leb (place + len) (length (c .literals))) _ (Failed fault.Malformed)
       (pass-cond p (digitsb s) (Value (pos (digitsFrom 0 s))) (Failed fault.Malformed) refl malformed) malformed) malformed) malformed
 

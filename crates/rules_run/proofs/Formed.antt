@@ -49,12 +49,12 @@ module _ (c : Code) where
   unfolding numberb literalNumber plainNumber
   literal-formed p l o =
       let a = both (leb 1 l) _ .0 o in
-      let b = both (leb l (c .limit)) _ .0 (a .1) in
+      let b = both (leb l (c .dialect .limit)) _ .0 (a .1) in
       let e = both (leb (p + l) (length (c .literals))) (digitsb (take l (drop p (c .literals)))) .0 (b .1) in
       rw (a .0, b .0, e .0, e .1)
 
   span-formed : (d : List ℕ) (s : Span) → passes formedb (readSpan c d s) ≡ true
-  span-formed d (At a n) = read-passes formedb refl refl (c .limit) (c .sign) (take n (drop a d))
+  span-formed d (At a n) = read-passes formedb refl refl (c .dialect .limit) (c .dialect .sign) (take n (drop a d))
   span-formed d Outside = refl
 
   pub item-formed : (d : List ℕ) (i : Item) (x y : ℤ) → itemb c i ≡ true → goesOn (sortOf c i) ≡ true → passes formedb (apply c d i x y) ≡ true
@@ -66,7 +66,7 @@ module _ (c : Code) where
       by true g = span-formed d (spanOf (length d) (c .field f) h x y)
       by false g = absurd (false≢true g)
   item-formed d (item.Text p l) x y o g = absurd (false≢true g)
-  item-formed d (item.Operator q) x y o g = calc-passes formedb refl refl refl (c .top) q x y
+  item-formed d (item.Operator q) x y o g = calc-passes formedb refl refl refl (c .dialect .top) q x y
   item-formed d item.End x y o g = absurd (false≢true o)
   item-formed d item.Bad x y o g = absurd (false≢true o)
 

@@ -70,10 +70,10 @@ formed-choose i n (negsuc v) = refl
 
 module _ (c : Code) (d : List ℕ) where
   pub read-formed : (a n : ℕ) → passes formedb (readAt c d a n) ≡ true
-  read-formed a n = read-passes formedb refl refl (c .limit) (c .sign) (take n (drop a d))
+  read-formed a n = read-passes formedb refl refl (c .dialect .limit) (c .dialect .sign) (take n (drop a d))
 
-  alpha-formed : (s : List ℕ) → passes formedb (alphaOf (c .top) s) ≡ true
-  alpha-formed s = alpha-passes formedb refl refl (c .top) s
+  alpha-formed : (s : List ℕ) → passes formedb (alphaOf (c .dialect .top) s) ≡ true
+  alpha-formed s = alpha-passes formedb refl refl (c .dialect .top) s
 
   pub formed-worked : (k : Sort) (decimal : Bool) (a n : ℕ) (w : Worked) → Comes k w → Formed (moveWorked c d decimal a n w)
   formed-worked k decimal a n (worked.Number v) m = formed-number decimal a n v
@@ -81,8 +81,8 @@ module _ (c : Code) (d : List ℕ) where
   formed-worked k decimal a n (worked.Text p l) m = search (formed-cond, formed-num, formed-stores, alpha-formed)
   formed-worked k decimal a n (worked.Failed e) m = formed-failed e m
 
-  pub counted-formed : (up : Bool) (r : Num) → passes formedb r ≡ true → passes formedb (counted (c .top) up r) ≡ true
-  counted-formed true (Value v) m = kept-passes formedb refl (c .top) (v +ℤ pos 1)
-  counted-formed false (Value v) m = kept-passes formedb refl (c .top) (v -ℤ pos 1)
+  pub counted-formed : (up : Bool) (r : Num) → passes formedb r ≡ true → passes formedb (counted (c .dialect .top) up r) ≡ true
+  counted-formed true (Value v) m = kept-passes formedb refl (c .dialect .top) (v +ℤ pos 1)
+  counted-formed false (Value v) m = kept-passes formedb refl (c .dialect .top) (v -ℤ pos 1)
   counted-formed true (Failed e) m = m
   counted-formed false (Failed e) m = m

@@ -51,7 +51,7 @@ suits-right w sort.Alpha q = refl
 
 module _ (c : Code) (d : List ℕ) where
   formed-count : (up decimal : Bool) (a n : ℕ) → suits want.DecimalPlace (placeSort decimal) ≡ true → Formed (countAt c d up decimal a n)
-  formed-count up true a n q = formed-num true a n (counted (c .top) up (readAt c d a n)) (counted-formed c d up (readAt c d a n) (read-formed c d a n))
+  formed-count up true a n q = formed-num true a n (counted (c .dialect .top) up (readAt c d a n)) (counted-formed c d up (readAt c d a n) (read-formed c d a n))
   formed-count up false a n q = absurd (false≢true q)
 
   formed-case : (up decimal : Bool) (a n : ℕ) → suits want.AlphaPlace (placeSort decimal) ≡ true → Formed (caseAt up decimal a n)

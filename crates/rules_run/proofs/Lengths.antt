@@ -9,7 +9,7 @@ use Rattle.rules.specs.Values.{Limit, Top}
 use Rattle.rules_unit.specs.declared.Parts.{Parts}
 use Rattle.rules_unit.specs.declared.Checked.the-variants as checked
 use Rattle.rules_unit.specs.Codes.{Code}
-use Rattle.rules_unit.specs.Decode.{Dialect, partsOf, codeOf}
+use Rattle.rules_unit.specs.Decode.{SoundDialect, partsOf, codeOf}
 use Rattle.rules_unit.specs.Checks.{checkOf}
 use Rattle.rules_unit.proofs.Sound.{passed-parts}
 use Rattle.rules_run.specs.declared.State.{State}
@@ -20,7 +20,7 @@ use Rattle.rules_run.proofs.Room.{turn-room}
 use Rattle.rules_run.proofs.Steps.{every-run}
 
 -- The dialect that the base's mark names.
-parts-dialect : (u : List ℕ) → Dialect (partsOf u)
+parts-dialect : (u : List ℕ) → SoundDialect (partsOf u .dialect)
 unfolding partsOf
 parts-dialect u =
     record {
@@ -31,14 +31,14 @@ parts-dialect u =
     }
 
 -- The data keeps its length.
-pub run-length : (c : Code) → Limit (c .limit) → Top (c .top) → (m : ℕ) (s : State) (d : List ℕ) (k : ℕ)
+pub run-length : (c : Code) → Limit (c .dialect .limit) → Top (c .dialect .top) → (m : ℕ) (s : State) (d : List ℕ) (k : ℕ)
     → length (runFrom c m s d k .bytes) ≡ length d
 run-length c limit bound =
     every-run c (λ m s d k r. length (r .bytes) ≡ length d) (λ m s d k h. refl) (λ s d k h. refl) (λ m s d k f h q. refl)
     (λ m s s′ d k r h q x. x ∙ applied-length c d (turnOf c (s .at) d .write) (turn-room c d limit bound (s .at)))
 
 module _ (u : List ℕ) (p : Parts) (e : checkOf u ≡ checked.Passed p) where
-  pub passed-dialect : Dialect p
+  pub passed-dialect : SoundDialect (p .dialect)
   passed-dialect = rw (passed-parts u p e) (parts-dialect u)
 
   pub passed-length : (m : ℕ) (s : State) (d : List ℕ) (k : ℕ) → length (runFrom (codeOf u p) m s d k .bytes) ≡ length d

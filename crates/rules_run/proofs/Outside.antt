@@ -53,7 +53,7 @@ pub record Touches (w : Write) (p : ℕ) : Type 0 where
 
 abbrev pub newOf : Code → List ℕ → Write → List ℕ
 newOf c d write.Nothing = []
-newOf c d (write.Number a n v) = written (c .sign) n v
+newOf c d (write.Number a n v) = written (c .dialect .sign) n v
 newOf c d (write.Show a n v) = shown n v
 newOf c d (write.Move a n from k) = fitted n (take k (drop from d))
 newOf c d (write.Literal a n place k) = fitted n (take k (drop place (c .literals)))
@@ -81,7 +81,7 @@ length-cased false s = length-locased s
 module _ (c : Code) (d : List ℕ) where
   pub length-new : (w : Write) → Room c (length d) w → length (newOf c d w) ≡ lenOf w
   length-new write.Nothing r = refl
-  length-new (write.Number a n v) r = length-written (c .sign) n v
+  length-new (write.Number a n v) r = length-written (c .dialect .sign) n v
   length-new (write.Show a n v) r = length-shown n v
   length-new (write.Move a n from k) r = length-fitted n (take k (drop from d))
   length-new (write.Literal a n place k) r = length-fitted n (take k (drop place (c .literals)))

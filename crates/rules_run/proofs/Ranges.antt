@@ -50,11 +50,11 @@ digits-most n acc i (b ∷ bs) h l e =
     let t = digits-head b bs e in
     digits-most n (acc * 10 + (b - 48)) (i + 1) bs (more-digits acc i (b - 48) h (from-digit 48 b (t .0))) (omega arith) (t .1)
 
-module _ (c : Code) (d : List ℕ) (bound : ℕ) (truths : 1 < bound) (sums : c .top ≤ bound) (digits : 10 ^ c .limit ≤ bound) where
-  kept-range : (z : ℤ) → InRange bound (kept (c .top) z)
-  kept-range z = range-up sums (kept (c .top) z) (range-kept (c .top) z)
+module _ (c : Code) (d : List ℕ) (bound : ℕ) (truths : 1 < bound) (sums : c .dialect .top ≤ bound) (digits : 10 ^ c .dialect .limit ≤ bound) where
+  kept-range : (z : ℤ) → InRange bound (kept (c .dialect .top) z)
+  kept-range z = range-up sums (kept (c .dialect .top) z) (range-kept (c .dialect .top) z)
 
-  calc-range : (o : Op) (x y : ℤ) → Val bound x → Val bound y → InRange bound (calc (c .top) o x y)
+  calc-range : (o : Op) (x y : ℤ) → Val bound x → Val bound y → InRange bound (calc (c .dialect .top) o x y)
   unfolding calc
   calc-range op.Add x y vx vy = kept-range (x +ℤ y)
   calc-range op.Subtract x y vx vy = kept-range (x -ℤ y)
@@ -73,24 +73,24 @@ module _ (c : Code) (d : List ℕ) (bound : ℕ) (truths : 1 < bound) (sums : c 
   calc-range op.Or x y vx vy = range-truth (isTrue x || isTrue y) truths
   calc-range op.Xor x y vx vy = range-truth (xorb (isTrue x) (isTrue y)) truths
 
-  plain-range : (s : List ℕ) → length s ≤ c .limit → InRange bound (plainNumber s)
+  plain-range : (s : List ℕ) → length s ≤ c .dialect .limit → InRange bound (plainNumber s)
   unfolding plainNumber
   plain-range s h =
       range-if bound (digitsb s) (Value (pos (digitsFrom 0 s))) (Failed fault.Malformed)
-      (λ e. record { small = lt-of-lt-of-le (digits-most (c .limit) 0 0 s (lit< tt) (omega arith) e) digits })
+      (λ e. record { small = lt-of-lt-of-le (digits-most (c .dialect .limit) 0 0 s (lit< tt) (omega arith) e) digits })
       (λ e. tt)
 
   literal-range : (p l : ℕ) → InRange bound (literalNumber c p l)
   unfolding literalNumber
   literal-range p l =
       range-if bound (leb 1 l) _ (Failed fault.Malformed)
-      (λ _. range-if bound (leb l (c .limit)) _ (Failed fault.Malformed)
+      (λ _. range-if bound (leb l (c .dialect .limit)) _ (Failed fault.Malformed)
       (λ e. range-if bound (leb (p + l) (length (c .literals))) _ (Failed fault.Malformed)
-      (λ _. plain-range (take l (drop p (c .literals))) (omega (arith, leb-true l (c .limit) e, length-take l (drop p (c .literals)))))
+      (λ _. plain-range (take l (drop p (c .literals))) (omega (arith, leb-true l (c .dialect .limit) e, length-take l (drop p (c .literals)))))
       (λ _. tt)) (λ _. tt)) (λ _. tt)
 
   pub read-range : (a n : ℕ) → InRange bound (readAt c d a n)
-  read-range a n = range-up digits (readAt c d a n) (range-read (c .limit) (c .sign) (take n (drop a d)))
+  read-range a n = range-up digits (readAt c d a n) (range-read (c .dialect .limit) (c .dialect .sign) (take n (drop a d)))
 
   span-range : (s : Span) → InRange bound (readSpan c d s)
   span-range (At a n) = read-range a n

@@ -34,7 +34,7 @@ use Rattle.rules_run.specs.Turns.{Room, failed, moveNum, moveWorked, onP
 use Rattle.rules_run.proofs.Ranges.{range-up, read-range}
 use Rattle.rules_run.proofs.Bounded.{Bounded, worked-bounded}
 
-module _ (c : Code) (d : List ℕ) (limit : Limit (c .limit)) (bound : Top (c .top)) where
+module _ (c : Code) (d : List ℕ) (limit : Limit (c .dialect .limit)) (bound : Top (c .dialect .top)) where
   -- The turn's store has room.
   record Fit (t : Turn) : Type 0 where
     room : Room c (length d) (t .write)
@@ -42,18 +42,18 @@ module _ (c : Code) (d : List ℕ) (limit : Limit (c .limit)) (bound : Top (c .t
   fit-failed : (e : Fault) → Fit (failed e)
   fit-failed e = record { room = tt }
 
-  most : 10 ^ c .limit ≤ 10 ^ 18
+  most : 10 ^ c .dialect .limit ≤ 10 ^ 18
   most = pow-le18 (omega (arith, limit .most))
 
   read-in : (a n : ℕ) → InRange (10 ^ 18) (readAt c d a n)
   read-in a n = read-range c d (10 ^ 18) (omega arith) (bound .most) most a n
 
-  alpha-in : (s : List ℕ) → InRange (10 ^ 18) (alphaOf (c .top) s)
-  alpha-in s = range-up (bound .most) (alphaOf (c .top) s) (range-alpha (c .top) s)
+  alpha-in : (s : List ℕ) → InRange (10 ^ 18) (alphaOf (c .dialect .top) s)
+  alpha-in s = range-up (bound .most) (alphaOf (c .dialect .top) s) (range-alpha (c .dialect .top) s)
 
-  counted-in : (up : Bool) (r : Num) → InRange (10 ^ 18) (counted (c .top) up r)
-  counted-in true (Value v) = range-up (bound .most) (addOf (c .top) v (pos 1)) (range-kept (c .top) (v +ℤ pos 1))
-  counted-in false (Value v) = range-up (bound .most) (subOf (c .top) v (pos 1)) (range-kept (c .top) (v -ℤ pos 1))
+  counted-in : (up : Bool) (r : Num) → InRange (10 ^ 18) (counted (c .dialect .top) up r)
+  counted-in true (Value v) = range-up (bound .most) (addOf (c .dialect .top) v (pos 1)) (range-kept (c .dialect .top) (v +ℤ pos 1))
+  counted-in false (Value v) = range-up (bound .most) (subOf (c .dialect .top) v (pos 1)) (range-kept (c .dialect .top) (v -ℤ pos 1))
   counted-in true (Failed e) = tt
   counted-in false (Failed e) = tt
 
@@ -70,14 +70,14 @@ module _ (c : Code) (d : List ℕ) (limit : Limit (c .limit)) (bound : Top (c .t
   fit-worked : (decimal : Bool) (a n : ℕ) → At decimal a n → (w : Worked) → Bounded (10 ^ 18) c (length d) w → Fit (moveWorked c d decimal a n w)
   fit-worked decimal a n p (worked.Number v) f = fit-num decimal a n p (Value v) f
   fit-worked decimal a n p (worked.Place true b m) f = fit-num decimal a n p (readAt c d b m) (read-in b m)
-  fit-worked true a n p (worked.Place false b m) f = fit-num true a n p (alphaOf (c .top) (take m (drop b d))) (alpha-in (take m (drop b d)))
+  fit-worked true a n p (worked.Place false b m) f = fit-num true a n p (alphaOf (c .dialect .top) (take m (drop b d))) (alpha-in (take m (drop b d)))
   fit-worked false a n p (worked.Place false b m) f = record { room = (p .0, f .0) }
-  fit-worked true a n p (worked.Text q l) f = fit-num true a n p (alphaOf (c .top) (take l (drop q (c .literals)))) (alpha-in (take l (drop q (c .literals))))
+  fit-worked true a n p (worked.Text q l) f = fit-num true a n p (alphaOf (c .dialect .top) (take l (drop q (c .literals)))) (alpha-in (take l (drop q (c .literals))))
   fit-worked false a n p (worked.Text q l) f = record { room = (p .0, f) }
   fit-worked decimal a n p (worked.Failed e) f = fit-failed e
 
   fit-count : (up decimal : Bool) (a n : ℕ) → At decimal a n → Fit (countAt c d up decimal a n)
-  fit-count up true a n p = fit-num true a n p (counted (c .top) up (readAt c d a n)) (counted-in up (readAt c d a n))
+  fit-count up true a n p = fit-num true a n p (counted (c .dialect .top) up (readAt c d a n)) (counted-in up (readAt c d a n))
   fit-count up false a n p = fit-failed fault.Malformed
 
   fit-case : (up decimal : Bool) (a n : ℕ) → At decimal a n → Fit (caseAt up decimal a n)

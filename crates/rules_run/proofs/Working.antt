@@ -52,14 +52,14 @@ works-cond false x y f g = g
 
 module _ (c : Code) (d : List ℕ) where
   pub read-works : (a n : ℕ) → passes workb (readAt c d a n) ≡ true
-  read-works a n = read-passes workb refl refl (c .limit) (c .sign) (take n (drop a d))
+  read-works a n = read-passes workb refl refl (c .dialect .limit) (c .dialect .sign) (take n (drop a d))
 
-  pub alpha-works : (s : List ℕ) → passes workb (alphaOf (c .top) s) ≡ true
-  alpha-works s = alpha-passes workb refl refl (c .top) s
+  pub alpha-works : (s : List ℕ) → passes workb (alphaOf (c .dialect .top) s) ≡ true
+  alpha-works s = alpha-passes workb refl refl (c .dialect .top) s
 
-  pub counted-works : (up : Bool) (r : Num) → passes workb r ≡ true → passes workb (counted (c .top) up r) ≡ true
-  counted-works true (Value v) m = kept-passes workb refl (c .top) (v +ℤ pos 1)
-  counted-works false (Value v) m = kept-passes workb refl (c .top) (v -ℤ pos 1)
+  pub counted-works : (up : Bool) (r : Num) → passes workb r ≡ true → passes workb (counted (c .dialect .top) up r) ≡ true
+  counted-works true (Value v) m = kept-passes workb refl (c .dialect .top) (v +ℤ pos 1)
+  counted-works false (Value v) m = kept-passes workb refl (c .dialect .top) (v -ℤ pos 1)
   counted-works true (Failed e) m = m
   counted-works false (Failed e) m = m
 
@@ -74,7 +74,7 @@ module _ (c : Code) (d : List ℕ) where
       pass-cond workb (ltb f (c .fields)) _ (Failed fault.Malformed)
       (pass-cond workb (decimalb c f) _ (Failed fault.Malformed) (span-works (spanOf (length d) (c .field f) h x y)) refl) refl
   item-works (item.Text p l) x y = refl
-  item-works (item.Operator o) x y = calc-passes workb refl refl refl (c .top) o x y
+  item-works (item.Operator o) x y = calc-passes workb refl refl refl (c .dialect .top) o x y
   item-works item.End x y = refl
   item-works item.Bad x y = refl
 
@@ -87,8 +87,8 @@ module _ (c : Code) (d : List ℕ) where
 
   as-works : (f : ℕ) (s : Span) → Works (asPlace c f s)
   as-works f (At a n) =
-      works-cond (decimalb c f) (cond (ltb (c .limit) n) (worked.Failed fault.TooLong) (worked.Place true a n)) (worked.Place false a n)
-      (works-cond (ltb (c .limit) n) (worked.Failed fault.TooLong) (worked.Place true a n) refl tt) tt
+      works-cond (decimalb c f) (cond (ltb (c .dialect .limit) n) (worked.Failed fault.TooLong) (worked.Place true a n)) (worked.Place false a n)
+      (works-cond (ltb (c .dialect .limit) n) (worked.Failed fault.TooLong) (worked.Place true a n) refl tt) tt
   as-works f Outside = refl
 
   by-works : (h : How) (f : ℕ) (x y : ℤ) → Works (placeBy c d h f x y)

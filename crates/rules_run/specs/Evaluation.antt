@@ -69,12 +69,12 @@ plainNumber s = cond (digitsb s) (Value (pos (digitsFrom 0 s))) (Failed fault.Ma
 unfoldable pub literalNumber : Code → ℕ → ℕ → Num
 literalNumber c place len =
     cond (leb 1 len)
-    (cond (leb len (c .limit))
+    (cond (leb len (c .dialect .limit))
     (cond (leb (place + len) (length (c .literals))) (plainNumber (take len (drop place (c .literals)))) (Failed fault.Malformed))
     (Failed fault.Malformed)) (Failed fault.Malformed)
 
 abbrev pub readAt : Code → List ℕ → ℕ → ℕ → Num
-readAt c d a n = readOf (c .limit) (c .sign) (take n (drop a d))
+readAt c d a n = readOf (c .dialect .limit) (c .dialect .sign) (take n (drop a d))
 
 abbrev pub readSpan : Code → List ℕ → Span → Num
 readSpan c d (At a n) = readAt c d a n
@@ -91,7 +91,7 @@ abbrev pub apply : Code → List ℕ → Item → ℤ → ℤ → Num
 apply c d (item.Number place len) x y = literalNumber c place len
 apply c d (item.Reference h field) x y = reference c d h field x y
 apply c d (item.Text place len) x y = Failed fault.Malformed
-apply c d (item.Operator o) x y = calc (c .top) o x y
+apply c d (item.Operator o) x y = calc (c .dialect .top) o x y
 apply c d item.End x y = Failed fault.Malformed
 apply c d item.Bad x y = Failed fault.Malformed
 
@@ -133,7 +133,7 @@ onHeld (halt e) k = worked.Failed e
 -- "A decimal span of more than 18 characters then gives 20": whenever it is found
 abbrev pub asPlace : Code → ℕ → Span → Worked
 asPlace c f (At a n) =
-    cond (decimalb c f) (cond (ltb (c .limit) n) (worked.Failed fault.TooLong) (worked.Place true a n)) (worked.Place false a n)
+    cond (decimalb c f) (cond (ltb (c .dialect .limit) n) (worked.Failed fault.TooLong) (worked.Place true a n)) (worked.Place false a n)
 asPlace c f Outside = worked.Failed fault.Outside
 
 unfoldable pub placeBy : Code → List ℕ → How → ℕ → ℤ → ℤ → Worked
@@ -191,6 +191,6 @@ numberOf c d (worked.Failed e) = Failed e
 -- inside the literals: every expression comes to one of these, or fails.
 abbrev pub Within : Code → ℕ → Worked → Type 0
 Within c size (worked.Number v) = Val (10 ^ 18) v
-Within c size (worked.Place decimal a n) = (a + n ≤ size) × (decimal ≡ true → n ≤ c .limit)
+Within c size (worked.Place decimal a n) = (a + n ≤ size) × (decimal ≡ true → n ≤ c .dialect .limit)
 Within c size (worked.Text p l) = p + l ≤ length (c .literals)
 Within c size (worked.Failed e) = Unit {0}

@@ -49,7 +49,7 @@ cleared false n = blanks n
 -- "The result is as if the source had been copied away first": the new characters are made of the data as it was.
 unfoldable pub applied : Code → List ℕ → Write → List ℕ
 applied c d write.Nothing = d
-applied c d (write.Number a n v) = stored d a (written (c .sign) n v)
+applied c d (write.Number a n v) = stored d a (written (c .dialect .sign) n v)
 applied c d (write.Show a n v) = stored d a (shown n v)
 applied c d (write.Move a n from k) = stored d a (fitted n (take k (drop from d)))
 applied c d (write.Literal a n place k) = stored d a (fitted n (take k (drop place (c .literals))))
@@ -97,9 +97,9 @@ abbrev pub moveWorked : Code → List ℕ → Bool → ℕ → ℕ → Worked �
 moveWorked c d decimal a n (worked.Number v) = moveNumber decimal a n v
 moveWorked c d decimal a n (worked.Place number b m) =
     cond number (moveNum decimal a n (readAt c d b m))
-    (cond decimal (moveNum true a n (alphaOf (c .top) (take m (drop b d)))) (stores (write.Move a n b m)))
+    (cond decimal (moveNum true a n (alphaOf (c .dialect .top) (take m (drop b d)))) (stores (write.Move a n b m)))
 moveWorked c d decimal a n (worked.Text p l) =
-    cond decimal (moveNum true a n (alphaOf (c .top) (take l (drop p (c .literals))))) (stores (write.Literal a n p l))
+    cond decimal (moveNum true a n (alphaOf (c .dialect .top) (take l (drop p (c .literals))))) (stores (write.Literal a n p l))
 moveWorked c d decimal a n (worked.Failed e) = failed e
 
 -- ---- the other stores
@@ -124,7 +124,7 @@ counted top false (Failed e) = Failed e
 
 -- "INCR and DECR compute, then store as a number move." "An INCR or DECR place is read before the sum."
 abbrev pub countAt : Code → List ℕ → Bool → Bool → ℕ → ℕ → Turn
-countAt c d up decimal a n = cond decimal (moveNum true a n (counted (c .top) up (readAt c d a n))) (failed fault.Malformed)
+countAt c d up decimal a n = cond decimal (moveNum true a n (counted (c .dialect .top) up (readAt c d a n))) (failed fault.Malformed)
 
 -- "5 UPCASE a; 6 LOCASE a (alpha places)"
 abbrev pub caseAt : Bool → Bool → ℕ → ℕ → Turn

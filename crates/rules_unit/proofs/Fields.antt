@@ -49,7 +49,7 @@ module _ (c : Code) where
       (tells-and (tells-le 1 (countOf c i))
       (tells-and (tells-le (endOf c i) (c .size))
       (tells-which (recordb c i) (tells-eq (countOf c i) 1)
-      (tells-and (tells-le floor (offsetOf c i)) (tells-which (decimalb c i) (tells-le (sizeOf c i) (c .limit)) tells-true))))))))
+      (tells-and (tells-le floor (offsetOf c i)) (tells-which (decimalb c i) (tells-le (sizeOf c i) (c .dialect .limit)) tells-true))))))))
 
   -- an entry has at least one byte
   pub some-byte : (i : ℕ) → EntrySound c i → offsetOf c i < endOf c i

@@ -50,7 +50,7 @@ module _ (c : Code) where
   unfolding numberb
   number-tells place len =
       tells-as (λ r. record { some = r .0; short = r .1 .0; inside = r .1 .1 .0; digits = r .1 .1 .1 }) (λ r. (r .some, (r .short, (r .inside, r .digits))))
-      (tells-and (tells-le 1 len) (tells-and (tells-le len (c .limit)) (tells-and (tells-le (place + len) (length (c .literals))) (digits-tell (take len (drop place (c .literals)))))))
+      (tells-and (tells-le 1 len) (tells-and (tells-le len (c .dialect .limit)) (tells-and (tells-le (place + len) (length (c .literals))) (digits-tell (take len (drop place (c .literals)))))))
 
   text-tells : (place len : ℕ) → Tells (textb c place len) (TextSound c place len)
   unfolding textb

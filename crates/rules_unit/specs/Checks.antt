@@ -76,7 +76,7 @@ entryb c i floor =
     && leb 1 (sizeOf c i)
     && leb 1 (countOf c i)
     && leb (endOf c i) (c .size)
-    && cond (recordb c i) (eqb (countOf c i) 1) (leb floor (offsetOf c i) && cond (decimalb c i) (leb (sizeOf c i) (c .limit)) true)
+    && cond (recordb c i) (eqb (countOf c i) 1) (leb floor (offsetOf c i) && cond (decimalb c i) (leb (sizeOf c i) (c .dialect .limit)) true)
 
 abbrev pub floorAfter : Code → ℕ → ℕ → ℕ
 floorAfter c i floor = cond (recordb c i) floor (endOf c i)

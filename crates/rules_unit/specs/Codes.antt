@@ -7,6 +7,7 @@
 use Prim.Native.Nat.{ℕ, _+_, _*_}
 use mathlib.Core.Bool.{Bool, true, false}
 use mathlib.Core.List.{List}
+use Rattle.rules_unit.specs.declared.Dialect.{Dialect}
 use Rattle.rules_unit.specs.declared.Kind.{Kind}
 use Rattle.rules_unit.specs.declared.Kind.the-variants as kind
 use Rattle.rules_unit.specs.declared.Field.{Field}
@@ -14,10 +15,7 @@ use Rattle.rules_unit.specs.declared.Item.{Item}
 use Rattle.rules_unit.specs.declared.Statement.{Statement}
 
 pub record Code : Type 0 where
-  -- the dialect: digits, sign letters, bound
-  pub limit : ℕ
-  pub sign : ℕ
-  pub top : ℕ
+  pub dialect : Dialect
   -- the data's length
   pub size : ℕ
   pub fields : ℕ

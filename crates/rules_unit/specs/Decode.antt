@@ -1,6 +1,6 @@
 -- The bytes of a unit, decoded (document 01, "The coded unit"). Nothing is checked here: what the checks refuse decodes to Bad, or to anything.
 --   wordAt u at            a number of two bytes
---   partsOf u              the trailer; Dialect p, what is asked of its dialect
+--   partsOf u              the trailer; SoundDialect d, what is asked of a dialect
 --   fieldsAt .. fullLength where each part starts, and the length that they fill; Fills u p says that they do
 --   fieldAt, statementAt u at    an entry at an offset of the unit
 --   itemAt s at            an item at an offset of the expressions s; itemsAt the expression that starts there
@@ -13,6 +13,7 @@ use mathlib.Core.List.{List, [], _∷_}
 use lib.Dec.{ltb, eqb}
 use lib.ListN.{length, getD, take, drop}
 use Rattle.rules.specs.Values.{Limit, Letters, Top}
+use Rattle.rules_unit.specs.declared.Dialect.{Dialect}
 use Rattle.rules_unit.specs.declared.Parts.{Parts}
 use Rattle.rules_unit.specs.declared.Kind.{Kind}
 use Rattle.rules_unit.specs.declared.Kind.the-variants as kind
@@ -42,17 +43,15 @@ partsOf u =
       e = wordAt u (t + 4);
       p = wordAt u (t + 6);
       n = wordAt u (t + 8);
-      digits = 18;
-      sign = 0x70;
-      top = 10 ^ 18;
+      dialect = record { limit = 18; sign = 0x70; top = 10 ^ 18 };
     }
 
 -- What is asked of a dialect's numbers.
-pub record Dialect (p : Parts) : Type 0 where
-  pub limit : Limit (p .digits)
-  pub letters : Letters (p .sign)
-  pub bound : Top (p .top)
-  pub tens : p .top ≡ 10 ^ p .digits
+pub record SoundDialect (d : Dialect) : Type 0 where
+  pub limit : Limit (d .limit)
+  pub letters : Letters (d .sign)
+  pub bound : Top (d .top)
+  pub tens : d .top ≡ 10 ^ d .limit
 
 -- "Before it lie, in this order: data image (D bytes), fields (F entries of 8), expressions (E bytes), literals (P bytes), statements (N entries of 8)."
 abbrev pub fieldsAt : Parts → ℕ
@@ -168,9 +167,7 @@ statementAt u at =
 
 abbrev pub codeOf : List ℕ → Parts → Code
 codeOf u p = record {
-  limit = p .digits;
-  sign = p .sign;
-  top = p .top;
+  dialect = p .dialect;
   size = p .d;
   fields = p .f;
   field = λ i. fieldAt u (fieldsAt p + i * 8);

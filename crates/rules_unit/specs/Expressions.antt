@@ -71,7 +71,7 @@ takes item.Bad = 0
 -- "length (1 byte, 1 to 18), all digits 0 to 9"; "Offsets, field numbers and literals lie inside their parts."
 unfoldable pub numberb : Code → ℕ → ℕ → Bool
 numberb c place len =
-    leb 1 len && leb len (c .limit) && leb (place + len) (length (c .literals)) && digitsb (take len (drop place (c .literals)))
+    leb 1 len && leb len (c .dialect .limit) && leb (place + len) (length (c .literals)) && digitsb (take len (drop place (c .literals)))
 
 -- "length (2 bytes, at least 1)"
 unfoldable pub textb : Code → ℕ → ℕ → Bool

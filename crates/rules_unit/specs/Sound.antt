@@ -57,7 +57,7 @@ pub record EntrySound (c : Code) (i : ℕ) : Type 0 where
   pub some : 1 ≤ sizeOf c i
   pub many : 1 ≤ countOf c i
   -- "a decimal's size is at most 18"
-  pub short : decimalb c i ≡ true → sizeOf c i ≤ c .limit
+  pub short : decimalb c i ≡ true → sizeOf c i ≤ c .dialect .limit
   -- "a record's count is 1"
   pub once : recordb c i ≡ true → countOf c i ≡ 1
   -- "offset + size x count is at most D"

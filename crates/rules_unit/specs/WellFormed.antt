@@ -32,7 +32,7 @@ pub record AllDigits (s : List ℕ) : Type 0 where
 -- "01 number literal: place in literals (2 bytes), length (1 byte, 1 to 18), all digits 0 to 9"
 pub record NumberSound (c : Code) (place len : ℕ) : Type 0 where
   pub some : 1 ≤ len
-  pub short : len ≤ c .limit
+  pub short : len ≤ c .dialect .limit
   pub inside : place + len ≤ length (c .literals)
   pub digits : AllDigits (take len (drop place (c .literals)))
 

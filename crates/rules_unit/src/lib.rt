@@ -2,7 +2,17 @@
 ghost use mathlib.Core.Path.{_≡_};
 ghost use Rattle.rules_unit.specs.Checks.{refusalNumber, refusalPlace};
 
-// The lengths of a unit's parts, as its trailer names them, and the numbers of its dialect.
+// A dialect: which numbers there are, and how they are written.
+pub struct Dialect {
+    // The most digits that a number may have.
+    pub limit: u16,
+    // The character that stands for a last digit 0 with a minus.
+    pub sign: u8,
+    // The first magnitude that has more digits: 10 to the limit.
+    pub top: u64,
+}
+
+// The lengths of a unit's parts, as its trailer names them, and its dialect.
 pub struct Parts {
     // Bytes of data.
     pub d: u16,
@@ -14,12 +24,7 @@ pub struct Parts {
     pub p: u16,
     // Statements.
     pub n: u16,
-    // The most digits that a number may have.
-    pub digits: u16,
-    // The character that stands for a last digit 0 with a minus.
-    pub sign: u8,
-    // The first magnitude that has more digits: 10 to the digits.
-    pub top: u64,
+    pub dialect: Dialect,
 }
 
 // What a field holds.

@@ -42,7 +42,7 @@ module _ (u : List ℕ) (p : Parts) (d : List ℕ) (w : Worked) where
     pub place-inside : Within (codeOf u p) (length d) w → a + n ≤ length d
     place-inside h = subst (Within (codeOf u p) (length d)) e h .0
 
-    pub number-read : (r : Num) → decimal ≡ true → r ≡ readOf (p .digits) (p .sign) (take n (drop a d)) → r ≡ numberOf (codeOf u p) d w
+    pub number-read : (r : Num) → decimal ≡ true → r ≡ readOf (p .dialect .limit) (p .dialect .sign) (take n (drop a d)) → r ≡ numberOf (codeOf u p) d w
     number-read r t q = rw (e, t) q
 
     pub number-alpha : decimal ≡ false → Failed fault.Malformed ≡ numberOf (codeOf u p) d w

@@ -265,11 +265,11 @@ module _ (u : List ℕ) (p : Parts) (d es : List ℕ) (i n : ℕ) (held : List �
     operator-over r l m q = over (item.Operator o) (i + 1) operator-going (n - taken) (omega arith) r m q
 
     pub operator-held : (v : Num) (r : Step) → taken ≤ n → n - taken < 16
-        → v ≡ calc (p .top) o (toZ w64 (ofZ w64 (getD held (n - taken) (pos 0)))) (toZ w64 (ofZ w64 (getD held (n - taken + 1) (pos 0))))
+        → v ≡ calc (p .dialect .top) o (toZ w64 (ofZ w64 (getD held (n - taken) (pos 0)))) (toZ w64 (ofZ w64 (getD held (n - taken + 1) (pos 0))))
         → r ≡ heldOn (n - taken) (i + 1) v → Leads (codeOf u p) d es i n held r
     operator-held v r l m ev q =
         works (item.Operator o) (i + 1) operator-going (n - taken) (omega arith) m (omega arith) v
-        (ev ∙ op-plain (calc (p .top) o) (val-fits (ready .vals (n - taken))) (val-fits (ready .vals (n - taken + 1)))) r q
+        (ev ∙ op-plain (calc (p .dialect .top) o) (val-fits (ready .vals (n - taken))) (val-fits (ready .vals (n - taken + 1)))) r q
 
 -- ---- what a step asks of its callees, and what it makes
 

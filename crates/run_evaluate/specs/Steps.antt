@@ -24,7 +24,7 @@ use Rattle.rules_unit.specs.declared.How.{How}
 use Rattle.rules_unit.specs.declared.How.the-variants as how
 use Rattle.rules_unit.specs.declared.Item.{Item}
 use Rattle.rules_unit.specs.Codes.{Code}
-use Rattle.rules_unit.specs.Decode.{Fills, Dialect, itemsAt}
+use Rattle.rules_unit.specs.Decode.{Fills, SoundDialect, itemsAt}
 use Rattle.rules_run.specs.declared.Worked.{Worked}
 use Rattle.rules_run.specs.declared.Worked.the-variants as worked
 use Rattle.rules_run.specs.Evaluation.{left, workedFrom}
@@ -58,7 +58,7 @@ Vals held = (j : ℕ) → Val (10 ^ 18) (getD held j (pos 0))
 
 pub record Ready (u : List ℕ) (p : Parts) (d es : List ℕ) (i : ℕ) (held : List ℤ) : Type 0 where
   pub fills : Fills u p
-  pub dialect : Dialect p
+  pub dialect : SoundDialect (p .dialect)
   pub size : length d < 65536
   pub there : i < length es
   pub vals : Vals held

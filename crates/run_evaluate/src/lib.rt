@@ -12,7 +12,7 @@ ghost use lib.ListN.{length};
 ghost use Rattle.rules.specs.declared.Fault.the-variants as fault;
 ghost use Rattle.rules_unit.specs.declared.How.the-variants as how;
 ghost use Rattle.rules_unit.specs.declared.Item.the-variants as item;
-ghost use Rattle.rules_unit.specs.Decode.{Fills, Dialect, referenceAt, numberAt, textAt, itemBy, itemAt, itemsAt, codeOf};
+ghost use Rattle.rules_unit.specs.Decode.{Fills, SoundDialect, referenceAt, numberAt, textAt, itemBy, itemAt, itemsAt, codeOf};
 ghost use Rattle.rules_run.specs.declared.Worked.the-variants as worked;
 ghost use Rattle.rules_run.specs.Evaluation.{workedOf, numberOf, Within};
 ghost use Rattle.run_evaluate.specs.declared.Step.the-variants as step;
@@ -223,7 +223,7 @@ fn operator_step(
     }
     let x = held[m];
     let y = held[m + 1];
-    held_on(m, i + 1, run_items::calculate(parts.top, op, x, y))
+    held_on(m, i + 1, run_items::calculate(parts.dialect.top, op, x, y))
 }
 
 // The bounds of a reference by its code, 03 to 05.
@@ -289,7 +289,7 @@ fn item_step(
 // What the expression at an offset of the expressions es comes to.
 fn worked_in(unit: &[u8], parts: Parts, bytes: &[u8], es: &[u8], at: usize) -> Worked
     requires { ⌜ Fills (now unit) parts ⌝ }
-    requires { ⌜ Dialect parts ⌝ }
+    requires { ⌜ SoundDialect (parts .dialect) ⌝ }
     requires { ⌜ length (now bytes) < 65536 ⌝ }
     ensures { λ r. ⌜ r ≡ workedOf (codeOf (now (unit .entry)) parts) (now (bytes .entry)) (itemsAt (now (es .entry)) at) ⌝ }
 {
@@ -313,7 +313,7 @@ fn worked_in(unit: &[u8], parts: Parts, bytes: &[u8], es: &[u8], at: usize) -> W
 // What the expression at an offset comes to.
 pub fn worked(unit: &[u8], parts: Parts, bytes: &[u8], e: u16) -> Worked
     requires { ⌜ Fills (now unit) parts ⌝ }
-    requires { ⌜ Dialect parts ⌝ }
+    requires { ⌜ SoundDialect (parts .dialect) ⌝ }
     requires { ⌜ length (now bytes) < 65536 ⌝ }
     ensures { λ r. ⌜ r ≡ workedOf (codeOf (now (unit .entry)) parts) (now (bytes .entry)) (codeOf (now (unit .entry)) parts .items e) ⌝ }
 {
@@ -338,7 +338,7 @@ fn lone(es: &[u8], at: usize) -> bool
 // What the expression of a place comes to. Most places are a field alone, which takes no loop.
 pub fn place(unit: &[u8], parts: Parts, bytes: &[u8], e: u16) -> Worked
     requires { ⌜ Fills (now unit) parts ⌝ }
-    requires { ⌜ Dialect parts ⌝ }
+    requires { ⌜ SoundDialect (parts .dialect) ⌝ }
     requires { ⌜ length (now bytes) < 65536 ⌝ }
     ensures { λ r. ⌜ r ≡ workedOf (codeOf (now (unit .entry)) parts) (now (bytes .entry)) (codeOf (now (unit .entry)) parts .items e) ⌝ }
 {
@@ -354,7 +354,7 @@ pub fn place(unit: &[u8], parts: Parts, bytes: &[u8], e: u16) -> Worked
 
 // The number that an expression comes to: a decimal place is read. The unit is named for the contract alone.
 pub fn number_of(unit: &[u8], parts: Parts, bytes: &[u8], w: Worked) -> Num
-    requires { ⌜ Dialect parts ⌝ }
+    requires { ⌜ SoundDialect (parts .dialect) ⌝ }
     requires { ⌜ Within (codeOf (now unit) parts) (length (now bytes)) w ⌝ }
     ensures { λ r. ⌜ r ≡ numberOf (codeOf (now (unit .entry)) parts) (now (bytes .entry)) w ⌝ }
 {

@@ -69,21 +69,21 @@ module _ (u : List ℕ) (p : Parts) (place len : ℕ) where
   unfolding literalNumber
   literal-empty h = sym (rw (lt-leb 1 len h))
 
-  pub literal-long : p .digits < len → Failed fault.Malformed ≡ literalNumber (codeOf u p) place len
+  pub literal-long : p .dialect .limit < len → Failed fault.Malformed ≡ literalNumber (codeOf u p) place len
   unfolding literalNumber
-  literal-long h = sym (rw (le-leb 1 len (omega arith), lt-leb len (p .digits) h))
+  literal-long h = sym (rw (le-leb 1 len (omega arith), lt-leb len (p .dialect .limit) h))
 
   module _ (fills : Fills u p) (some : 1 ≤ len) (f n m : ℕ) (ef : f ≡ place) (en : n ≡ len) (em : m ≡ p .p) where
-    pub literal-past : len ≤ p .digits → m < f + n → Failed fault.Malformed ≡ literalNumber (codeOf u p) place len
+    pub literal-past : len ≤ p .dialect .limit → m < f + n → Failed fault.Malformed ≡ literalNumber (codeOf u p) place len
     unfolding literalNumber
     literal-past g h =
-        sym (rw (le-leb 1 len some, le-leb len (p .digits) g, lt-leb (place + len) (length (codeOf u p .literals)) (omega (arith, literals-length u p fills))))
+        sym (rw (le-leb 1 len some, le-leb len (p .dialect .limit) g, lt-leb (place + len) (length (codeOf u p .literals)) (omega (arith, literals-length u p fills))))
 
-    pub literal-there : (start : ℕ) (r : Num) → len ≤ p .digits → f + n ≤ m → start ≡ literalsAt p
+    pub literal-there : (start : ℕ) (r : Num) → len ≤ p .dialect .limit → f + n ≤ m → start ≡ literalsAt p
         → r ≡ plainNumber (take (start + f + n - (start + f)) (drop (start + f) u)) → r ≡ literalNumber (codeOf u p) place len
     unfolding literalNumber
     literal-there start r g h es q =
         let size : start + f + n - (start + f) ≡ len = omega arith in
         let from : start + f ≡ literalsAt p + place = omega arith in
-        rw (le-leb 1 len some, le-leb len (p .digits) g, le-leb (place + len) (length (codeOf u p .literals)) (omega (arith, literals-length u p fills)))
+        rw (le-leb 1 len some, le-leb len (p .dialect .limit) g, le-leb (place + len) (length (codeOf u p .literals)) (omega (arith, literals-length u p fills)))
         (rw (literal-part u p fills place len (omega arith)) (rw (size, from) at q))

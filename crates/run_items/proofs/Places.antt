@@ -64,7 +64,7 @@ module _ (u : List ℕ) (p : Parts) (d : List ℕ) (h : How) (f : ℕ) (x y : �
       unfolding reference
       read-as e = rw (lt-ltb f (p .f) there, kind, e, span)
 
-      pub reference-read : (a n : ℕ) (r : Num) → decimal ≡ true → s ≡ At a n → r ≡ readOf (p .digits) (p .sign) (take n (drop a d)) → r ≡ reference (codeOf u p) d h f x y
+      pub reference-read : (a n : ℕ) (r : Num) → decimal ≡ true → s ≡ At a n → r ≡ readOf (p .dialect .limit) (p .dialect .sign) (take n (drop a d)) → r ≡ reference (codeOf u p) d h f x y
       reference-read a n r e t q = q ∙ sym (read-as e ∙ ap (readSpan (codeOf u p) d) t)
 
       pub reference-outside : decimal ≡ true → s ≡ Outside → Failed fault.Outside ≡ reference (codeOf u p) d h f x y
@@ -74,7 +74,7 @@ module _ (u : List ℕ) (p : Parts) (d : List ℕ) (h : How) (f : ℕ) (x y : �
       unfolding placeBy
       place-as = rw (lt-ltb f (p .f) there, span)
 
-      pub place-found : (most a n : ℕ) (r : Worked) → most ≡ p .digits → s ≡ At a n
+      pub place-found : (most a n : ℕ) (r : Worked) → most ≡ p .dialect .limit → s ≡ At a n
           → r ≡ cond decimal (cond (ltb most n) (worked.Failed fault.TooLong) (worked.Place true a n)) (worked.Place false a n)
           → r ≡ placeBy (codeOf u p) d h f x y
       place-found most a n r em t q = (rw (em, sym kind) at q) ∙ sym (place-as ∙ ap (asPlace (codeOf u p) f) t)

@@ -16,7 +16,7 @@ ghost use lib.ListN.{length, getD, take, drop};
 ghost use Rattle.rules.specs.declared.Fault.the-variants as fault;
 ghost use Rattle.rules.specs.Values.{Val, Top, readOf};
 ghost use Rattle.rules_unit.specs.declared.How.the-variants as how;
-ghost use Rattle.rules_unit.specs.Decode.{Fills, Dialect, codeOf};
+ghost use Rattle.rules_unit.specs.Decode.{Fills, SoundDialect, codeOf};
 ghost use Rattle.rules_unit.specs.Expressions.{howTakes, textb};
 ghost use Rattle.rules_run.specs.declared.Worked.the-variants as worked;
 ghost use Rattle.rules_run.specs.Evaluation.{calc, plainNumber, literalNumber, reference, placeBy};
@@ -52,13 +52,13 @@ fn plain_number(s: &[u8]) -> Num
 // A number literal's value.
 pub fn literal_number(unit: &[u8], parts: Parts, place: u16, len: u16) -> Num
     requires { ⌜ Fills (now unit) parts ⌝ }
-    requires { ⌜ Dialect parts ⌝ }
+    requires { ⌜ SoundDialect (parts .dialect) ⌝ }
     ensures { λ r. ⌜ r ≡ literalNumber (codeOf (now (unit .entry)) parts) place len ⌝ }
 {
     if len < 1 {
         return Num::Failed(Fault::Malformed);
     }
-    if parts.digits < len {
+    if parts.dialect.limit < len {
         return Num::Failed(Fault::Malformed);
     }
     let from = unit_decode::long(place);
@@ -74,14 +74,14 @@ pub fn literal_number(unit: &[u8], parts: Parts, place: u16, len: u16) -> Num
 
 // The number at len bytes of the data: the part that starts at the span's place is handed to the digit reader.
 pub fn read_at(parts: Parts, bytes: &[u8], start: usize, len: usize) -> Num
-    requires { ⌜ Dialect parts ⌝ }
+    requires { ⌜ SoundDialect (parts .dialect) ⌝ }
     requires { ⌜ start + len ≤ length (now bytes) ⌝ }
-    ensures { λ r. ⌜ r ≡ readOf (parts .digits) (parts .sign) (take len (drop start (now (bytes .entry)))) ⌝ }
+    ensures { λ r. ⌜ r ≡ readOf (parts .dialect .limit) (parts .dialect .sign) (take len (drop start (now (bytes .entry)))) ⌝ }
 {
     let end = start + len;
     text::read(
-        unit_decode::long(parts.digits),
-        wide(parts.sign),
+        unit_decode::long(parts.dialect.limit),
+        wide(parts.dialect.sign),
         &bytes[start..end],
     )
 }
@@ -97,7 +97,7 @@ pub fn read_reference(
     y: i64,
 ) -> Num
     requires { ⌜ Fills (now unit) parts ⌝ }
-    requires { ⌜ Dialect parts ⌝ }
+    requires { ⌜ SoundDialect (parts .dialect) ⌝ }
     requires { ⌜ length (now bytes) < 65536 ⌝ }
     requires { ⌜ Val (10 ^ 18) x ⌝ }
     requires { ⌜ Val (10 ^ 18) y ⌝ }
@@ -120,7 +120,7 @@ pub fn read_reference(
 // A reference without bounds that is not last.
 pub fn read_first(unit: &[u8], parts: Parts, bytes: &[u8], field: u16) -> Num
     requires { ⌜ Fills (now unit) parts ⌝ }
-    requires { ⌜ Dialect parts ⌝ }
+    requires { ⌜ SoundDialect (parts .dialect) ⌝ }
     ensures { λ r. ⌜ r ≡ reference (codeOf (now (unit .entry)) parts) (now (bytes .entry)) how.First field (pos 0) (pos 0) ⌝ }
 {
     if parts.f <= field {
@@ -199,7 +199,7 @@ fn place_by(unit: &[u8], parts: Parts, bytes: &[u8], how: How, field: u16, x: i6
     let entry = unit_decode::field(unit, parts, field);
     let kind = entry.kind;
     let decimal = unit_sorts::is_decimal(kind);
-    let most = unit_decode::long(parts.digits);
+    let most = unit_decode::long(parts.dialect.limit);
     match run_spans::span_of(bytes.len(), entry, how, x, y) {
         Span::At { start, len } => place_at(most, decimal, start, len),
         Span::Outside => Worked::Failed(Fault::Outside),
@@ -217,7 +217,7 @@ pub fn place_first(unit: &[u8], parts: Parts, bytes: &[u8], field: u16) -> Worke
     let entry = unit_decode::field(unit, parts, field);
     let kind = entry.kind;
     let decimal = unit_sorts::is_decimal(kind);
-    let most = unit_decode::long(parts.digits);
+    let most = unit_decode::long(parts.dialect.limit);
     match run_spans::first_span(bytes.len(), entry) {
         Span::At { start, len } => place_at(most, decimal, start, len),
         Span::Outside => Worked::Failed(Fault::Outside),

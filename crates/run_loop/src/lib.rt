@@ -10,7 +10,7 @@ ghost use mathlib.Core.Path.{_≡_};
 ghost use Prim.Native.Nat.{_<_};
 ghost use lib.ListN.{length};
 ghost use Rattle.rules_unit.specs.declared.Checked.the-variants as checked;
-ghost use Rattle.rules_unit.specs.Decode.{Fills, Dialect, codeOf};
+ghost use Rattle.rules_unit.specs.Decode.{Fills, SoundDialect, codeOf};
 ghost use Rattle.rules_unit.specs.Checks.{checkOf};
 ghost use Rattle.rules_unit.specs.Sound.{ShapeSound};
 ghost use Rattle.rules_run.specs.States.{Sound};
@@ -50,7 +50,7 @@ fn turn_under(depth: u16, turn: Turn) -> Turn
 // 6 to 10 % more instructions in trials.
 fn turn_at(unit: &[u8], parts: Parts, bytes: &[u8], at: u16, depth: u16) -> Turn
     requires { ⌜ Fills (now unit) parts ⌝ }
-    requires { ⌜ Dialect parts ⌝ }
+    requires { ⌜ SoundDialect (parts .dialect) ⌝ }
     requires { ⌜ length (now bytes) < 65536 ⌝ }
     requires { ⌜ at < parts .n ⌝ }
     requires { ⌜ ShapeSound (codeOf (now unit) parts) at ⌝ }

@@ -18,7 +18,7 @@ use Rattle.rules.specs.Arithmetic.{addOf, subOf}
 use Rattle.rules.proofs.Signed.{back, again, pow-le18}
 use Rattle.rules.proofs.Range.{of-range}
 use Rattle.rules_unit.specs.declared.Parts.{Parts}
-use Rattle.rules_unit.specs.Decode.{Dialect, codeOf}
+use Rattle.rules_unit.specs.Decode.{SoundDialect, codeOf}
 use Rattle.rules_run.specs.declared.Write.the-variants as write
 use Rattle.rules_run.specs.declared.Turn.{Turn}
 use Rattle.rules_run.specs.Turns.{failed, stores, moveNum, counted, countAt, caseAt}
@@ -43,17 +43,17 @@ module _ (u : List ℕ) (p : Parts) (d : List ℕ) (up decimal : Bool) (a n : �
   pub count-alpha : decimal ≡ false → t ≡ failed fault.Malformed → t ≡ countAt (codeOf u p) d up decimal a n
   count-alpha h e = rw h e
 
-  pub count-sum : (x y : Num) {v : ℤ} → decimal ≡ true → x ≡ readOf (p .digits) (p .sign) (take n (drop a d)) → x ≡ Value v → SFits w64 v
-      → y ≡ counted (p .top) up (Value (toZ w64 (ofZ w64 v))) → t ≡ moveNum true a n y → t ≡ countAt (codeOf u p) d up decimal a n
+  pub count-sum : (x y : Num) {v : ℤ} → decimal ≡ true → x ≡ readOf (p .dialect .limit) (p .dialect .sign) (take n (drop a d)) → x ≡ Value v → SFits w64 v
+      → y ≡ counted (p .dialect .top) up (Value (toZ w64 (ofZ w64 v))) → t ≡ moveNum true a n y → t ≡ countAt (codeOf u p) d up decimal a n
   count-sum x y {v} h e g f q k =
-      rw (h, sym e ∙ g) (k ∙ ap (moveNum true a n) (q ∙ ap (λ (z : ℤ). counted (p .top) up (Value z)) (back f)))
+      rw (h, sym e ∙ g) (k ∙ ap (moveNum true a n) (q ∙ ap (λ (z : ℤ). counted (p .dialect .top) up (Value z)) (back f)))
 
-  pub count-failed : (x : Num) (f : Fault) → decimal ≡ true → x ≡ readOf (p .digits) (p .sign) (take n (drop a d)) → x ≡ Failed f → t ≡ failed f
+  pub count-failed : (x : Num) (f : Fault) → decimal ≡ true → x ≡ readOf (p .dialect .limit) (p .dialect .sign) (take n (drop a d)) → x ≡ Failed f → t ≡ failed f
       → t ≡ countAt (codeOf u p) d up decimal a n
-  count-failed x f h e g k = rw (h, sym e ∙ g, counted-failed (p .top) up f) k
+  count-failed x f h e g k = rw (h, sym e ∙ g, counted-failed (p .dialect .top) up f) k
 
 -- what is read can be an operand
-pub read-again : (u : List ℕ) (p : Parts) (d : List ℕ) (a n : ℕ) (x : Num) (v : ℤ) → Dialect p → x ≡ readOf (p .digits) (p .sign) (take n (drop a d)) → x ≡ Value v
+pub read-again : (u : List ℕ) (p : Parts) (d : List ℕ) (a n : ℕ) (x : Num) (v : ℤ) → SoundDialect (p .dialect) → x ≡ readOf (p .dialect .limit) (p .dialect .sign) (take n (drop a d)) → x ≡ Value v
     → Val (10 ^ 18) (toZ w64 (ofZ w64 v))
 read-again u p d a n x v dialect e g =
     again

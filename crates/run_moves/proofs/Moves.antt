@@ -45,14 +45,14 @@ module _ (decimal : Bool) (a n : ℕ) (t : Turn) where
   -- ---- data: m bytes at b
 
   module _ (u : List ℕ) (p : Parts) (d : List ℕ) (number : Bool) (b m : ℕ) where
-    pub place-read : (r : Num) → number ≡ true → r ≡ readOf (p .digits) (p .sign) (take m (drop b d)) → t ≡ moveNum decimal a n r
+    pub place-read : (r : Num) → number ≡ true → r ≡ readOf (p .dialect .limit) (p .dialect .sign) (take m (drop b d)) → t ≡ moveNum decimal a n r
         → t ≡ moveWorked (codeOf u p) d decimal a n (worked.Place number b m)
     place-read r h q e = rw h (e ∙ ap (moveNum decimal a n) q)
 
-    pub place-alpha : (r : Num) → number ≡ false → decimal ≡ true → r ≡ alphaOf (p .top) (take (b + m - b) (drop b d)) → t ≡ moveNum true a n r
+    pub place-alpha : (r : Num) → number ≡ false → decimal ≡ true → r ≡ alphaOf (p .dialect .top) (take (b + m - b) (drop b d)) → t ≡ moveNum true a n r
         → t ≡ moveWorked (codeOf u p) d decimal a n (worked.Place number b m)
     place-alpha r h g q e =
-        rw (h, g) (e ∙ ap (moveNum true a n) (q ∙ ap (λ (k : ℕ). alphaOf (p .top) (take k (drop b d))) (add-sub-cancel-left b m)))
+        rw (h, g) (e ∙ ap (moveNum true a n) (q ∙ ap (λ (k : ℕ). alphaOf (p .dialect .top) (take k (drop b d))) (add-sub-cancel-left b m)))
 
     pub place-moved : number ≡ false → decimal ≡ false → t ≡ stores (write.Move a n b m) → t ≡ moveWorked (codeOf u p) d decimal a n (worked.Place number b m)
     place-moved h g e = rw (h, g) e
@@ -61,9 +61,9 @@ module _ (decimal : Bool) (a n : ℕ) (t : Turn) where
 
   module _ (u : List ℕ) (p : Parts) (d : List ℕ) (place count : ℕ) where
     pub literal-alpha : Fills u p → (x y z : ℕ) (r : Num) → decimal ≡ true → x ≡ literalsAt p → y ≡ place → z ≡ count → place + count ≤ length (codeOf u p .literals)
-        → r ≡ alphaOf (p .top) (take (x + y + z - (x + y)) (drop (x + y) u)) → t ≡ moveNum true a n r → t ≡ moveWorked (codeOf u p) d decimal a n (worked.Text place count)
+        → r ≡ alphaOf (p .dialect .top) (take (x + y + z - (x + y)) (drop (x + y) u)) → t ≡ moveNum true a n r → t ≡ moveWorked (codeOf u p) d decimal a n (worked.Text place count)
     literal-alpha fills x y z r h ex ey ez inside q e =
-        rw h (e ∙ ap (moveNum true a n) (q ∙ ap (alphaOf (p .top)) (literal-is u p fills place count x y z ex ey ez inside)))
+        rw h (e ∙ ap (moveNum true a n) (q ∙ ap (alphaOf (p .dialect .top)) (literal-is u p fills place count x y z ex ey ez inside)))
 
     pub literal-moved : decimal ≡ false → t ≡ stores (write.Literal a n place count) → t ≡ moveWorked (codeOf u p) d decimal a n (worked.Text place count)
     literal-moved h e = rw h e

@@ -11,7 +11,7 @@ ghost use Prim.Native.Nat.{_+_, _^_, _≤_};
 ghost use lib.ListN.{length};
 ghost use Rattle.rules.specs.declared.Num.the-variants.{Value};
 ghost use Rattle.rules.specs.Values.{Val};
-ghost use Rattle.rules_unit.specs.Decode.{Fills, Dialect, codeOf};
+ghost use Rattle.rules_unit.specs.Decode.{Fills, SoundDialect, codeOf};
 ghost use Rattle.rules_run.specs.declared.Worked.the-variants as worked;
 ghost use Rattle.rules_run.specs.Evaluation.{Within};
 ghost use Rattle.rules_run.specs.Turns.{failed, stores, goes, moveNumber, moveNum, moveWorked, counted, countAt, caseAt};
@@ -91,7 +91,7 @@ fn move_place(
     from: usize,
     count: usize,
 ) -> Turn
-    requires { ⌜ Dialect parts ⌝ }
+    requires { ⌜ SoundDialect (parts .dialect) ⌝ }
     requires { ⌜ from + count ≤ length (now bytes) ⌝ }
     ensures { λ r. ⌜ r ≡ moveWorked (codeOf (now (unit .entry)) parts) (now (bytes .entry)) decimal start len (worked.Place number from count) ⌝ }
 {
@@ -109,7 +109,7 @@ fn move_place(
             true,
             start,
             len,
-            text::from_alpha(parts.top, &bytes[from..end]),
+            text::from_alpha(parts.dialect.top, &bytes[from..end]),
         );
     }
     put(Write::Move {
@@ -132,7 +132,7 @@ fn move_literal(
     count: u16,
 ) -> Turn
     requires { ⌜ Fills (now unit) parts ⌝ }
-    requires { ⌜ Dialect parts ⌝ }
+    requires { ⌜ SoundDialect (parts .dialect) ⌝ }
     requires { ⌜ place + count ≤ length (codeOf (now unit) parts .literals) ⌝ }
     ensures { λ r. ⌜ r ≡ moveWorked (codeOf (now (unit .entry)) parts) (now (bytes .entry)) decimal start len (worked.Text place count) ⌝ }
 {
@@ -143,7 +143,7 @@ fn move_literal(
             true,
             start,
             len,
-            text::from_alpha(parts.top, &unit[from..end]),
+            text::from_alpha(parts.dialect.top, &unit[from..end]),
         );
     }
     put(Write::Literal {
@@ -165,7 +165,7 @@ pub fn move_worked(
     w: Worked,
 ) -> Turn
     requires { ⌜ Fills (now unit) parts ⌝ }
-    requires { ⌜ Dialect parts ⌝ }
+    requires { ⌜ SoundDialect (parts .dialect) ⌝ }
     requires { ⌜ Within (codeOf (now unit) parts) (length (now bytes)) w ⌝ }
     ensures { λ r. ⌜ r ≡ moveWorked (codeOf (now (unit .entry)) parts) (now (bytes .entry)) decimal start len w ⌝ }
 {
@@ -213,7 +213,7 @@ pub fn count_at(
     start: usize,
     len: usize,
 ) -> Turn
-    requires { ⌜ Dialect parts ⌝ }
+    requires { ⌜ SoundDialect (parts .dialect) ⌝ }
     requires { ⌜ start + len ≤ length (now bytes) ⌝ }
     ensures { λ r. ⌜ r ≡ countAt (codeOf (now (unit .entry)) parts) (now (bytes .entry)) up decimal start len ⌝ }
 {
@@ -221,7 +221,7 @@ pub fn count_at(
         return fails(Fault::Malformed);
     }
     match run_items::read_at(parts, bytes, start, len) {
-        Num::Value(v) => move_num(true, start, len, count_value(parts.top, up, v)),
+        Num::Value(v) => move_num(true, start, len, count_value(parts.dialect.top, up, v)),
         Num::Failed(e) => fails(e),
     }
 }

@@ -19,7 +19,7 @@ use Rattle.rules.proofs.Range.{of-range}
 use Rattle.rules_unit.specs.declared.Parts.{Parts}
 use Rattle.rules_unit.specs.declared.Item.{Item}
 use Rattle.rules_unit.specs.Codes.{Code}
-use Rattle.rules_unit.specs.Decode.{Dialect, codeOf}
+use Rattle.rules_unit.specs.Decode.{SoundDialect, codeOf}
 use Rattle.rules_run.specs.declared.Worked.{Worked}
 use Rattle.rules_run.specs.declared.Flow.{Flow}
 use Rattle.rules_run.specs.declared.Flow.the-variants as flow
@@ -37,10 +37,10 @@ module _ (c : Code) (d : List ℕ) (x w : Worked) (r : Num) (k : ℤ → Flow) (
   jump-failed f h j = rw (← e, sym q ∙ h) j
 
 -- the number is in the range of values
-pub number-again : (u : List ℕ) (p : Parts) (d : List ℕ) (is : List Item) (x : Worked) (r : Num) (v : ℤ) → Dialect p → x ≡ workedOf (codeOf u p) d is
+pub number-again : (u : List ℕ) (p : Parts) (d : List ℕ) (is : List Item) (x : Worked) (r : Num) (v : ℤ) → SoundDialect (p .dialect) → x ≡ workedOf (codeOf u p) d is
     → r ≡ numberOf (codeOf u p) d x → r ≡ Value v → Val (10 ^ 18) (toZ w64 (ofZ w64 v))
 number-again u p d is x r v dialect e q h =
-    let most : 10 ^ p .digits ≤ 10 ^ 18 = pow-le18 (omega (arith, dialect .limit .most)) in
+    let most : 10 ^ p .dialect .limit ≤ 10 ^ 18 = pow-le18 (omega (arith, dialect .limit .most)) in
     let c : Code = codeOf u p in
     again
     (of-range (sym q ∙ h)

@@ -12,7 +12,7 @@ use Rattle.rules_unit.specs.declared.Parts.{Parts}
 use Rattle.rules_unit.specs.declared.Item.{Item}
 use Rattle.rules_unit.specs.declared.Statement.{Statement}
 use Rattle.rules_unit.specs.Codes.{Code}
-use Rattle.rules_unit.specs.Decode.{Dialect, codeOf}
+use Rattle.rules_unit.specs.Decode.{SoundDialect, codeOf}
 use Rattle.rules_run.specs.declared.Worked.{Worked}
 use Rattle.rules_run.specs.declared.Worked.the-variants as worked
 use Rattle.rules_run.specs.declared.Turn.{Turn}
@@ -52,10 +52,10 @@ module _ (c : Code) (d : List ℕ) (x : Act) (s : Statement) (decimal : Bool) (a
 -- ---- where a place lies
 
 -- what the expression comes to lies where the rules say
-pub within-by : (u : List ℕ) (p : Parts) (d : List ℕ) (is : List Item) (x : Worked) → Dialect p → x ≡ workedOf (codeOf u p) d is → Within (codeOf u p) (length d) x
+pub within-by : (u : List ℕ) (p : Parts) (d : List ℕ) (is : List Item) (x : Worked) → SoundDialect (p .dialect) → x ≡ workedOf (codeOf u p) d is → Within (codeOf u p) (length d) x
 within-by u p d is x dialect e = rw e (worked-within (codeOf u p) d (dialect .limit) (dialect .bound) is)
 
 -- a place lies inside the data
-pub found-inside : (u : List ℕ) (p : Parts) (d : List ℕ) (is : List Item) (x : Worked) → Dialect p → x ≡ workedOf (codeOf u p) d is
+pub found-inside : (u : List ℕ) (p : Parts) (d : List ℕ) (is : List Item) (x : Worked) → SoundDialect (p .dialect) → x ≡ workedOf (codeOf u p) d is
     → (decimal : Bool) (a n : ℕ) → x ≡ worked.Place decimal a n → a + n ≤ length d
 found-inside u p d is x dialect e decimal a n h = subst (Within (codeOf u p) (length d)) h (within-by u p d is x dialect e) .0

@@ -14,7 +14,7 @@ ghost use Prim.Native.Nat.{_+_, _^_, _≤_, _<_};
 ghost use lib.ListN.{length};
 ghost use Rattle.rules.specs.Values.{Val};
 ghost use Rattle.rules_unit.specs.declared.Verb.the-variants as verb;
-ghost use Rattle.rules_unit.specs.Decode.{Fills, Dialect, codeOf};
+ghost use Rattle.rules_unit.specs.Decode.{Fills, SoundDialect, codeOf};
 ghost use Rattle.rules_unit.specs.Sound.{ShapeSound};
 ghost use Rattle.rules_run.specs.Turns.{ifZero, choose, actAt, turnBy, turnOf};
 
@@ -32,7 +32,7 @@ fn at_place(
     len: usize,
 ) -> Turn
     requires { ⌜ Fills (now unit) parts ⌝ }
-    requires { ⌜ Dialect parts ⌝ }
+    requires { ⌜ SoundDialect (parts .dialect) ⌝ }
     requires { ⌜ length (now bytes) < 65536 ⌝ }
     requires { ⌜ start + len ≤ length (now bytes) ⌝ }
     ensures { λ r. ⌜ r ≡ actAt (codeOf (now (unit .entry)) parts) (now (bytes .entry)) act s decimal start len ⌝ }
@@ -55,7 +55,7 @@ fn at_place(
 // What a statement with a place answers. Only a computed GOTO looks at its own number, so the contracts of the others name 0.
 fn on_place(unit: &[u8], parts: Parts, bytes: &[u8], act: Act, s: Statement) -> Turn
     requires { ⌜ Fills (now unit) parts ⌝ }
-    requires { ⌜ Dialect parts ⌝ }
+    requires { ⌜ SoundDialect (parts .dialect) ⌝ }
     requires { ⌜ length (now bytes) < 65536 ⌝ }
     ensures { λ r. ⌜ r ≡ turnBy (codeOf (now (unit .entry)) parts) 0 (now (bytes .entry)) (verb.At act) s ⌝ }
 {
@@ -86,7 +86,7 @@ fn zero_flow(target: u16, v: i64) -> Flow
 // Go to the target if a number is zero.
 fn if_zero(unit: &[u8], parts: Parts, bytes: &[u8], s: Statement) -> Turn
     requires { ⌜ Fills (now unit) parts ⌝ }
-    requires { ⌜ Dialect parts ⌝ }
+    requires { ⌜ SoundDialect (parts .dialect) ⌝ }
     requires { ⌜ length (now bytes) < 65536 ⌝ }
     ensures { λ r. ⌜ r ≡ turnBy (codeOf (now (unit .entry)) parts) 0 (now (bytes .entry)) verb.IfZero s ⌝ }
 {
@@ -120,7 +120,7 @@ fn chosen(at: u16, n: u16, v: i64) -> Flow
 // Computed GOTO.
 fn computed(unit: &[u8], parts: Parts, bytes: &[u8], at: u16, s: Statement) -> Turn
     requires { ⌜ Fills (now unit) parts ⌝ }
-    requires { ⌜ Dialect parts ⌝ }
+    requires { ⌜ SoundDialect (parts .dialect) ⌝ }
     requires { ⌜ length (now bytes) < 65536 ⌝ }
     requires { ⌜ at + s .a < 65535 ⌝ }
     ensures { λ r. ⌜ r ≡ turnBy (codeOf (now (unit .entry)) parts) at (now (bytes .entry)) verb.Computed s ⌝ }
@@ -139,7 +139,7 @@ fn computed(unit: &[u8], parts: Parts, bytes: &[u8], at: u16, s: Statement) -> T
 // function has one caller, `run_loop::turn_at`, which says why.
 pub fn work(unit: &[u8], parts: Parts, bytes: &[u8], at: u16) -> Turn
     requires { ⌜ Fills (now unit) parts ⌝ }
-    requires { ⌜ Dialect parts ⌝ }
+    requires { ⌜ SoundDialect (parts .dialect) ⌝ }
     requires { ⌜ length (now bytes) < 65536 ⌝ }
     requires { ⌜ at < parts .n ⌝ }
     requires { ⌜ ShapeSound (codeOf (now unit) parts) at ⌝ }

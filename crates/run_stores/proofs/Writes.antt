@@ -62,11 +62,11 @@ module _ (c : Code) (d : List ℕ) (w : Write) (room : Room c (length d) w) wher
   unfolding applied
   applied-nothing e = rw e
 
-  pub applied-number : (ys : List ℕ) (a n : ℕ) (v : ℤ) → w ≡ write.Number a n v → ys ≡ stored d a (written (c .sign) n (toZ w64 (ofZ w64 v))) → ys ≡ applied c d w
+  pub applied-number : (ys : List ℕ) (a n : ℕ) (v : ℤ) → w ≡ write.Number a n v → ys ≡ stored d a (written (c .dialect .sign) n (toZ w64 (ofZ w64 v))) → ys ≡ applied c d w
   unfolding applied
   applied-number ys a n v e q =
       let r = subst (Room c (length d)) e room in
-      rw e (q ∙ ap (λ (z : ℤ). stored d a (written (c .sign) n z)) (back (val-fits (r .2))))
+      rw e (q ∙ ap (λ (z : ℤ). stored d a (written (c .dialect .sign) n z)) (back (val-fits (r .2))))
 
   pub applied-show : (ys : List ℕ) (a n : ℕ) (v : ℤ) → w ≡ write.Show a n v → ys ≡ stored d a (shown n (toZ w64 (ofZ w64 v))) → ys ≡ applied c d w
   unfolding applied

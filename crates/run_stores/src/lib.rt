@@ -7,18 +7,18 @@ ghost use Prim.Native.Nat.{_+_, _^_, _≤_};
 ghost use lib.ListN.{length, take, drop};
 ghost use Rattle.rules.specs.Values.{Val};
 ghost use Rattle.rules.specs.Moves.{written, shown, fitted};
-ghost use Rattle.rules_unit.specs.Decode.{Fills, Dialect, codeOf};
+ghost use Rattle.rules_unit.specs.Decode.{Fills, SoundDialect, codeOf};
 ghost use Rattle.rules_run.specs.Turns.{stored, cased, cleared, applied, Room};
 
 // A number in a decimal span.
 fn store_number(parts: Parts, bytes: &mut [u8], start: usize, len: usize, v: i64)
-    requires { ⌜ Dialect parts ⌝ }
+    requires { ⌜ SoundDialect (parts .dialect) ⌝ }
     requires { ⌜ (start + len ≤ length (now bytes)) × (len ≤ 18) ⌝ }
     requires { ⌜ Val (10 ^ 18) v ⌝ }
-    ensures { λ _. ⌜ now (bytes .exit) ≡ stored (now (bytes .entry)) start (written (parts .sign) len v) ⌝ }
+    ensures { λ _. ⌜ now (bytes .exit) ≡ stored (now (bytes .entry)) start (written (parts .dialect .sign) len v) ⌝ }
 {
     let end = start + len;
-    text::write(parts.sign, &mut bytes[start..end], v)
+    text::write(parts.dialect.sign, &mut bytes[start..end], v)
 }
 
 // A number in an alpha span.
@@ -132,7 +132,7 @@ fn store_cased(bytes: &mut [u8], start: usize, len: usize, upper: bool)
 // Stores what a statement answered. Data changes here and nowhere else.
 pub fn store(unit: &[u8], parts: Parts, bytes: &mut [u8], w: Write)
     requires { ⌜ Fills (now unit) parts ⌝ }
-    requires { ⌜ Dialect parts ⌝ }
+    requires { ⌜ SoundDialect (parts .dialect) ⌝ }
     requires { ⌜ Room (codeOf (now unit) parts) (length (now bytes)) w ⌝ }
     ensures { λ _. ⌜ now (bytes .exit) ≡ applied (codeOf (now (unit .entry)) parts) (now (bytes .entry)) w ⌝ }
 {

@@ -1,5 +1,6 @@
 // The coded unit's bytes, decoded: words, the trailer, field entries, items, statements; and the table of statements. Nothing is checked here.
 use rules_unit::Act;
+use rules_unit::Dialect;
 use rules_unit::Field;
 use rules_unit::How;
 use rules_unit::Item;
@@ -52,9 +53,11 @@ pub fn parts_of(u: &[u8]) -> Parts
         e: word(u, t + 4),
         p: word(u, t + 6),
         n: word(u, t + 8),
-        digits: 18,
-        sign: 0x70,
-        top: 1000000000000000000,
+        dialect: Dialect {
+            limit: 18,
+            sign: 0x70,
+            top: 1000000000000000000,
+        },
     }
 }
 

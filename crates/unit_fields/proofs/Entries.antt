@@ -41,14 +41,14 @@ entryOf limit size f floor =
     not (isBad (f .kind)) && eqb (f .zero) 0 && leb 1 (f .size) && leb 1 (f .count) && restOf limit size f floor
 
 module _ (u : List ℕ) (p : Parts) (i floor : ℕ) (f : Field) (read : f ≡ codeOf u p .field i) where
-  pub entry-by : (z : Bool) → z ≡ entryOf (p .digits) (p .d) f floor → z ≡ entryb (codeOf u p) i floor
+  pub entry-by : (z : Bool) → z ≡ entryOf (p .dialect .limit) (p .d) f floor → z ≡ entryb (codeOf u p) i floor
   unfolding entryb
-  entry-by z h = subst (λ (x : Field). z ≡ entryOf (p .digits) (p .d) x floor) read h
+  entry-by z h = subst (λ (x : Field). z ≡ entryOf (p .dialect .limit) (p .d) x floor) read h
 
   -- past the first four tests, with the data's length in hand and the entry's end
   module _ (bad : Bool) (b₁ : bad ≡ isBad (f .kind)) (b₂ : bad ≡ false) (zero : f .zero ≡ 0) (some : 1 ≤ f .size) (many : 1 ≤ f .count)
       (size end : ℕ) (s₁ : size ≡ p .d) (s₂ : end ≡ f .offset + f .count * f .size) where
-    past : (z : Bool) → z ≡ restOf (p .digits) size f floor → z ≡ entryb (codeOf u p) i floor
+    past : (z : Bool) → z ≡ restOf (p .dialect .limit) size f floor → z ≡ entryb (codeOf u p) i floor
     past z h = entry-by z (rw (← b₁, b₂, eq-eqb (f .zero) 0 zero, le-leb 1 (f .size) some, le-leb 1 (f .count) many, ← s₁) h)
 
     pub entry-long : size < end → false ≡ entryb (codeOf u p) i floor
@@ -63,8 +63,8 @@ module _ (u : List ℕ) (p : Parts) (i floor : ℕ) (f : Field) (read : f ≡ co
         entry-below l = past false (rw (← s₂, le-leb end size fits, ← w₁, w₂, ← o, lt-leb floor start l))
 
         module _ (up : floor ≤ start) (number : Bool) (n₁ : number ≡ isDecimal (f .kind)) where
-          pub entry-decimal : number ≡ true → leb (f .size) (p .digits) ≡ entryb (codeOf u p) i floor
-          entry-decimal t = past (leb (f .size) (p .digits)) (rw (← s₂, le-leb end size fits, ← w₁, w₂, ← o, le-leb floor start up, ← n₁, t))
+          pub entry-decimal : number ≡ true → leb (f .size) (p .dialect .limit) ≡ entryb (codeOf u p) i floor
+          entry-decimal t = past (leb (f .size) (p .dialect .limit)) (rw (← s₂, le-leb end size fits, ← w₁, w₂, ← o, le-leb floor start up, ← n₁, t))
 
           pub entry-alpha : number ≡ false → true ≡ entryb (codeOf u p) i floor
           entry-alpha t = past true (rw (← s₂, le-leb end size fits, ← w₁, w₂, ← o, le-leb floor start up, ← n₁, t))

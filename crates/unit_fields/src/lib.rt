@@ -118,7 +118,7 @@ fn entry_good(unit: &[u8], parts: Parts, i: u16, floor: usize) -> bool
         return false; // The offset does not rise, or a byte is shared.
     }
     if unit_sorts::is_decimal(kind) {
-        return field.size <= parts.digits;
+        return field.size <= parts.dialect.limit;
     }
     true
 }

@@ -63,27 +63,27 @@ module _ (u : List ℕ) (p : Parts) (place len : ℕ) where
   unfolding numberb
   number-empty h = sym (rw (lt-leb 1 len h))
 
-  pub number-long : p .digits < len → false ≡ numberb (codeOf u p) place len
+  pub number-long : p .dialect .limit < len → false ≡ numberb (codeOf u p) place len
   unfolding numberb
-  number-long h = sym (rw (le-leb 1 len (omega arith), lt-leb len (p .digits) h))
+  number-long h = sym (rw (le-leb 1 len (omega arith), lt-leb len (p .dialect .limit) h))
 
   pub text-empty : len < 1 → false ≡ textb (codeOf u p) place len
   unfolding textb
   text-empty h = sym (rw (lt-leb 1 len h))
 
   module _ (fills : Fills u p) (some : 1 ≤ len) (f n m : ℕ) (ef : f ≡ place) (en : n ≡ len) (em : m ≡ p .p) where
-    pub number-past : len ≤ p .digits → m < f + n → false ≡ numberb (codeOf u p) place len
+    pub number-past : len ≤ p .dialect .limit → m < f + n → false ≡ numberb (codeOf u p) place len
     unfolding numberb
     number-past g h =
-        sym (rw (le-leb 1 len some, le-leb len (p .digits) g, lt-leb (place + len) (length (codeOf u p .literals)) (omega (arith, literals-length u p fills))))
+        sym (rw (le-leb 1 len some, le-leb len (p .dialect .limit) g, lt-leb (place + len) (length (codeOf u p .literals)) (omega (arith, literals-length u p fills))))
 
-    pub number-there : (start : ℕ) (r : Bool) → len ≤ p .digits → f + n ≤ m → start ≡ literalsAt p
+    pub number-there : (start : ℕ) (r : Bool) → len ≤ p .dialect .limit → f + n ≤ m → start ≡ literalsAt p
         → r ≡ digitsb (take (start + f + n - (start + f)) (drop (start + f) u)) → r ≡ numberb (codeOf u p) place len
     unfolding numberb
     number-there start r g h es q =
         let size : start + f + n - (start + f) ≡ len = omega arith in
         let from : start + f ≡ literalsAt p + place = omega arith in
-        rw (le-leb 1 len some, le-leb len (p .digits) g, le-leb (place + len) (length (codeOf u p .literals)) (omega (arith, literals-length u p fills)))
+        rw (le-leb 1 len some, le-leb len (p .dialect .limit) g, le-leb (place + len) (length (codeOf u p .literals)) (omega (arith, literals-length u p fills)))
         (rw (literal-part u p fills place len (omega arith)) (rw (size, from) at q))
 
     pub text-there : leb (f + n) m ≡ textb (codeOf u p) place len

@@ -92,7 +92,7 @@ fn number_good(unit: &[u8], parts: Parts, place: u16, len: u16) -> bool
     if len < 1 {
         return false;
     }
-    if parts.digits < len {
+    if parts.dialect.limit < len {
         return false;
     }
     let from = unit_decode::long(place);
