@@ -9,7 +9,7 @@ use Prim.Native.Nat.{ℕ}
 use lib.ListN.{take}
 use Rattle.rules.specs.Values.{readFrom, readOf}
 use Rattle.rules.specs.Moves.{placed}
-use Rattle.rules_unit.specs.Decode.{partsOf, kindOf, fieldAt, referenceAt, itemBy, itemAt, itemsIn, itemsAt, statementAt}
+use Rattle.rules_unit.specs.Decode.{markOf, partsOf, kindOf, fieldAt, referenceAt, itemBy, itemAt, itemsIn, itemsAt, statementAt}
 use Rattle.rules_unit.specs.Table.{verbOf}
 use Rattle.rules_unit.specs.Expressions.{sortFrom, sortAt, usesb}
 use Rattle.rules_unit.specs.Checks.{filledb, rangesb, entryb, goodFields, rowb, shapeb, foundOf, statementsFrom, partsCheck, checkOf}
@@ -45,5 +45,5 @@ pub record Example : Type 0 where
   pub leaves : ran .bytes ≡ bytes "42"
 
 pub example : Example
-unfolding readOf readFrom placed partsOf kindOf fieldAt referenceAt itemBy itemAt itemsIn itemsAt statementAt verbOf sortFrom sortAt usesb filledb rangesb entryb goodFields rowb shapeb foundOf statementsFrom partsCheck checkOf within spanOf placeBy place lastOf workedFrom workedOf returnsb soundb stored applied turnBy turnOf movedBy runFrom runChecked runOf
+unfolding readOf readFrom placed markOf partsOf kindOf fieldAt referenceAt itemBy itemAt itemsIn itemsAt statementAt verbOf sortFrom sortAt usesb filledb rangesb entryb goodFields rowb shapeb foundOf statementsFrom partsCheck checkOf within spanOf placeBy place lastOf workedFrom workedOf returnsb soundb stored applied turnBy turnOf movedBy runFrom runChecked runOf
 example = record { stops = refl; reached = refl; completed = refl; leaves = refl }

@@ -24,7 +24,7 @@ use Rattle.rules_unit.specs.declared.Checked.the-variants as checked
 use Rattle.rules_unit.specs.Codes.{Code}
 use Rattle.rules_unit.specs.Sound.{Filled}
 use Rattle.rules_unit.proofs.Sound.{check-only}
-use Rattle.rules_unit.specs.Decode.{fullLength, partsOf, kindOf, fieldAt, referenceAt, numberAt, textAt, itemBy, itemAt, itemsIn, itemsAt, statementAt}
+use Rattle.rules_unit.specs.Decode.{fullLength, markOf, partsOf, kindOf, fieldAt, referenceAt, numberAt, textAt, itemBy, itemAt, itemsIn, itemsAt, statementAt}
 use Rattle.rules_unit.specs.Table.{verbOf}
 use Rattle.rules_unit.specs.Expressions.{digitsb, numberb, textb, sortFrom, sortAt, usesb}
 use Rattle.rules_unit.specs.Checks.{filledb, rangesb, entryb, goodFields, gotosb, tableb, rowb, shapeb, foundOf, statementsFrom, partsCheck, checkOf}
@@ -88,7 +88,7 @@ refusals =
     ∷ []
 
 pub refusals-hold : AllHold refusals
-unfolding partsOf kindOf fieldAt referenceAt numberAt textAt itemBy itemAt itemsIn itemsAt statementAt verbOf digitsb numberb textb sortFrom sortAt usesb filledb rangesb entryb goodFields gotosb tableb rowb shapeb foundOf statementsFrom partsCheck checkOf
+unfolding markOf partsOf kindOf fieldAt referenceAt numberAt textAt itemBy itemAt itemsIn itemsAt statementAt verbOf digitsb numberb textb sortFrom sortAt usesb filledb rangesb entryb goodFields gotosb tableb rowb shapeb foundOf statementsFrom partsCheck checkOf
 refusals-hold = refl
 
 -- ---- fields
@@ -120,11 +120,11 @@ orders =
     ∷ []
 
 pub orders-hold : AllHold orders
-unfolding partsOf kindOf fieldAt statementAt verbOf usesb filledb rangesb entryb goodFields rowb shapeb foundOf statementsFrom partsCheck checkOf
+unfolding markOf partsOf kindOf fieldAt statementAt verbOf usesb filledb rangesb entryb goodFields rowb shapeb foundOf statementsFrom partsCheck checkOf
 orders-hold = refl
 
 pub fields-hold : AllHold fields
-unfolding partsOf kindOf fieldAt statementAt verbOf usesb filledb rangesb entryb goodFields rowb shapeb foundOf statementsFrom partsCheck checkOf
+unfolding markOf partsOf kindOf fieldAt statementAt verbOf usesb filledb rangesb entryb goodFields rowb shapeb foundOf statementsFrom partsCheck checkOf
 fields-hold = refl
 
 -- ---- expressions
@@ -153,7 +153,7 @@ expressions =
     ∷ []
 
 pub expressions-hold : AllHold expressions
-unfolding partsOf kindOf fieldAt referenceAt numberAt textAt itemBy itemAt itemsIn itemsAt statementAt verbOf digitsb numberb textb sortFrom sortAt usesb filledb rangesb entryb goodFields rowb shapeb foundOf statementsFrom partsCheck checkOf
+unfolding markOf partsOf kindOf fieldAt referenceAt numberAt textAt itemBy itemAt itemsIn itemsAt statementAt verbOf digitsb numberb textb sortFrom sortAt usesb filledb rangesb entryb goodFields rowb shapeb foundOf statementsFrom partsCheck checkOf
 expressions-hold = refl
 
 -- ---- lengths and tables
@@ -173,7 +173,7 @@ too-many c i n h = rw (le-leb 1 n (omega (arith, h)), lt-leb n 255 (omega (arith
 
 -- "needs n GOTO statements right after it inside the unit"
 pub table-outside : last-of-all ≡ refusal 5 0
-unfolding partsOf numberAt itemBy itemAt itemsIn itemsAt statementAt verbOf digitsb numberb sortFrom sortAt usesb filledb rangesb entryb goodFields gotosb tableb rowb shapeb foundOf statementsFrom partsCheck checkOf
+unfolding markOf partsOf numberAt itemBy itemAt itemsIn itemsAt statementAt verbOf digitsb numberb sortFrom sortAt usesb filledb rangesb entryb goodFields gotosb tableb rowb shapeb foundOf statementsFrom partsCheck checkOf
 table-outside = refl
 
 -- ---- "At most 16 values are held at once"

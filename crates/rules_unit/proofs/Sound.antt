@@ -7,36 +7,58 @@
 use Prim.Native.Nat.{ℕ, _-_, _<_, _≤_}
 use native.Mathlib.Omega.{arith}
 use mathlib.Core.Path.{_≡_, refl, sym, _∙_, subst}
-use mathlib.Core.Bool.{Bool, true, false, cond}
+use mathlib.Core.Bool.{Bool, true, false, cond, true≢false}
 use mathlib.Core.List.{List}
-use lib.Dec.{ltb}
+use lib.Dec.{ltb, eqb}
 use lib.ListN.{length, getD}
-use borrow.Author.Tests.{ltb-true, ltb-false, lt-ltb, le-ltb}
+use borrow.Author.Tests.{ltb-true, ltb-false, eqb-true, lt-ltb, le-ltb, eq-eqb}
+use Rattle.rules_unit.specs.declared.Mark.the-variants as mark
 use Rattle.rules_unit.specs.declared.Parts.{Parts}
 use Rattle.rules_unit.specs.declared.Refusal.the-variants as refusal
 use Rattle.rules_unit.specs.declared.Checked.{Checked}
 use Rattle.rules_unit.specs.declared.Checked.the-variants as checked
 use Rattle.rules_unit.specs.Codes.{Code, decimalb, offsetOf, endOf}
-use Rattle.rules_unit.specs.Decode.{Fills, partsOf, fullLength, codeOf}
+use Rattle.rules_unit.specs.Decode.{Fills, eighteen, markOf, isWrong, partsOf, fullLength, codeOf}
 use Rattle.rules_unit.specs.Checks.{filledb, rangesb, goodFields, statementsFrom, partsCheck, checkOf}
 use Rattle.rules_unit.specs.Sound.{Filled, Ranges, SoundCode, SoundUnit}
 use Rattle.rules_unit.specs.Answers.{FirstField, FirstThree, Says}
-use Rattle.rules_unit.proofs.Tells.{Tells, tells-le, tells-eq, tells-as, tells-and, tells-no, tells-fails}
+use Rattle.rules_unit.proofs.Tells.{Tells, tells-le, tells-eq, tells-as, tells-and, tells-not, tells-no, tells-fails}
 use Rattle.rules_unit.proofs.Fields.{Upto, fields-upto, upto-only, decimal-not}
 use Rattle.rules_unit.proofs.Statements.{Scans, statements-say, statements-pass, statements-shape, statements-use}
 
 -- ---- 1 and 2
 
+-- the mark that is not wrong
+mark-bytes : (u : List ℕ) → isWrong (markOf u) ≡ false → (getD u (length u - 2) 0 ≡ 0x44) × (getD u (length u - 1) 0 ≡ 0x42)
+unfolding markOf
+mark-bytes u = by (eqb first 0x44) (eqb last 0x42) refl refl
+  where
+    first : ℕ
+    first = getD u (length u - 2) 0
+
+    last : ℕ
+    last = getD u (length u - 1) 0
+
+    by : (s t : Bool) → eqb first 0x44 ≡ s → eqb last 0x42 ≡ t → isWrong (cond s (cond t (mark.Names eighteen) mark.Wrong) mark.Wrong) ≡ false
+        → (first ≡ 0x44) × (last ≡ 0x42)
+    by true true e f q = (eqb-true first 0x44 e, eqb-true last 0x42 f)
+    by true false e f q = absurd (true≢false q)
+    by false t e f q = absurd (true≢false q)
+
+mark-right : (u : List ℕ) → getD u (length u - 2) 0 ≡ 0x44 → getD u (length u - 1) 0 ≡ 0x42 → isWrong (markOf u) ≡ false
+unfolding markOf
+mark-right u e f = rw (eq-eqb (getD u (length u - 2) 0) 0x44 e, eq-eqb (getD u (length u - 1) 0) 0x42 f)
+
 pub filled-tells : (u : List ℕ) → Tells (filledb u) (Filled u)
 unfolding filledb
 filled-tells u =
     tells-as
-    (λ r. record { least = r .0; most = r .1 .0; mark = r .1 .1 .0; mark-last = r .1 .1 .1 .0; fills = record { whole = r .1 .1 .1 .1 } })
-    (λ r. (r .least, (r .most, (r .mark, (r .mark-last, r .fills .whole)))))
+    (λ r.
+    let m = mark-bytes u (r .1 .1 .0) in
+    record { least = r .0; most = r .1 .0; mark = m .0; mark-last = m .1; fills = record { whole = r .1 .1 .1 } })
+    (λ r. (r .least, (r .most, (mark-right u (r .mark) (r .mark-last), r .fills .whole))))
     (tells-and (tells-le 12 (length u))
-    (tells-and (tells-le (length u) 57353)
-    (tells-and (tells-eq (getD u (length u - 2) 0) 0x44)
-    (tells-and (tells-eq (getD u (length u - 1) 0) 0x42) (tells-eq (fullLength (partsOf u)) (length u))))))
+    (tells-and (tells-le (length u) 57353) (tells-and (tells-not (isWrong (markOf u))) (tells-eq (fullLength (partsOf u)) (length u)))))
 
 pub ranges-tell : (p : Parts) → Tells (rangesb p) (Ranges p)
 unfolding rangesb

@@ -1,6 +1,7 @@
 -- The bytes of a unit, decoded (document 01, "The coded unit"). Nothing is checked here: what the checks refuse decodes to Bad, or to anything.
 --   wordAt u at            a number of two bytes
---   partsOf u              the trailer; SoundDialect d, what is asked of a dialect
+--   markOf u               the mark; dialectOf the dialect that it names; SoundDialect d, what is asked of a dialect
+--   partsOf u              the trailer
 --   fieldsAt .. fullLength where each part starts, and the length that they fill; Fills u p says that they do
 --   fieldAt, statementAt u at    an entry at an offset of the unit
 --   itemAt s at            an item at an offset of the expressions s; itemsAt the expression that starts there
@@ -8,12 +9,14 @@
 -- Assumes nothing.
 use mathlib.Core.Path.{_≡_}
 use Prim.Native.Nat.{ℕ, zero, suc, _+_, _-_, _*_, _^_}
-use mathlib.Core.Bool.{cond}
+use mathlib.Core.Bool.{Bool, true, false, cond}
 use mathlib.Core.List.{List, [], _∷_}
 use lib.Dec.{ltb, eqb}
 use lib.ListN.{length, getD, take, drop}
 use Rattle.rules.specs.Values.{Limit, Letters, Top}
 use Rattle.rules_unit.specs.declared.Dialect.{Dialect}
+use Rattle.rules_unit.specs.declared.Mark.{Mark}
+use Rattle.rules_unit.specs.declared.Mark.the-variants as mark
 use Rattle.rules_unit.specs.declared.Parts.{Parts}
 use Rattle.rules_unit.specs.declared.Kind.{Kind}
 use Rattle.rules_unit.specs.declared.Kind.the-variants as kind
@@ -30,10 +33,38 @@ use Rattle.rules_unit.specs.Codes.{Code}
 abbrev pub wordAt : List ℕ → ℕ → ℕ
 wordAt u at = getD u at 0 * 256 + getD u (at + 1) 0
 
+-- ---- the dialect
+
+-- Eighteen digits, and the sign letters p to y.
+abbrev pub eighteen : Dialect
+eighteen = record { limit = 18; sign = 0x70; top = 10 ^ 18 }
+
+-- "then the bytes 44 42 (hex)": this mark names the dialect of eighteen digits, and any other is wrong.
+unfoldable pub markOf : List ℕ → Mark
+markOf u =
+    cond (eqb (getD u (length u - 2) 0) 0x44)
+    (cond (eqb (getD u (length u - 1) 0) 0x42) (mark.Names eighteen)
+    mark.Wrong) mark.Wrong
+
+abbrev pub isWrong : Mark → Bool
+isWrong (mark.Names d) = false
+isWrong mark.Wrong = true
+
+-- The dialect that a mark names. A wrong one names none; check 1 refuses it, whatever it is decoded to here.
+abbrev pub dialectOf : Mark → Dialect
+dialectOf (mark.Names d) = d
+dialectOf mark.Wrong = eighteen
+
+-- What is asked of a dialect's numbers.
+pub record SoundDialect (d : Dialect) : Type 0 where
+  pub limit : Limit (d .limit)
+  pub letters : Letters (d .sign)
+  pub bound : Top (d .top)
+  pub tens : d .top ≡ 10 ^ d .limit
+
 -- ---- the parts
 
--- "The last 12 bytes are a trailer that points back: lengths D, F, E, P, N (two bytes each), then the bytes 44 42 (hex)." That mark names
--- the dialect of eighteen digits whose sign letters are p to y.
+-- "The last 12 bytes are a trailer that points back: lengths D, F, E, P, N (two bytes each), then the bytes 44 42 (hex)."
 unfoldable pub partsOf : List ℕ → Parts
 partsOf u =
     let t = length u - 12 in
@@ -43,15 +74,8 @@ partsOf u =
       e = wordAt u (t + 4);
       p = wordAt u (t + 6);
       n = wordAt u (t + 8);
-      dialect = record { limit = 18; sign = 0x70; top = 10 ^ 18 };
+      dialect = dialectOf (markOf u);
     }
-
--- What is asked of a dialect's numbers.
-pub record SoundDialect (d : Dialect) : Type 0 where
-  pub limit : Limit (d .limit)
-  pub letters : Letters (d .sign)
-  pub bound : Top (d .top)
-  pub tens : d .top ≡ 10 ^ d .limit
 
 -- "Before it lie, in this order: data image (D bytes), fields (F entries of 8), expressions (E bytes), literals (P bytes), statements (N entries of 8)."
 abbrev pub fieldsAt : Parts → ℕ

@@ -12,6 +12,12 @@ pub struct Dialect {
     pub top: u64,
 }
 
+// What the mark at a unit's end says.
+pub enum Mark {
+    Names(Dialect),
+    Wrong,
+}
+
 // The lengths of a unit's parts, as its trailer names them, and its dialect.
 pub struct Parts {
     // Bytes of data.

@@ -1,4 +1,4 @@
--- What the proofs of the decoder cite: equal parts make equal items, an entry stands at its number's place, a code above 6, and the row of a known verb.
+-- What the proofs of the decoder cite: equal parts make equal marks and items, an entry stands at its number's place, a code above 6, and the row of a known verb.
 -- Assumes nothing.
 use mathlib.Core.Path.{_≡_, ap, _∙_}
 use mathlib.Core.Bool.{false}
@@ -7,6 +7,8 @@ use Prim.Native.Nat.{ℕ, _+_, _*_, _≤_, _<_}
 use native.Mathlib.Omega.{arith}
 use lib.Dec.{ltb, eqb}
 use borrow.Author.Tests.{ltb-false, ne-eqb}
+use Rattle.rules_unit.specs.declared.Dialect.{Dialect}
+use Rattle.rules_unit.specs.declared.Mark.the-variants as mark
 use Rattle.rules_unit.specs.declared.Parts.{Parts}
 use Rattle.rules_unit.specs.declared.Field.{Field}
 use Rattle.rules_unit.specs.declared.How.{How}
@@ -18,6 +20,9 @@ use Rattle.rules_unit.specs.declared.Verb.the-variants as verb
 use Rattle.rules_unit.specs.declared.Row.{Row}
 use Rattle.rules_unit.specs.Table.{rowOf}
 use Rattle.rules_unit.specs.Decode.{fieldAt, statementAt, statementsAt, codeOf}
+
+pub names-eq : (d d′ : Dialect) → d ≡ d′ → mark.Names d ≡ mark.Names d′
+names-eq d d′ e = cc
 
 pub number-eq : (p p′ n n′ : ℕ) → p ≡ p′ → n ≡ n′ → item.Number p n ≡ item.Number p′ n′
 number-eq p p′ n n′ e f = cc

@@ -5,6 +5,7 @@ use rules_unit::Field;
 use rules_unit::How;
 use rules_unit::Item;
 use rules_unit::Kind;
+use rules_unit::Mark;
 use rules_unit::Op;
 use rules_unit::Parts;
 use rules_unit::Role;
@@ -17,7 +18,7 @@ ghost use Prim.Native.Nat.{_+_, _*_, _<_, _≤_};
 ghost use lib.ListN.{length};
 ghost use Rattle.rules_unit.specs.declared.Verb.the-variants as verb;
 ghost use Rattle.rules_unit.specs.Table.{verbOf, rowWith, rowOf};
-ghost use Rattle.rules_unit.specs.Decode.{Fills, wordAt, partsOf, kindOf, fieldAt, referenceAt, numberAt, textAt, itemBy, itemAt, widthOf, statementAt, expressionsAt, literalsAt, statementsAt, fullLength, codeOf};
+ghost use Rattle.rules_unit.specs.Decode.{Fills, wordAt, eighteen, markOf, dialectOf, partsOf, kindOf, fieldAt, referenceAt, numberAt, textAt, itemBy, itemAt, widthOf, statementAt, expressionsAt, literalsAt, statementsAt, fullLength, codeOf};
 
 // A byte as a word.
 pub fn wide(x: u8) -> u16
@@ -41,7 +42,47 @@ pub fn word(u: &[u8], at: usize) -> u16
     wide(u[at]) * 256 + wide(u[at + 1])
 }
 
-// The parts that the trailer names, with the numbers of the base's one dialect.
+// ---- the dialect
+
+// The dialect of eighteen digits, whose sign letters are p to y.
+fn eighteen() -> Dialect
+    ensures { λ r. ⌜ r ≡ eighteen ⌝ }
+{
+    Dialect {
+        limit: 18,
+        sign: 0x70,
+        top: 1000000000000000000,
+    }
+}
+
+// What the mark says, which is the last two bytes of the unit.
+pub fn mark_of(u: &[u8]) -> Mark
+    requires { ⌜ 12 ≤ length (now u) ⌝ }
+    ensures { λ r. ⌜ r ≡ markOf (now (u .entry)) ⌝ }
+{
+    let n = u.len();
+    if u[n - 2] != 0x44 {
+        return Mark::Wrong;
+    }
+    match u[n - 1] {
+        0x42 => Mark::Names(eighteen()),
+        _ => Mark::Wrong,
+    }
+}
+
+// The dialect that a mark names; any where it is wrong.
+fn dialect_of(mark: Mark) -> Dialect
+    ensures { λ r. ⌜ r ≡ dialectOf mark ⌝ }
+{
+    match mark {
+        Mark::Names(dialect) => dialect,
+        Mark::Wrong => eighteen(),
+    }
+}
+
+// ---- the parts
+
+// The parts that the trailer names, with the dialect that its mark names.
 pub fn parts_of(u: &[u8]) -> Parts
     requires { ⌜ 12 ≤ length (now u) ⌝ }
     ensures { λ r. ⌜ r ≡ partsOf (now (u .entry)) ⌝ }
@@ -53,15 +94,9 @@ pub fn parts_of(u: &[u8]) -> Parts
         e: word(u, t + 4),
         p: word(u, t + 6),
         n: word(u, t + 8),
-        dialect: Dialect {
-            limit: 18,
-            sign: 0x70,
-            top: 1000000000000000000,
-        },
+        dialect: dialect_of(mark_of(u)),
     }
 }
-
-// ---- the parts
 
 // Where the expressions start in the unit.
 pub fn expressions_offset(parts: Parts) -> usize

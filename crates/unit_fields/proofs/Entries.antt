@@ -6,23 +6,27 @@ use mathlib.Core.Path.{_≡_, sym, _∙_, subst}
 use mathlib.Core.Bool.{Bool, true, false, cond, not}
 use mathlib.Core.List.{List}
 use lib.Dec.{leb, eqb}
-use lib.ListN.{length, getD}
+use lib.ListN.{length}
 use borrow.Author.Tests.{lt-leb, le-leb, eq-eqb, ne-eqb}
 use Rattle.rules.specs.Tests.{_&&_}
 use Rattle.rules.proofs.Walk.{cond-no, cond-yes, denied-yes, denied-no}
+use Rattle.rules_unit.specs.declared.Mark.{Mark}
 use Rattle.rules_unit.specs.declared.Parts.{Parts}
 use Rattle.rules_unit.specs.declared.Field.{Field}
 use Rattle.rules_unit.specs.Codes.{Code, isBad, isDecimal, isRecord}
-use Rattle.rules_unit.specs.Decode.{partsOf, fullLength, codeOf}
+use Rattle.rules_unit.specs.Decode.{markOf, isWrong, partsOf, fullLength, codeOf}
 use Rattle.rules_unit.specs.Checks.{filledb, entryb, floorAfter, goodFields}
 use Rattle.rules_unit.proofs.Statements.{left-suc, left-none}
 
--- the last test of check 1
-pub filled-by : (u : List ℕ) (q : Parts) (r : ℕ) → 12 ≤ length u → length u ≤ 57353 → getD u (length u - 2) 0 ≡ 0x44
-    → getD u (length u - 1) 0 ≡ 0x42 → q ≡ partsOf u → r ≡ fullLength q → eqb r (length u) ≡ filledb u
-unfolding filledb
-filled-by u q r a b c d e f =
-    rw (le-leb 12 (length u) a, le-leb (length u) 57353 b, eq-eqb (getD u (length u - 2) 0) 0x44 c, eq-eqb (getD u (length u - 1) 0) 0x42 d, f, e)
+-- the last two tests of check 1: m is the mark that the code has read, and w whether it is wrong
+module _ (u : List ℕ) (m : Mark) (w : Bool) (least : 12 ≤ length u) (most : length u ≤ 57353) (read : m ≡ markOf u) (is : w ≡ isWrong m) where
+  pub filled-wrong : w ≡ true → false ≡ filledb u
+  unfolding filledb
+  filled-wrong e = rw (le-leb 12 (length u) least, le-leb (length u) 57353 most, ← read, ← is, e)
+
+  pub filled-by : (q : Parts) (r : ℕ) → w ≡ false → q ≡ partsOf u → r ≡ fullLength q → eqb r (length u) ≡ filledb u
+  unfolding filledb
+  filled-by q r e f g = rw (le-leb 12 (length u) least, le-leb (length u) 57353 most, ← read, ← is, e, g, f)
 
 -- a product of words
 pub product : (m n : ℕ) → m < 65536 → n < 65536 → m * n ≤ 65535 * 65535

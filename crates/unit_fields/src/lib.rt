@@ -1,14 +1,25 @@
 // The checks of a coded unit that need no expression: its length, the ranges of its parts and its field entries (1 to 3).
 use rules_unit::Field;
 use rules_unit::Kind;
+use rules_unit::Mark;
 use rules_unit::Parts;
 ghost use mathlib.Core.Path.{_≡_};
 ghost use Prim.Native.Nat.{_+_, _*_, _<_};
 ghost use Rattle.rules_unit.specs.Codes.{isBad, isRecord};
-ghost use Rattle.rules_unit.specs.Decode.{Fills, codeOf};
+ghost use Rattle.rules_unit.specs.Decode.{Fills, isWrong, codeOf};
 ghost use Rattle.rules_unit.specs.Checks.{filledb, rangesb, entryb, floorAfter, goodFields};
 
 // ---- 1 and 2
+
+// Whether a mark is wrong.
+fn is_wrong(mark: Mark) -> bool
+    ensures { λ r. ⌜ r ≡ isWrong mark ⌝ }
+{
+    match mark {
+        Mark::Names(_) => false,
+        Mark::Wrong => true,
+    }
+}
 
 // Check 1.
 pub fn filled(u: &[u8]) -> bool
@@ -21,10 +32,7 @@ pub fn filled(u: &[u8]) -> bool
     if 57353 < n {
         return false;
     }
-    if u[n - 2] != 0x44 {
-        return false;
-    }
-    if u[n - 1] != 0x42 {
+    if is_wrong(unit_decode::mark_of(u)) {
         return false;
     }
     unit_decode::full_length(unit_decode::parts_of(u)) == n

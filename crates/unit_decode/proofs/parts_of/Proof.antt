@@ -1,4 +1,4 @@
--- `unit_decode::parts_of` meets its contract: each part is the word that `word` reads at its place, and the dialect's numbers are the rule's.
+-- `unit_decode::parts_of` meets its contract: each part is the word that `word` reads at its place, and the dialect is the one that the mark names.
 -- Assumes nothing.
 use borrow.Author.Needs.{needs}
 use Rattle.rules_unit.specs.Decode.{partsOf}
@@ -35,6 +35,12 @@ add-word-4 c = search needs
 word-requires-5 : tie.Need-word-requires-5
 word-requires-5 c κs = search needs
 
+mark-of-requires : tie.Need-mark-of-requires
+mark-of-requires c κs = search needs
+
+dialect-of-requires : tie.Need-dialect-of-requires
+dialect-of-requires c κs = search needs
+
 returns : tie.Need-returns
 unfolding partsOf
 returns c = cc
@@ -53,4 +59,6 @@ parts-of-spec =
     word-requires-4
     add-word-4
     word-requires-5
+    mark-of-requires
+    dialect-of-requires
     returns)
