@@ -63,7 +63,7 @@ pub fn breach(unit: &[u8], i: usize) -> Breach
 pub fn breach_number(b: Breach) -> u8
     ensures { λ r. ⌜ r ≡ breachNumber b ⌝ }
 {
-    fence_statements::breach_number(b)
+    rules_fence::breach_number(b)
 }
 
 // The alpha literal of the statement i, counted from 0: the bytes of the unit itself that hold it, not a copy. It is empty unless the

@@ -15,7 +15,7 @@ ghost use Rattle.rules_unit.specs.Expressions.{useb};
 ghost use Rattle.rules_unit.specs.Checks.{checkOf};
 ghost use Rattle.rules_fence.specs.declared.Seen.the-variants as seen;
 ghost use Rattle.rules_fence.specs.Fence.{destb};
-ghost use Rattle.rules_fence.specs.Breaches.{breachNumber, keepsb, breachFrom, useBreach, breachOf};
+ghost use Rattle.rules_fence.specs.Breaches.{keepsb, breachFrom, useBreach, breachOf};
 ghost use Rattle.unit_sorts.specs.Notes.{expressionsOf};
 ghost use Rattle.fence_decimals.specs.Ahead.{Ahead};
 ghost use Rattle.fence_statements.specs.Asked.{AllKnown, closesb};
@@ -33,21 +33,6 @@ pub fn keeps(b: Breach) -> bool
         Breach::OverElements => false,
         Breach::StopsMidElement => false,
         Breach::OnDecimal => false,
-    }
-}
-
-// The number of a breach, in the order of the rules; 0 where none is broken.
-pub fn breach_number(b: Breach) -> u8
-    ensures { λ r. ⌜ r ≡ breachNumber b ⌝ }
-{
-    match b {
-        Breach::None => 0,
-        Breach::BoundNotLiteral => 1,
-        Breach::BoundsWrong => 2,
-        Breach::LeavesField => 3,
-        Breach::OverElements => 4,
-        Breach::StopsMidElement => 5,
-        Breach::OnDecimal => 6,
     }
 }
 

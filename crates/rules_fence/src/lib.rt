@@ -1,5 +1,7 @@
 // The types of the fence: what a statement breaks, what the check answers. The rules themselves stand in specs/.
 use rules_unit::Refusal;
+ghost use mathlib.Core.Path.{_≡_};
+ghost use Rattle.rules_fence.specs.Breaches.{breachNumber};
 
 // The first fence rule that a statement breaks.
 pub enum Breach {
@@ -35,4 +37,19 @@ pub enum Seen {
     Nothing,
     One { last: i64, plain: bool },
     Two { first: i64, last: i64, plain: bool },
+}
+
+// The number of a breach, in the order of the rules; 0 where none is broken.
+pub fn breach_number(b: Breach) -> u8
+    ensures { λ r. ⌜ r ≡ breachNumber b ⌝ }
+{
+    match b {
+        Breach::None => 0,
+        Breach::BoundNotLiteral => 1,
+        Breach::BoundsWrong => 2,
+        Breach::LeavesField => 3,
+        Breach::OverElements => 4,
+        Breach::StopsMidElement => 5,
+        Breach::OnDecimal => 6,
+    }
 }
