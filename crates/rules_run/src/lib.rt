@@ -3,6 +3,7 @@ use rules::Fault;
 use rules_unit::Refusal;
 ghost use mathlib.Core.Path.{_≡_};
 ghost use Prim.Native.Nat.{_+_, _<_, _≤_};
+ghost use Rattle.rules_run.specs.Turns.{failed, stores, goes};
 ghost use Rattle.rules_run.specs.States.{gone, called, returned};
 ghost use Rattle.rules_run.specs.Stops.{stopNumber};
 
@@ -85,6 +86,36 @@ pub enum Flow {
 pub struct Turn {
     pub write: Write,
     pub flow: Flow,
+}
+
+// A run error stores nothing.
+pub fn failed(e: Fault) -> Turn
+    ensures { λ r. ⌜ r ≡ failed e ⌝ }
+{
+    Turn {
+        write: Write::Nothing,
+        flow: Flow::Bad(e),
+    }
+}
+
+// A store, and on to the next statement.
+pub fn stores(w: Write) -> Turn
+    ensures { λ r. ⌜ r ≡ stores w ⌝ }
+{
+    Turn {
+        write: w,
+        flow: Flow::Next,
+    }
+}
+
+// A statement that only goes on elsewhere.
+pub fn goes(f: Flow) -> Turn
+    ensures { λ r. ⌜ r ≡ goes f ⌝ }
+{
+    Turn {
+        write: Write::Nothing,
+        flow: f,
+    }
 }
 
 // The resume state: the statement to go on at, and the calls still open with the numbers that they return to.

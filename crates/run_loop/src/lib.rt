@@ -32,11 +32,11 @@ fn turn_under(depth: u16, turn: Turn) -> Turn
             if depth < 50 {
                 return turn;
             }
-            run_moves::fails(Fault::CallsFull)
+            rules_run::failed(Fault::CallsFull)
         }
         Flow::Return => {
             if depth == 0 {
-                return run_moves::fails(Fault::NoCall);
+                return rules_run::failed(Fault::NoCall);
             }
             turn
         }

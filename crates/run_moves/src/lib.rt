@@ -1,7 +1,6 @@
 // What a statement does at a place that is found: what SET moves there, what INCR and DECR count, what UPCASE and LOCASE change. Data is only read here.
 use rules::Fault;
 use rules::Num;
-use rules_run::Flow;
 use rules_run::Turn;
 use rules_run::Worked;
 use rules_run::Write;
@@ -14,39 +13,7 @@ ghost use Rattle.rules.specs.Values.{Val};
 ghost use Rattle.rules_unit.specs.Decode.{Fills, SoundDialect, codeOf};
 ghost use Rattle.rules_run.specs.declared.Worked.the-variants as worked;
 ghost use Rattle.rules_run.specs.Evaluation.{Within};
-ghost use Rattle.rules_run.specs.Turns.{failed, stores, goes, moveNumber, moveNum, moveWorked, counted, countAt, caseAt};
-
-// ---- turns
-
-// A run error stores nothing.
-pub fn fails(e: Fault) -> Turn
-    ensures { λ r. ⌜ r ≡ failed e ⌝ }
-{
-    Turn {
-        write: Write::Nothing,
-        flow: Flow::Bad(e),
-    }
-}
-
-// A store, and on to the next statement.
-pub fn put(w: Write) -> Turn
-    ensures { λ r. ⌜ r ≡ stores w ⌝ }
-{
-    Turn {
-        write: w,
-        flow: Flow::Next,
-    }
-}
-
-// A statement that only goes on elsewhere.
-pub fn go(f: Flow) -> Turn
-    ensures { λ r. ⌜ r ≡ goes f ⌝ }
-{
-    Turn {
-        write: Write::Nothing,
-        flow: f,
-    }
-}
+ghost use Rattle.rules_run.specs.Turns.{moveNumber, moveNum, moveWorked, counted, countAt, caseAt};
 
 // ---- SET
 
@@ -55,13 +22,13 @@ fn move_number(decimal: bool, start: usize, len: usize, v: i64) -> Turn
     ensures { λ r. ⌜ r ≡ moveNumber decimal start len v ⌝ }
 {
     if decimal {
-        return put(Write::Number {
+        return rules_run::stores(Write::Number {
             start: start,
             len: len,
             value: v,
         });
     }
-    put(Write::Show {
+    rules_run::stores(Write::Show {
         start: start,
         len: len,
         value: v,
@@ -74,7 +41,7 @@ fn move_num(decimal: bool, start: usize, len: usize, n: Num) -> Turn
 {
     match n {
         Num::Value(v) => move_number(decimal, start, len, v),
-        Num::Failed(e) => fails(e),
+        Num::Failed(e) => rules_run::failed(e),
     }
 }
 
@@ -112,7 +79,7 @@ fn move_place(
             text::from_alpha(parts.dialect.top, &bytes[from..end]),
         );
     }
-    put(Write::Move {
+    rules_run::stores(Write::Move {
         start: start,
         len: len,
         from: from,
@@ -146,7 +113,7 @@ fn move_literal(
             text::from_alpha(parts.dialect.top, &unit[from..end]),
         );
     }
-    put(Write::Literal {
+    rules_run::stores(Write::Literal {
         start: start,
         len: len,
         place: place,
@@ -186,7 +153,7 @@ pub fn move_worked(
             place,
             count,
         ),
-        Worked::Failed(e) => fails(e),
+        Worked::Failed(e) => rules_run::failed(e),
     }
 }
 
@@ -218,11 +185,11 @@ pub fn count_at(
     ensures { λ r. ⌜ r ≡ countAt (codeOf (now (unit .entry)) parts) (now (bytes .entry)) up decimal start len ⌝ }
 {
     if decimal {} else {
-        return fails(Fault::Malformed);
+        return rules_run::failed(Fault::Malformed);
     }
     match run_items::read_at(parts, bytes, start, len) {
         Num::Value(v) => move_num(true, start, len, count_value(parts.dialect.top, up, v)),
-        Num::Failed(e) => fails(e),
+        Num::Failed(e) => rules_run::failed(e),
     }
 }
 
@@ -233,9 +200,9 @@ pub fn case_at(upper: bool, decimal: bool, start: usize, len: usize) -> Turn
     ensures { λ r. ⌜ r ≡ caseAt upper decimal start len ⌝ }
 {
     if decimal {
-        return fails(Fault::Malformed);
+        return rules_run::failed(Fault::Malformed);
     }
-    put(Write::Case {
+    rules_run::stores(Write::Case {
         start: start,
         len: len,
         upper: upper,

@@ -42,7 +42,7 @@ fn at_place(
             let w = run_evaluate::worked(unit, parts, bytes, s.b);
             run_moves::move_worked(unit, parts, bytes, decimal, start, len, w)
         }
-        Act::Clear => run_moves::put(Write::Clear {
+        Act::Clear => rules_run::stores(Write::Clear {
             start: start,
             len: len,
             decimal: decimal,
@@ -60,14 +60,14 @@ fn on_place(unit: &[u8], parts: Parts, bytes: &[u8], act: Act, s: Statement) -> 
     ensures { λ r. ⌜ r ≡ turnBy (codeOf (now (unit .entry)) parts) 0 (now (bytes .entry)) (verb.At act) s ⌝ }
 {
     match run_evaluate::place(unit, parts, bytes, s.a) {
-        Worked::Number(_) => run_moves::fails(Fault::Malformed),
+        Worked::Number(_) => rules_run::failed(Fault::Malformed),
         Worked::Place {
             decimal,
             start,
             len,
         } => at_place(unit, parts, bytes, act, s, decimal, start, len),
-        Worked::Text { place: _, len: _ } => run_moves::fails(Fault::Malformed),
-        Worked::Failed(e) => run_moves::fails(e),
+        Worked::Text { place: _, len: _ } => rules_run::failed(Fault::Malformed),
+        Worked::Failed(e) => rules_run::failed(e),
     }
 }
 
@@ -92,8 +92,8 @@ fn if_zero(unit: &[u8], parts: Parts, bytes: &[u8], s: Statement) -> Turn
 {
     let w = run_evaluate::worked(unit, parts, bytes, s.b);
     match run_evaluate::number_of(unit, parts, bytes, w) {
-        Num::Value(v) => run_moves::go(zero_flow(s.c, v)),
-        Num::Failed(e) => run_moves::fails(e),
+        Num::Value(v) => rules_run::goes(zero_flow(s.c, v)),
+        Num::Failed(e) => rules_run::failed(e),
     }
 }
 
@@ -127,8 +127,8 @@ fn computed(unit: &[u8], parts: Parts, bytes: &[u8], at: u16, s: Statement) -> T
 {
     let w = run_evaluate::worked(unit, parts, bytes, s.b);
     match run_evaluate::number_of(unit, parts, bytes, w) {
-        Num::Value(v) => run_moves::go(chosen(at, s.a, v)),
-        Num::Failed(e) => run_moves::fails(e),
+        Num::Value(v) => rules_run::goes(chosen(at, s.a, v)),
+        Num::Failed(e) => rules_run::failed(e),
     }
 }
 
@@ -149,12 +149,12 @@ pub fn work(unit: &[u8], parts: Parts, bytes: &[u8], at: u16) -> Turn
     let verb = unit_decode::verb_of(s.code);
     match verb {
         Verb::At(act) => on_place(unit, parts, bytes, act, s),
-        Verb::Goto => run_moves::go(Flow::Goto(s.c)),
+        Verb::Goto => rules_run::goes(Flow::Goto(s.c)),
         Verb::IfZero => if_zero(unit, parts, bytes, s),
-        Verb::Call => run_moves::go(Flow::Call(s.c)),
-        Verb::Return => run_moves::go(Flow::Return),
-        Verb::Stop => run_moves::go(Flow::Stop),
+        Verb::Call => rules_run::goes(Flow::Call(s.c)),
+        Verb::Return => rules_run::goes(Flow::Return),
+        Verb::Stop => rules_run::goes(Flow::Stop),
         Verb::Computed => computed(unit, parts, bytes, at, s),
-        Verb::Bad => run_moves::fails(Fault::Malformed),
+        Verb::Bad => rules_run::failed(Fault::Malformed),
     }
 }

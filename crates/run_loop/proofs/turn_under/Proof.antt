@@ -18,14 +18,14 @@ enum-told-3 c = search needs
 returns : tie.Need-returns
 returns c = search (under-as, walk) depth 5
 
-fails-requires : tie.Need-fails-requires
-fails-requires c κs = search needs
+failed-requires : tie.Need-failed-requires
+failed-requires c κs = search needs
 
 enum-told-4 : tie.Need-enum-told-4
 enum-told-4 c = search needs
 
-fails-requires-2 : tie.Need-fails-requires-2
-fails-requires-2 c κs = search needs
+failed-requires-2 : tie.Need-failed-requires-2
+failed-requires-2 c κs = search needs
 
 returns-2 : tie.Need-returns-2
 returns-2 c = search (under-as, walk) depth 5
@@ -62,9 +62,9 @@ turn-under-spec =
     enum-told-2
     enum-told-3
     returns
-    fails-requires
+    failed-requires
     enum-told-4
-    fails-requires-2
+    failed-requires-2
     returns-2
     enum-told-5
     enum-told-6

@@ -6,8 +6,8 @@ use Rattle.run_moves.proofs.Found.{count-alpha, count-sum, count-failed
 use Rattle.run_moves.proofs.count_at.Statement.{statement}
 use Rattle.run_moves.proofs.count_at.Tie as tie
 
-fails-requires : tie.Need-fails-requires
-fails-requires c κs = search needs
+failed-requires : tie.Need-failed-requires
+failed-requires c κs = search needs
 
 returns : tie.Need-returns
 returns c = search count-alpha depth 3
@@ -27,8 +27,8 @@ move-num-requires c κs = search needs
 enum-known-e : tie.Need-enum-known-e
 enum-known-e c = search needs
 
-fails-requires-2 : tie.Need-fails-requires-2
-fails-requires-2 c κs = search needs
+failed-requires-2 : tie.Need-failed-requires-2
+failed-requires-2 c κs = search needs
 
 returns-2 : tie.Need-returns-2
 returns-2 c = search count-sum depth 3
@@ -40,13 +40,13 @@ pub count-at-spec : {M : Type 1} → statement M
 count-at-spec =
     tie.close
     (tie.spec
-    fails-requires
+    failed-requires
     returns
     read-at-requires
     enum-known-v
     count-value-requires
     move-num-requires
     enum-known-e
-    fails-requires-2
+    failed-requires-2
     returns-2
     returns-3)

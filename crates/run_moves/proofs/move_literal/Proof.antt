@@ -40,8 +40,8 @@ move-num-requires c κs = search needs
 returns : tie.Need-returns
 returns c = search literal-alpha depth 3
 
-put-requires : tie.Need-put-requires
-put-requires c κs = search needs
+stores-requires : tie.Need-stores-requires
+stores-requires c κs = search needs
 
 returns-2 : tie.Need-returns-2
 returns-2 c = search literal-moved depth 3
@@ -61,5 +61,5 @@ move-literal-spec =
     from-alpha-requires
     move-num-requires
     returns
-    put-requires
+    stores-requires
     returns-2)

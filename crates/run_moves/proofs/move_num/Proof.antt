@@ -14,8 +14,8 @@ move-number-requires c κs = search needs
 enum-known-n-2 : tie.Need-enum-known-n-2
 enum-known-n-2 c = search needs
 
-fails-requires : tie.Need-fails-requires
-fails-requires c κs = search needs
+failed-requires : tie.Need-failed-requires
+failed-requires c κs = search needs
 
 returns : tie.Need-returns
 returns c = search num-value depth 3
@@ -26,4 +26,4 @@ returns-2 c = search num-failed depth 3
 pub move-num-spec : {M : Type 1} → statement M
 move-num-spec =
     tie.close
-    (tie.spec enum-known-n move-number-requires enum-known-n-2 fails-requires returns returns-2)
+    (tie.spec enum-known-n move-number-requires enum-known-n-2 failed-requires returns returns-2)

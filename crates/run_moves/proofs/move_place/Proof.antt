@@ -35,8 +35,8 @@ move-num-requires-2 c κs = search needs
 returns-2 : tie.Need-returns-2
 returns-2 c = search place-alpha depth 3
 
-put-requires : tie.Need-put-requires
-put-requires c κs = search needs
+stores-requires : tie.Need-stores-requires
+stores-requires c κs = search needs
 
 returns-3 : tie.Need-returns-3
 returns-3 c = search place-moved depth 3
@@ -55,5 +55,5 @@ move-place-spec =
     from-alpha-requires
     move-num-requires-2
     returns-2
-    put-requires
+    stores-requires
     returns-3)

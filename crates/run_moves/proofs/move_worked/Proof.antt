@@ -27,8 +27,8 @@ move-literal-requires c κs = (search needs, (search needs, search text-within d
 enum-known-w-4 : tie.Need-enum-known-w-4
 enum-known-w-4 c = search needs
 
-fails-requires : tie.Need-fails-requires
-fails-requires c κs = search needs
+failed-requires : tie.Need-failed-requires
+failed-requires c κs = search needs
 
 returns : tie.Need-returns
 returns c = search source-number depth 3
@@ -53,7 +53,7 @@ move-worked-spec =
     enum-known-w-3
     move-literal-requires
     enum-known-w-4
-    fails-requires
+    failed-requires
     returns
     returns-2
     returns-3

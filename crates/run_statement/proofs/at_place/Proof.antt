@@ -17,8 +17,8 @@ move-worked-requires c κs = (search needs, (search needs, search within-by dept
 enum-told-2 : tie.Need-enum-told-2
 enum-told-2 c = search needs
 
-put-requires : tie.Need-put-requires
-put-requires c κs = search needs
+stores-requires : tie.Need-stores-requires
+stores-requires c κs = search needs
 
 enum-known-act : tie.Need-enum-known-act
 enum-known-act c = search needs
@@ -52,7 +52,7 @@ at-place-spec =
     worked-requires
     move-worked-requires
     enum-told-2
-    put-requires
+    stores-requires
     enum-known-act
     count-at-requires
     enum-known-act-2

@@ -20,14 +20,14 @@ enum-known-v c = search needs
 chosen-requires : tie.Need-chosen-requires
 chosen-requires c κs = (search needs, search number-again depth 3)
 
-go-requires : tie.Need-go-requires
-go-requires c κs = search needs
+goes-requires : tie.Need-goes-requires
+goes-requires c κs = search needs
 
 enum-known-e : tie.Need-enum-known-e
 enum-known-e c = search needs
 
-fails-requires : tie.Need-fails-requires
-fails-requires c κs = search needs
+failed-requires : tie.Need-failed-requires
+failed-requires c κs = search needs
 
 returns : tie.Need-returns
 unfolding turnBy
@@ -45,8 +45,8 @@ computed-spec =
     number-of-requires
     enum-known-v
     chosen-requires
-    go-requires
+    goes-requires
     enum-known-e
-    fails-requires
+    failed-requires
     returns
     returns-2)

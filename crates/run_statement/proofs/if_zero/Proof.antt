@@ -19,14 +19,14 @@ enum-known-v c = search needs
 zero-flow-requires : tie.Need-zero-flow-requires
 zero-flow-requires c κs = search needs
 
-go-requires : tie.Need-go-requires
-go-requires c κs = search needs
+goes-requires : tie.Need-goes-requires
+goes-requires c κs = search needs
 
 enum-known-e : tie.Need-enum-known-e
 enum-known-e c = search needs
 
-fails-requires : tie.Need-fails-requires
-fails-requires c κs = search needs
+failed-requires : tie.Need-failed-requires
+failed-requires c κs = search needs
 
 returns : tie.Need-returns
 unfolding turnBy
@@ -44,8 +44,8 @@ if-zero-spec =
     number-of-requires
     enum-known-v
     zero-flow-requires
-    go-requires
+    goes-requires
     enum-known-e
-    fails-requires
+    failed-requires
     returns
     returns-2)

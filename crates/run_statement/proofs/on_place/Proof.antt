@@ -12,8 +12,8 @@ place-requires c κs = search needs
 enum-told : tie.Need-enum-told
 enum-told c = search needs
 
-fails-requires : tie.Need-fails-requires
-fails-requires c κs = search needs
+failed-requires : tie.Need-failed-requires
+failed-requires c κs = search needs
 
 enum-known-decimal : tie.Need-enum-known-decimal
 enum-known-decimal c = search needs
@@ -24,14 +24,14 @@ at-place-requires c κs = (search needs, (search needs, (search needs, search fo
 enum-told-2 : tie.Need-enum-told-2
 enum-told-2 c = search needs
 
-fails-requires-2 : tie.Need-fails-requires-2
-fails-requires-2 c κs = search needs
+failed-requires-2 : tie.Need-failed-requires-2
+failed-requires-2 c κs = search needs
 
 enum-known-e : tie.Need-enum-known-e
 enum-known-e c = search needs
 
-fails-requires-3 : tie.Need-fails-requires-3
-fails-requires-3 c κs = search needs
+failed-requires-3 : tie.Need-failed-requires-3
+failed-requires-3 c κs = search needs
 
 returns : tie.Need-returns
 unfolding turnBy
@@ -55,13 +55,13 @@ on-place-spec =
     (tie.spec
     place-requires
     enum-told
-    fails-requires
+    failed-requires
     enum-known-decimal
     at-place-requires
     enum-told-2
-    fails-requires-2
+    failed-requires-2
     enum-known-e
-    fails-requires-3
+    failed-requires-3
     returns
     returns-2
     returns-3

@@ -21,8 +21,8 @@ on-place-requires c κs = search needs
 enum-told : tie.Need-enum-told
 enum-told c = search needs
 
-go-requires : tie.Need-go-requires
-go-requires c κs = search needs
+goes-requires : tie.Need-goes-requires
+goes-requires c κs = search needs
 
 enum-told-2 : tie.Need-enum-told-2
 enum-told-2 c = search needs
@@ -33,20 +33,20 @@ if-zero-requires c κs = search needs
 enum-told-3 : tie.Need-enum-told-3
 enum-told-3 c = search needs
 
-go-requires-2 : tie.Need-go-requires-2
-go-requires-2 c κs = search needs
+goes-requires-2 : tie.Need-goes-requires-2
+goes-requires-2 c κs = search needs
 
 enum-told-4 : tie.Need-enum-told-4
 enum-told-4 c = search needs
 
-go-requires-3 : tie.Need-go-requires-3
-go-requires-3 c κs = search needs
+goes-requires-3 : tie.Need-goes-requires-3
+goes-requires-3 c κs = search needs
 
 enum-told-5 : tie.Need-enum-told-5
 enum-told-5 c = search needs
 
-go-requires-4 : tie.Need-go-requires-4
-go-requires-4 c κs = search needs
+goes-requires-4 : tie.Need-goes-requires-4
+goes-requires-4 c κs = search needs
 
 enum-told-6 : tie.Need-enum-told-6
 enum-told-6 c = search needs
@@ -57,8 +57,8 @@ computed-requires c κs = (search needs, (search needs, (search needs, search ta
 enum-told-7 : tie.Need-enum-told-7
 enum-told-7 c = search needs
 
-fails-requires : tie.Need-fails-requires
-fails-requires c κs = search needs
+failed-requires : tie.Need-failed-requires
+failed-requires c κs = search needs
 
 returns : tie.Need-returns
 unfolding turnBy
@@ -101,19 +101,19 @@ work-spec =
     enum-known-verb
     on-place-requires
     enum-told
-    go-requires
+    goes-requires
     enum-told-2
     if-zero-requires
     enum-told-3
-    go-requires-2
+    goes-requires-2
     enum-told-4
-    go-requires-3
+    goes-requires-3
     enum-told-5
-    go-requires-4
+    goes-requires-4
     enum-told-6
     computed-requires
     enum-told-7
-    fails-requires
+    failed-requires
     returns
     returns-2
     returns-3
