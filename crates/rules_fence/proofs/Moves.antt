@@ -18,6 +18,7 @@ use Rattle.rules.specs.Moves.{alphaOf}
 use Rattle.rules.proofs.Decimals.{written-valid, zeros-valid}
 use Rattle.rules_unit.specs.declared.Sort.{Sort}
 use Rattle.rules_unit.specs.Codes.{Code}
+use Rattle.rules_unit.specs.Expressions.{alphaSort}
 use Rattle.rules_unit.specs.Sound.{SoundCode}
 use Rattle.rules_run.specs.declared.Span.{Span}
 use Rattle.rules_run.specs.declared.Worked.{Worked}
@@ -27,12 +28,12 @@ use Rattle.rules_run.specs.declared.Write.the-variants as write
 use Rattle.rules_run.specs.declared.Flow.{Flow}
 use Rattle.rules_run.specs.declared.Flow.the-variants as flow
 use Rattle.rules_run.specs.declared.Turn.{Turn}
-use Rattle.rules_run.specs.Evaluation.{readAt}
+use Rattle.rules_run.specs.Evaluation.{readAt, textOf}
 use Rattle.rules_run.specs.Turns.{failed, stores, goes, moveNumber, moveNum, moveWorked, onPlace, clearAt, counted, countAt, caseAt}
 use Rattle.rules_run.proofs.Comes.{Comes}
 use Rattle.rules_run.proofs.Faults.{kept-passes, alpha-passes}
 use Rattle.rules_run.proofs.Outside.{startOf, lenOf, newOf}
-use Rattle.rules_fence.specs.Destinations.{AllValid, alphaSort, textOf}
+use Rattle.rules_fence.specs.Destinations.{AllValid}
 use Rattle.rules_fence.proofs.Elements.{span-short, span-reads}
 use Rattle.rules_fence.proofs.Mild.{mildb, mildNum, MildFault, mild-plain, MildNum, num-plain, num-fault, mild-value}
 use Rattle.rules_fence.proofs.Places.{PlaceOk, WorkedOk}

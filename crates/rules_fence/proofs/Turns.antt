@@ -25,7 +25,7 @@ use Rattle.rules_unit.specs.declared.Verb.the-variants as verb
 use Rattle.rules_unit.specs.declared.Row.{Row}
 use Rattle.rules_unit.specs.Table.{verbOf, rowOf, useOf, usesBy}
 use Rattle.rules_unit.specs.Codes.{Code}
-use Rattle.rules_unit.specs.Expressions.{placeSort, sortAt, suits, useb}
+use Rattle.rules_unit.specs.Expressions.{placeSort, alphaSort, sortAt, suits, useb}
 use Rattle.rules_unit.specs.Sound.{SoundCode}
 use Rattle.rules_unit.proofs.Statements.{uses-good}
 use Rattle.rules_run.specs.declared.Span.{Span}
@@ -33,12 +33,12 @@ use Rattle.rules_run.specs.declared.Span.the-variants.{Outside}
 use Rattle.rules_run.specs.declared.Flow.{Flow}
 use Rattle.rules_run.specs.declared.Flow.the-variants as flow
 use Rattle.rules_run.specs.declared.Turn.{Turn}
-use Rattle.rules_run.specs.Evaluation.{workedOf, numberOf}
+use Rattle.rules_run.specs.Evaluation.{workedOf, numberOf, textOf}
 use Rattle.rules_run.specs.Turns.{moveWorked, onPlace, clearAt, countAt, caseAt, onNumber, ifZero, choose, actAt, turnBy, turnOf}
 use Rattle.rules_run.proofs.Comes.{Comes}
 use Rattle.rules_run.proofs.Sorted.{sort-comes}
 use Rattle.rules_fence.specs.Fence.{ExprFenced, UseFenced, StatementFenced}
-use Rattle.rules_fence.specs.Destinations.{alphaSort, textOf, AllValid, BadText}
+use Rattle.rules_fence.specs.Destinations.{AllValid, BadText}
 use Rattle.rules_fence.proofs.Exact.{expr-to}
 use Rattle.rules_fence.proofs.Expressions.{worked-ok}
 use Rattle.rules_fence.proofs.Jumps.{if-mild, choose-mild, number-mild, on-number}

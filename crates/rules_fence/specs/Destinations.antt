@@ -9,7 +9,7 @@
 -- Assumes nothing.
 use Prim.Native.Nat.{ℕ, _+_, _<_, _≤_}
 use mathlib.Core.Path.{_≡_}
-use mathlib.Core.Bool.{Bool, true, false}
+use mathlib.Core.Bool.{true}
 use mathlib.Core.List.{List, [], _∷_, _++_}
 use lib.ListN.{length, take, drop, getD}
 use Rattle.rules.specs.declared.Fault.the-variants as fault
@@ -22,18 +22,15 @@ use Rattle.rules_unit.specs.declared.Item.the-variants as item
 use Rattle.rules_unit.specs.declared.Statement.{Statement}
 use Rattle.rules_unit.specs.declared.Act.the-variants as act
 use Rattle.rules_unit.specs.declared.Verb.the-variants as verb
-use Rattle.rules_unit.specs.declared.Sort.{Sort}
 use Rattle.rules_unit.specs.declared.Sort.the-variants as sort
 use Rattle.rules_unit.specs.declared.Use.{Use}
 use Rattle.rules_unit.specs.declared.Use.the-variants as use-of
 use Rattle.rules_unit.specs.Codes.{Code, decimalb, sizeOf, countOf, elementAt}
-use Rattle.rules_unit.specs.Expressions.{sortAt}
+use Rattle.rules_unit.specs.Expressions.{alphaSort, sortAt}
 use Rattle.rules_unit.specs.Table.{verbOf, usesOf}
 use Rattle.rules_run.specs.declared.Span.{Span}
 use Rattle.rules_run.specs.declared.Span.the-variants.{At, Outside}
-use Rattle.rules_run.specs.declared.Worked.{Worked}
-use Rattle.rules_run.specs.declared.Worked.the-variants as worked
-use Rattle.rules_run.specs.Evaluation.{workedOf}
+use Rattle.rules_run.specs.Evaluation.{workedOf, textOf}
 use Rattle.rules_fence.specs.Fence.{Names}
 
 -- ---- destinations
@@ -84,21 +81,6 @@ pub record AllValid (c : Code) (d : List ℕ) : Type 0 where
       → Valid (c .dialect .limit) (c .dialect .sign) (take (sizeOf c f) (drop (elementAt c f k) d))
 
 -- ---- alpha text to a decimal place
-
--- "An *alpha source* ends with 06 or a reference to alpha or record."
-abbrev pub alphaSort : Sort → Bool
-alphaSort sort.Wrong = false
-alphaSort sort.Number = false
-alphaSort sort.Text = true
-alphaSort sort.Decimal = false
-alphaSort sort.Alpha = true
-
--- The characters that an alpha source comes to, over the data d.
-abbrev pub textOf : Code → List ℕ → Worked → List ℕ
-textOf c d (worked.Number v) = []
-textOf c d (worked.Place decimal a n) = take n (drop a d)
-textOf c d (worked.Text p l) = take l (drop p (c .literals))
-textOf c d (worked.Failed e) = []
 
 -- "a bad digit can come only from moving alpha text to a decimal place": a SET of a decimal place from an alpha source, whose text is no number.
 abbrev pub BadText : Code → List ℕ → Statement → Type 0

@@ -4,6 +4,7 @@
 --   readAt c d a n         the number at n bytes of the data
 --   apply c d i x y        what an item makes of the values that it takes
 --   workedOf c d is        an expression over the data d
+--   numberOf c d w         what it is as a number; textOf c d w, as an alpha source
 --   Within c size w        what an expression comes to lies in its range, or inside the data or the literals
 -- "items left to right, reads where they stand": the items are a list and the values held another, the last held first. A last reference is a
 -- place and is not read. Every rule is total: what a passed check never lets arise is Malformed.
@@ -186,6 +187,13 @@ numberOf c d (worked.Number v) = Value v
 numberOf c d (worked.Place decimal a n) = cond decimal (readAt c d a n) (Failed fault.Malformed)
 numberOf c d (worked.Text p l) = Failed fault.Malformed
 numberOf c d (worked.Failed e) = Failed e
+
+-- The characters that an alpha source comes to, over the data d.
+abbrev pub textOf : Code → List ℕ → Worked → List ℕ
+textOf c d (worked.Number v) = []
+textOf c d (worked.Place decimal a n) = take n (drop a d)
+textOf c d (worked.Text p l) = take l (drop p (c .literals))
+textOf c d (worked.Failed e) = []
 
 -- A number of no more than eighteen digits, a place inside the data's size bytes (a decimal one of no more than the limit's characters), text
 -- inside the literals: every expression comes to one of these, or fails.

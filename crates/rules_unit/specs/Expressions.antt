@@ -3,6 +3,7 @@
 --   takes i            how many values an item takes
 --   itemb c i          an item's own rule; Known c is, that every item keeps it
 --   sortAt c e         the sort of the expression at an offset, Wrong where it is badly formed
+--   alphaSort k        whether an expression of the sort k is an alpha source
 --   suits w k          whether an expression of the sort k is of the sort wanted
 -- Assumes nothing.
 use mathlib.Core.Path.{_≡_}
@@ -104,6 +105,14 @@ sortOf c (item.Text place len) = sort.Text
 sortOf c (item.Operator o) = sort.Number
 sortOf c item.End = sort.Wrong
 sortOf c item.Bad = sort.Wrong
+
+-- "An *alpha source* ends with 06 or a reference to alpha or record."
+abbrev pub alphaSort : Sort → Bool
+alphaSort sort.Wrong = false
+alphaSort sort.Number = false
+alphaSort sort.Text = true
+alphaSort sort.Decimal = false
+alphaSort sort.Alpha = true
 
 -- "Every other reference must be to a decimal field, and 06 stands only last": what may stand before another item.
 abbrev pub goesOn : Sort → Bool
