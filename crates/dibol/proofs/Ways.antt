@@ -13,20 +13,15 @@ use Rattle.rules_unit.specs.declared.Checked.{Checked}
 use Rattle.rules_unit.specs.declared.Checked.the-variants as checked
 use Rattle.rules_unit.specs.Decode.{codeOf}
 use Rattle.rules_unit.specs.Checks.{refusalPlace, checkOf}
+use Rattle.rules_unit.proofs.Sound.{passed-by}
 use Rattle.rules_run.specs.declared.State.{State}
-use Rattle.rules_run.specs.declared.Stop.{Stop}
 use Rattle.rules_run.specs.declared.Stop.the-variants as stop
 use Rattle.rules_run.specs.declared.Outcome.{Outcome}
 use Rattle.rules_run.specs.States.{Sound, soundb}
-use Rattle.rules_run.specs.Runs.{Ran, runFrom, runOf}
+use Rattle.rules_run.specs.Runs.{runFrom, runOf}
 use Rattle.rules_run.proofs.States.{sound-of, sound-to}
+use Rattle.rules_run.proofs.Steps.{halted, ran}
 use Rattle.rules_run.proofs.Calls.{call-refused, call-wrong-size, call-unsound, call-runs}
-
-abbrev ran : Outcome → List ℕ → Ran
-ran r d = record { outcome = r; bytes = d }
-
-abbrev stopped : Stop → ℕ → State → Outcome
-stopped e place s = record { stop = e; place = place; count = 0; state = s }
 
 -- What `run_state::sound` answered.
 module _ (n : ℕ) (s : State) (b : Bool) (says : b ≡ soundb n s) where
@@ -37,26 +32,23 @@ module _ (n : ℕ) (s : State) (b : Bool) (says : b ≡ soundb n s) where
   unsound-by h t = false≢true (sym (not-true b h) ∙ says ∙ sound-of n s t)
 
 module _ (u : List ℕ) (v : Checked) (is : v ≡ checkOf u) where
-  pub passed-by : (p : Parts) → v ≡ checked.Passed p → checkOf u ≡ checked.Passed p
-  passed-by p e = sym is ∙ e
-
   module _ (d : List ℕ) (s : State) (m : ℕ) (r : Outcome) where
     -- 1 to 5
-    pub refused-way : (q : Refusal) (place : ℕ) → v ≡ checked.Refused q → place ≡ refusalPlace q → r ≡ stopped (stop.Refused q) place s → ran r d ≡ runOf u d s m
+    pub refused-way : (q : Refusal) (place : ℕ) → v ≡ checked.Refused q → place ≡ refusalPlace q → r ≡ halted (stop.Refused q) place 0 s → ran r d ≡ runOf u d s m
     refused-way q place e f g =
-        ap (λ (x : Outcome). ran x d) (g ∙ ap (λ (x : ℕ). stopped (stop.Refused q) x s) f) ∙ sym (call-refused u d s m q (sym is ∙ e))
+        ap (λ (x : Outcome). ran x d) (g ∙ ap (λ (x : ℕ). halted (stop.Refused q) x 0 s) f) ∙ sym (call-refused u d s m q (sym is ∙ e))
 
     module _ (p : Parts) (e : v ≡ checked.Passed p) where
       -- 6
-      pub size-way : (length d ≡ p .d → ⊥) → r ≡ stopped stop.WrongSize 0 s → ran r d ≡ runOf u d s m
-      size-way n g = ap (λ (x : Outcome). ran x d) g ∙ sym (call-wrong-size u d s m p (sym is ∙ e) n)
+      pub size-way : (length d ≡ p .d → ⊥) → r ≡ halted stop.WrongSize 0 0 s → ran r d ≡ runOf u d s m
+      size-way n g = ap (λ (x : Outcome). ran x d) g ∙ sym (call-wrong-size u d s m p (passed-by u v is p e) n)
 
       module _ (l : length d ≡ p .d) (b : Bool) (says : b ≡ soundb (p .n) s) where
         -- 7
-        pub state-way : not b ≡ true → r ≡ stopped stop.Unsound 0 s → ran r d ≡ runOf u d s m
-        state-way h g = ap (λ (x : Outcome). ran x d) g ∙ sym (call-unsound u d s m p (sym is ∙ e) l (unsound-by (p .n) s b says h))
+        pub state-way : not b ≡ true → r ≡ halted stop.Unsound 0 0 s → ran r d ≡ runOf u d s m
+        state-way h g = ap (λ (x : Outcome). ran x d) g ∙ sym (call-unsound u d s m p (passed-by u v is p e) l (unsound-by (p .n) s b says h))
 
         pub run-way : (d′ : List ℕ) → not b ≡ false → ran r d′ ≡ runFrom (codeOf u p) m s d 0 → ran r d′ ≡ runOf u d s m
-        run-way d′ h g = g ∙ sym (call-runs u d s m p (sym is ∙ e) l (sound-by (p .n) s b says h))
+        run-way d′ h g = g ∙ sym (call-runs u d s m p (passed-by u v is p e) l (sound-by (p .n) s b says h))
 
 pub ruleset call-ways = (refused-way, size-way, state-way, run-way)

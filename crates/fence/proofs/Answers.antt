@@ -49,9 +49,6 @@ module _ (u : List ℕ) (p : Parts) (i n : ℕ) (en : n ≡ p .n) where
 
 -- v is the answer of the check
 module _ (u : List ℕ) (v : Checked) (is : v ≡ checkOf u) where
-  pub passed-by : (p : Parts) → v ≡ checked.Passed p → checkOf u ≡ checked.Passed p
-  passed-by p e = sym is ∙ e
-
   pub fence-passed : (p : Parts) (r : Verdict) → v ≡ checked.Passed p → r ≡ verdictFrom (codeOf u p) (p .n) 0 → r ≡ fenceOf u
   unfolding fenceOf
   fence-passed p r e q = rw (← is, e) q

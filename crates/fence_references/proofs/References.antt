@@ -3,15 +3,13 @@
 use mathlib.Core.Path.{_≡_, sym, _∙_}
 use mathlib.Core.Bool.{Bool, true, false}
 use mathlib.Core.List.{List, []}
-use Prim.Native.Nat.{ℕ, _+_, _≤_, _<_}
-use borrow.Author.Tests.{ltb-true}
+use Prim.Native.Nat.{ℕ, _+_, _≤_}
 use Rattle.rules_unit.specs.declared.Parts.{Parts}
 use Rattle.rules_unit.specs.declared.How.{How}
 use Rattle.rules_unit.specs.declared.Op.{Op}
 use Rattle.rules_unit.specs.declared.Item.{Item}
 use Rattle.rules_unit.specs.declared.Item.the-variants as item
 use Rattle.rules_unit.specs.Decode.{codeOf}
-use Rattle.rules_unit.specs.Expressions.{itemb}
 use Rattle.rules_run.specs.declared.Span.{Span}
 use Rattle.rules_run.specs.declared.Span.the-variants.{At, Outside}
 use Rattle.rules_run.proofs.Located as located
@@ -47,9 +45,6 @@ module _ (u : List ℕ) (p : Parts) (h : How) (f : ℕ) (s : Seen) (dest b : Boo
 -- ---- an item
 
 module _ (u : List ℕ) (p : Parts) (dest : Bool) (s : Seen) (i : Item) where
-  pub item-field : (h : How) (f : ℕ) → itemb (codeOf u p) i ≡ true → i ≡ item.Reference h f → f < p .f
-  item-field h f t e = ltb-true f (p .f) (rw e at t)
-
   pub item-reference : (h : How) (f : ℕ) (r : Breach) → i ≡ item.Reference h f → r ≡ referenceBreach (codeOf u p) dest h f s
       → r ≡ itemBreach (codeOf u p) dest s i []
   item-reference h f r e q = rw e q

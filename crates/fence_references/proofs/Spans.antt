@@ -19,6 +19,10 @@ use Rattle.rules_fence.specs.declared.Breach.the-variants as breach
 use Rattle.rules_fence.specs.Breaches.{endBreach, elementBreach, alphaBreach, spanBreach}
 use Rattle.fence_decimals.specs.Ahead.{Ahead}
 
+-- o is the code's own copy of where the field starts, from the entry that it has read
+entry-offset : (u : List ℕ) (p : Parts) (f : ℕ) (entry : Field) → entry ≡ codeOf u p .field f → (o : ℕ) → o ≡ entry .offset → o ≡ codeOf u p .field f .offset
+entry-offset u p f entry ee o eo = eo ∙ ap (λ (g : Field). g .offset) ee
+
 -- ---- decimal spans
 
 -- Of no bytes, every element ends where the field starts.
@@ -26,21 +30,18 @@ no-size : (o k z : ℕ) → z ≡ 0 → o ≡ o + k * z + z
 no-size o k z e = let m : k * z ≡ 0 = rw e (omega arith) in omega arith
 
 module _ (u : List ℕ) (p : Parts) (dest : Bool) (f a n : ℕ) (entry : Field) (ee : entry ≡ codeOf u p .field f) (o z : ℕ) (eo : o ≡ entry .offset) (ez : z ≡ entry .size) where
-  offset : o ≡ codeOf u p .field f .offset
-  offset = eo ∙ ap (λ (g : Field). g .offset) ee
-
   size : z ≡ codeOf u p .field f .size
   size = ez ∙ ap (λ (g : Field). g .size) ee
 
   pub element-by : (r : Breach) → r ≡ endBreach dest (o + (a - o) / z * z + z) (a + n) → r ≡ elementBreach (codeOf u p) dest f a n
   unfolding elementBreach
-  element-by r q = rw (offset, size) at q
+  element-by r q = rw (entry-offset u p f entry ee o eo, size) at q
 
   pub element-none : (r : Breach) → z ≡ 0 → r ≡ endBreach dest o (a + n) → r ≡ elementBreach (codeOf u p) dest f a n
   element-none r e q = element-by r (q ∙ ap (λ (x : ℕ). endBreach dest x (a + n)) (no-size o ((a - o) / z) z e))
 
   pub element-low : codeOf u p .field f .offset ≤ a → o ≤ a
-  element-low h = omega (arith, offset)
+  element-low h = omega (arith, entry-offset u p f entry ee o eo)
 
 -- ---- alpha spans
 
@@ -62,14 +63,11 @@ module _ (u : List ℕ) (p : Parts) (dest : Bool) (a n : ℕ) where
 -- ---- any span
 
 module _ (u : List ℕ) (p : Parts) (dest : Bool) (f a n : ℕ) (entry : Field) (ee : entry ≡ codeOf u p .field f) (o : ℕ) (eo : o ≡ entry .offset) where
-  low : o ≡ codeOf u p .field f .offset
-  low = eo ∙ ap (λ (g : Field). g .offset) ee
-
   pub span-low : a < o → breach.LeavesField ≡ spanBreach (codeOf u p) dest f (At a n)
-  span-low h = rw (lt-leb (codeOf u p .field f .offset) a (omega (arith, low)))
+  span-low h = rw (lt-leb (codeOf u p .field f .offset) a (omega (arith, entry-offset u p f entry ee o eo)))
 
   pub offset-low : o ≤ a → codeOf u p .field f .offset ≤ a
-  offset-low h = omega (arith, low)
+  offset-low h = omega (arith, entry-offset u p f entry ee o eo)
 
   module _ (h : o ≤ a) (e : ℕ) (q : e ≡ entry .offset + entry .count * entry .size) where
     high : e ≡ codeOf u p .field f .offset + codeOf u p .field f .count * codeOf u p .field f .size
@@ -78,14 +76,14 @@ module _ (u : List ℕ) (p : Parts) (dest : Bool) (f a n : ℕ) (entry : Field) 
     pub span-high : e < a + n → breach.LeavesField ≡ spanBreach (codeOf u p) dest f (At a n)
     span-high l =
         let k : codeOf u p .field f .offset + codeOf u p .field f .count * codeOf u p .field f .size < a + n = rw (← high) l in
-        rw (le-leb (codeOf u p .field f .offset) a (omega (arith, low)), lt-leb (a + n) (codeOf u p .field f .offset + codeOf u p .field f .count * codeOf u p .field f .size) k)
+        rw (le-leb (codeOf u p .field f .offset) a (omega (arith, entry-offset u p f entry ee o eo)), lt-leb (a + n) (codeOf u p .field f .offset + codeOf u p .field f .count * codeOf u p .field f .size) k)
 
     module _ (l : a + n ≤ e) (b : Bool) (eb : b ≡ isDecimal (entry .kind)) (r : Breach) where
       by : spanBreach (codeOf u p) dest f (At a n) ≡ cond b (elementBreach (codeOf u p) dest f a n) (alphaBreach (codeOf u p) dest a n)
       by =
           let k : a + n ≤ codeOf u p .field f .offset + codeOf u p .field f .count * codeOf u p .field f .size = rw (← high) l in
           let d : isDecimal (codeOf u p .field f .kind) ≡ b = ap (λ (g : Field). isDecimal (g .kind)) (sym ee) ∙ sym eb in
-          rw (le-leb (codeOf u p .field f .offset) a (omega (arith, low)), le-leb (a + n) (codeOf u p .field f .offset + codeOf u p .field f .count * codeOf u p .field f .size) k, d)
+          rw (le-leb (codeOf u p .field f .offset) a (omega (arith, entry-offset u p f entry ee o eo)), le-leb (a + n) (codeOf u p .field f .offset + codeOf u p .field f .count * codeOf u p .field f .size) k, d)
 
       pub span-decimal : b ≡ true → r ≡ elementBreach (codeOf u p) dest f a n → r ≡ spanBreach (codeOf u p) dest f (At a n)
       span-decimal t w = w ∙ sym (by ∙ rw t)

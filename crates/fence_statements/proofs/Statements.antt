@@ -16,13 +16,12 @@ use Rattle.rules_unit.specs.declared.Want.{Want}
 use Rattle.rules_unit.specs.declared.Use.{Use}
 use Rattle.rules_unit.specs.declared.Use.the-variants as use-of
 use Rattle.rules_unit.specs.Codes.{Code}
-use Rattle.rules_unit.specs.Decode.{Fills, SoundDialect, expressionsAt, literalsAt, itemsAt, codeOf}
+use Rattle.rules_unit.specs.Decode.{expressionsAt, literalsAt, itemsAt, codeOf}
 use Rattle.rules_unit.specs.Expressions.{useb}
 use Rattle.rules_unit.specs.Table.{usesOf}
 use Rattle.rules_unit.specs.Checks.{checkOf}
-use Rattle.rules_unit.proofs.Sound.{passed-sound, passed-fills}
+use Rattle.rules_unit.proofs.Sound.{passed-sound}
 use Rattle.rules_unit.proofs.Statements.{uses-good}
-use Rattle.rules_run.proofs.Lengths.{passed-dialect}
 use Rattle.rules_fence.specs.declared.Breach.{Breach}
 use Rattle.rules_fence.specs.declared.Breach.the-variants as breach
 use Rattle.rules_fence.specs.declared.Seen.the-variants as seen
@@ -102,12 +101,3 @@ module _ (u : List ℕ) (p : Parts) (us : List Use) (k : ℕ) (z : Breach) (left
 
     pub uses-on : not t ≡ false → usesBreach (codeOf u p) (drop (k + 1) us) ≡ z
     uses-on h = rw (add-one k) (sym (rw (not-false t h) at step) ∙ left)
-
--- ---- the unit
-
-module _ (u : List ℕ) (p : Parts) (e : checkOf u ≡ checked.Passed p) where
-  pub fills-of : Fills u p
-  fills-of = passed-fills u p e
-
-  pub dialect-of : SoundDialect (p .dialect)
-  dialect-of = passed-dialect u p e

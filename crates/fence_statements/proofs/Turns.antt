@@ -13,7 +13,7 @@ use Rattle.rules_unit.specs.declared.Item.the-variants as item
 use Rattle.rules_unit.specs.Codes.{Code}
 use Rattle.rules_unit.specs.Decode.{itemAt, widthOf, follow, itemsAt}
 use Rattle.rules_unit.specs.Expressions.{itemb}
-use Rattle.rules_unit.proofs.Items.{items-step, beyond}
+use Rattle.rules_unit.proofs.Items.{items-as, beyond}
 use Rattle.rules_fence.specs.declared.Breach.{Breach}
 use Rattle.rules_fence.specs.declared.Breach.the-variants as breach
 use Rattle.rules_fence.specs.declared.Seen.{Seen}
@@ -21,21 +21,18 @@ use Rattle.rules_fence.specs.Bounds.{seenAfter}
 use Rattle.rules_fence.specs.Fence.{destb}
 use Rattle.rules_fence.specs.Breaches.{keepsb, itemBreach, breachFrom}
 use Rattle.rules_unit.specs.Expressions.{Known}
+use Rattle.rules_fence.proofs.First.{read-dest}
 use Rattle.fence_statements.specs.Asked.{AllKnown, closesb}
 use Rattle.run_items.proofs.Closing.{closed, unclosed}
 
 -- ---- the destination
-
-dest-read : (is : List Item) → destb false is ≡ false
-dest-read [] = refl
-dest-read (i ∷ is) = refl
 
 dest-some : (dest : Bool) (is : List Item) → (is ≡ [] → ⊥) → destb dest is ≡ false
 dest-some dest [] h = absurd (h refl)
 dest-some dest (i ∷ is) h = refl
 
 pub aim-read : (dest : Bool) (is : List Item) → dest ≡ false → false ≡ destb dest is
-aim-read dest is e = rw e (sym (dest-read is))
+aim-read dest is e = rw e (sym (read-dest is))
 
 pub aim-last : (dest t : Bool) (s : List ℕ) (at : ℕ) → dest ≡ true → t ≡ cond (ltb at (length s)) (eqb (getD s at 0) 0) false
     → t ≡ destb dest (itemsAt s at)
@@ -69,9 +66,6 @@ aimed-as c dest s (item.Text place len) is = refl
 aimed-as c dest s (item.Operator o) is = refl
 aimed-as c dest s item.End is = refl
 aimed-as c dest s item.Bad is = refl
-
-items-as : (s : List ℕ) (at : ℕ) (i : Item) → i ≡ itemAt s at → itemsAt s at ≡ follow i (itemsAt s (at + widthOf i))
-items-as s at i e = items-step s at ∙ ap (λ (j : Item). follow j (itemsAt s (at + widthOf j))) (sym e)
 
 module _ (c : Code) (dest : Bool) (es : List ℕ) (at : ℕ) (s : Seen) (z : Breach) (left : breachFrom c dest s (itemsAt es at) ≡ z) where
   pub turn-beyond : length es ≤ at → breach.None ≡ z

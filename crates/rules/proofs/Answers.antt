@@ -1,7 +1,6 @@
 -- Every number that is read, from a decimal or from alpha, is in the range of values: so it can be an operand (document 01, "Values and
 -- references").
 -- Assumes nothing.
-use mathlib.Core.Path.{_≡_, refl}
 use mathlib.Core.Bool.{Bool, true, false, cond}
 use mathlib.Core.List.{List, [], _∷_}
 use Prim.Native.Nat.{ℕ, suc, _+_, _-_, _*_, _^_, _<_}
@@ -11,19 +10,14 @@ use lib.Dec.{ltb, eqb, lit<}
 use lib.IntN.{pos, natAbs}
 use lib.ListN.{length}
 use borrow.Author.Tests.{ltb-true, ltb-false}
-use Rattle.rules.specs.declared.Num.{Num}
 use Rattle.rules.specs.declared.Num.the-variants.{Value, Failed}
 use Rattle.rules.specs.declared.Fault.the-variants as fault
 use Rattle.rules.specs.Values.{Val, signed, isFrom, readFrom, readOf}
 use Rattle.rules.specs.Moves.{alphaFrom, alphaOf}
+use Rattle.rules.proofs.Walk.{cond-case}
 use Rattle.rules.proofs.Signed.{abs-signed}
 use Rattle.rules.proofs.Decimals.{from-digit, more-digits}
 use Rattle.rules.proofs.Range.{InRange}
-
--- A choice is in range where both ways are.
-range-cond : (top : ℕ) (t : Bool) (a b : Num) → (t ≡ true → InRange top a) → (t ≡ false → InRange top b) → InRange top (cond t a b)
-range-cond top true a b f g = f refl
-range-cond top false a b f g = g refl
 
 -- ---- reading a decimal
 
@@ -37,11 +31,11 @@ module _ (limit : ℕ) where
   range-from : (sign acc i b : ℕ) (bs : List ℕ) → acc < 10 ^ i → i + length bs < limit → InRange (10 ^ limit) (readFrom sign acc b bs)
   unfolding readFrom
   range-from sign acc i b [] h k =
-      range-cond (10 ^ limit) (isFrom 48 b) (Value (pos (acc * 10 + (b - 48)))) (cond (isFrom sign b) (Value (signed true (acc * 10 + (b - sign)))) (Failed fault.BadDigit))
+      cond-case (InRange (10 ^ limit)) (isFrom 48 b) (Value (pos (acc * 10 + (b - 48)))) (cond (isFrom sign b) (Value (signed true (acc * 10 + (b - sign)))) (Failed fault.BadDigit))
       (λ e. one-val false acc i (b - 48) h (omega arith) (from-digit 48 b e))
-      (λ n. range-cond (10 ^ limit) (isFrom sign b) (Value (signed true (acc * 10 + (b - sign)))) (Failed fault.BadDigit) (λ e. one-val true acc i (b - sign) h (omega arith) (from-digit sign b e)) (λ e. tt))
+      (λ n. cond-case (InRange (10 ^ limit)) (isFrom sign b) (Value (signed true (acc * 10 + (b - sign)))) (Failed fault.BadDigit) (λ e. one-val true acc i (b - sign) h (omega arith) (from-digit sign b e)) (λ e. tt))
   range-from sign acc i b (x ∷ xs) h k =
-      range-cond (10 ^ limit) (isFrom 48 b) (readFrom sign (acc * 10 + (b - 48)) x xs) (Failed fault.BadDigit)
+      cond-case (InRange (10 ^ limit)) (isFrom 48 b) (readFrom sign (acc * 10 + (b - 48)) x xs) (Failed fault.BadDigit)
       (λ e. range-from sign (acc * 10 + (b - 48)) (i + 1) x xs (more-digits acc i (b - 48) h (from-digit 48 b e)) (omega arith))
       (λ e. tt)
 
@@ -50,7 +44,7 @@ pub range-read : (limit sign : ℕ) (s : List ℕ) → InRange (10 ^ limit) (rea
 unfolding readOf
 range-read limit sign [] = tt
 range-read limit sign (b ∷ bs) =
-    range-cond (10 ^ limit) (ltb limit (length (b ∷ bs))) (Failed fault.TooLong) (readFrom sign 0 b bs) (λ e. tt)
+    cond-case (InRange (10 ^ limit)) (ltb limit (length (b ∷ bs))) (Failed fault.TooLong) (readFrom sign 0 b bs) (λ e. tt)
     (λ e. range-from limit sign 0 0 b bs (lit< tt) (omega (arith, ltb-false limit (suc (length bs)) e)))
 
 -- ---- alpha to number
@@ -58,13 +52,13 @@ range-read limit sign (b ∷ bs) =
 range-after : (top : ℕ) (minus : Bool) (acc : ℕ) (s : List ℕ) → InRange top (alphaFrom top minus acc s)
 unfolding alphaFrom
 range-after top minus acc [] =
-    range-cond top (ltb (natAbs (signed minus acc)) top) (Value (signed minus acc)) (Failed fault.TooLong) (λ e. record { small = ltb-true (natAbs (signed minus acc)) top e }) (λ e. tt)
+    cond-case (InRange top) (ltb (natAbs (signed minus acc)) top) (Value (signed minus acc)) (Failed fault.TooLong) (λ e. record { small = ltb-true (natAbs (signed minus acc)) top e }) (λ e. tt)
 range-after top minus acc (b ∷ bs) =
     let same = range-after top minus acc bs in
-    range-cond top (eqb b 32) _ _ (λ e. same)
-    (λ n. range-cond top (eqb b 43) _ _ (λ e. same)
-    (λ n. range-cond top (eqb b 45) _ _ (λ e. range-cond top minus (Failed fault.BadDigit) (alphaFrom top true acc bs) (λ e. tt) (λ e. range-after top true acc bs))
-    (λ n. range-cond top (isFrom 48 b) _ (Failed fault.BadDigit) (λ e. range-after top minus (acc * 10 + (b - 48)) bs) (λ e. tt))))
+    cond-case (InRange top) (eqb b 32) _ _ (λ e. same)
+    (λ n. cond-case (InRange top) (eqb b 43) _ _ (λ e. same)
+    (λ n. cond-case (InRange top) (eqb b 45) _ _ (λ e. cond-case (InRange top) minus (Failed fault.BadDigit) (alphaFrom top true acc bs) (λ e. tt) (λ e. range-after top true acc bs))
+    (λ n. cond-case (InRange top) (isFrom 48 b) _ (Failed fault.BadDigit) (λ e. range-after top minus (acc * 10 + (b - 48)) bs) (λ e. tt))))
 
 pub range-alpha : (top : ℕ) (s : List ℕ) → InRange top (alphaOf top s)
 range-alpha top s = range-after top false 0 s

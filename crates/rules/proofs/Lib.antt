@@ -1,6 +1,7 @@
 pub mod Tests
 pub mod Signed
 pub mod Walk
+pub mod Sizes
 pub mod Range
 pub mod Valid
 pub mod ValidParts

@@ -1,13 +1,12 @@
 -- Every answer that is a number is in the range of values, so it can be an operand again.
 --   InRange top n                a number that n answers is in the range
 --   of-range                     the number of an answer in the range
---   range-if, range-either       an answer that a test chose
 --   range-kept                   a sum, a difference, a product: each is `kept` of a number
 --   range-div, range-round, range-neg
 --   range-truth                  a relation, NOT, AND, OR, XOR: each is `truth` of a test
 -- Assumes nothing.
-use mathlib.Core.Path.{_≡_, refl, subst}
-use mathlib.Core.Bool.{Bool, true, false, cond}
+use mathlib.Core.Path.{_≡_, subst}
+use mathlib.Core.Bool.{Bool, true, false}
 use Prim.Native.Nat.{ℕ, suc, _+_, _/_, _^_, _≤_, _<_}
 use native.Mathlib.Nat.{div-le-self, div-lt-iff-lt-mul, suc-mul, le-mul-of-pos-right}
 use native.Mathlib.Omega.{arith}
@@ -20,6 +19,7 @@ use Rattle.rules.specs.declared.Num.the-variants.{Value, Failed}
 use Rattle.rules.specs.declared.Fault.the-variants as fault
 use Rattle.rules.specs.Values.{Val, isNeg}
 use Rattle.rules.specs.Arithmetic.{kept, divOf, rounded, roundOf, truth}
+use Rattle.rules.proofs.Walk.{cond-case, cond-either}
 use Rattle.rules.proofs.Signed.{abs-neg, abs-quot, abs-signed, pow-pos10}
 
 abbrev pub InRange : ℕ → Num → Type 0
@@ -30,20 +30,13 @@ InRange top (Failed f) = Unit {0}
 pub of-range : {top : ℕ} {n : Num} {z : ℤ} → n ≡ Value z → InRange top n → Val top z
 of-range {top} e h = subst (InRange top) e h
 
-pub range-if : (top : ℕ) (t : Bool) (a b : Num) → (t ≡ true → InRange top a) → (t ≡ false → InRange top b) → InRange top (cond t a b)
-range-if top true a b f g = f refl
-range-if top false a b f g = g refl
-
-pub range-either : (top : ℕ) (t : Bool) (a b : Num) → InRange top a → InRange top b → InRange top (cond t a b)
-range-either top t a b x y = range-if top t a b (λ e. x) (λ e. y)
-
 pub range-kept : (top : ℕ) (z : ℤ) → InRange top (kept top z)
 range-kept top z =
-    range-if top (ltb (natAbs z) top) (Value z) (Failed fault.TooLong) (λ e. record { small = ltb-true (natAbs z) top e }) (λ e. tt)
+    cond-case (InRange top) (ltb (natAbs z) top) (Value z) (Failed fault.TooLong) (λ e. record { small = ltb-true (natAbs z) top e }) (λ e. tt)
 
 pub range-div : {top : ℕ} (a b : ℤ) → Val top a → InRange top (divOf a b)
 range-div {top} a b v =
-    range-either top (eqb (natAbs b) 0) (Failed fault.ZeroDivisor) (Value (quotZ a b)) tt
+    cond-either (InRange top) (eqb (natAbs b) 0) (Failed fault.ZeroDivisor) (Value (quotZ a b)) tt
     (record { small = rw (abs-quot a b) (omega (arith, v .small, div-le-self (natAbs a) (natAbs b))) })
 
 -- A part of the divisor added to a number makes the quotient no greater than the number.
@@ -58,7 +51,7 @@ range-rounded v k h =
     record { small = rw (abs-signed (isNeg v) ((natAbs v + 10 ^ k / 2) / 10 ^ k)) (omega (arith, h .small)) }
 
 pub range-round : {top : ℕ} (v k : ℤ) → Val top v → InRange top (roundOf v k)
-range-round {top} v (pos k) h = range-either top (leb k 18) (Value (rounded v k)) (Failed fault.RoundCount) (range-rounded v k h) tt
+range-round {top} v (pos k) h = cond-either (InRange top) (leb k 18) (Value (rounded v k)) (Failed fault.RoundCount) (range-rounded v k h) tt
 range-round v (negsuc k) h = tt
 
 pub range-neg : {top : ℕ} {z : ℤ} → Val top z → Val top (negℤ z)

@@ -52,3 +52,12 @@ pub ruleset walk-if = (cond-no, cond-yes, told-yes, told-no)
 pub cond-case : {A : Type 0} (P : A → Type 0) (b : Bool) (x y : A) → (b ≡ true → P x) → (b ≡ false → P y) → P (cond b x y)
 cond-case P true x y f g = f refl
 cond-case P false x y f g = g refl
+
+pub cond-either : {A : Type 0} (P : A → Type 0) (b : Bool) (x y : A) → P x → P y → P (cond b x y)
+cond-either P true x y f g = f
+cond-either P false x y f g = g
+
+-- both arms are the same
+pub cond-same : {A : Type 0} (b : Bool) (x : A) → cond b x x ≡ x
+cond-same true x = refl
+cond-same false x = refl

@@ -14,12 +14,13 @@ use Rattle.rules_unit.specs.declared.Sort.{Sort}
 use Rattle.rules_unit.specs.declared.Sort.the-variants as sort
 use Rattle.rules_unit.specs.Codes.{Code}
 use Rattle.rules_unit.specs.Expressions.{alphaSort, sortAt}
+use Rattle.rules_unit.proofs.Sorts.{rightb}
 use Rattle.rules_run.specs.declared.Worked.{Worked}
 use Rattle.rules_run.specs.declared.Worked.the-variants as worked
 use Rattle.rules_run.specs.Evaluation.{workedOf, textOf}
 use Rattle.rules_run.specs.Turns.{failed, moveWorked, turnBy, turnOf}
 use Rattle.rules_run.proofs.Comes.{Comes}
-use Rattle.rules_run.proofs.Sorted.{rightb, sort-comes}
+use Rattle.rules_run.proofs.Sorted.{sort-comes}
 use Rattle.rules_fence.specs.Destinations.{BadText}
 
 alpha-right : (k : Sort) → alphaSort k ≡ true → rightb k ≡ true

@@ -14,6 +14,7 @@ use borrow.Author.Tests.{ltb-true, ltb-false, leb-true, leb-false}
 use Rattle.rules.specs.declared.Num.the-variants.{Value}
 use Rattle.rules.specs.Values.{Valid}
 use Rattle.rules.proofs.Valid.{valid-reads}
+use Rattle.rules.proofs.Sizes.{part-length}
 use Rattle.rules.proofs.ValidParts.{part-valid, keep-valid}
 use Rattle.rules_unit.specs.Codes.{Code, decimalb, offsetOf, sizeOf, countOf, elementAt, endOf}
 use Rattle.rules_unit.specs.Sound.{SoundCode}
@@ -22,7 +23,7 @@ use Rattle.rules_run.specs.Evaluation.{readAt}
 use Rattle.rules_run.specs.Turns.{stored}
 use Rattle.rules_fence.specs.Fence.{SpanFenced}
 use Rattle.rules_fence.specs.Destinations.{AllValid}
-use Rattle.rules_fence.proofs.Parts.{part-length, part-part, part-before, part-behind, part-tail}
+use Rattle.rules_fence.proofs.Parts.{part-part, part-before, part-behind, part-tail}
 
 -- An element ends inside its field.
 pub element-end : (o s m k : ℕ) → k < m → o + k * s + s ≤ o + m * s

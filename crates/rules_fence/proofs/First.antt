@@ -50,6 +50,11 @@ first-none b rest e = rw e
 first-some : (x rest b : Breach) → x ≡ b → keepsb b ≡ false → firstOf x rest ≡ b
 first-some x rest b e k = rw (e, k)
 
+-- Of an expression that is read no item is a destination.
+pub read-dest : (is : List Item) → destb false is ≡ false
+read-dest [] = refl
+read-dest (i ∷ is) = refl
+
 module _ (c : Code) (s : SoundCode c) where
   -- ---- what stands before a reference is read
 
@@ -64,10 +69,6 @@ module _ (c : Code) (s : SoundCode c) where
         apart = λ t z. absurd (false≢true z);
       }
   read-kept dest f Outside r = r
-
-  read-dest : (is : List Item) → destb false is ≡ false
-  read-dest [] = refl
-  read-dest (i ∷ is) = refl
 
   inner-dest : (dest : Bool) (before : List Item) (i : Item) (after : List Item) → destb dest (before ++ (i ∷ after)) ≡ false
   inner-dest dest [] i after = refl

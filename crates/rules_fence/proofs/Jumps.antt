@@ -3,13 +3,14 @@
 -- Assumes nothing.
 use Prim.Native.Nat.{ℕ, zero, suc, _+_}
 use mathlib.Core.Path.{_≡_, refl}
-use mathlib.Core.Bool.{Bool, true, false, cond}
+use mathlib.Core.Bool.{true, false}
 use mathlib.Core.List.{List}
 use lib.Dec.{leb, eqb}
 use lib.IntN.{ℤ, pos, negsuc, natAbs}
 use lib.ListN.{length}
 use Rattle.rules.specs.declared.Num.{Num}
 use Rattle.rules.specs.declared.Num.the-variants.{Value, Failed}
+use Rattle.rules.proofs.Walk.{cond-either}
 use Rattle.rules_unit.specs.Codes.{Code}
 use Rattle.rules_unit.specs.Sound.{SoundCode}
 use Rattle.rules_run.specs.declared.Span.{Span}
@@ -28,16 +29,12 @@ use Rattle.rules_fence.proofs.Places.{WorkedOk}
 
 -- M is where 22 may be
 module _ (M : Type 0) where
-  flow-either : (t : Bool) (x y : Flow) → MildFlow M x → MildFlow M y → MildFlow M (cond t x y)
-  flow-either true x y f g = f
-  flow-either false x y f g = g
-
   pub if-mild : (target : ℕ) (z : ℤ) → MildFlow M (ifZero target z)
-  if-mild target z = flow-either (eqb (natAbs z) 0) (flow.Goto target) flow.Next tt tt
+  if-mild target z = cond-either (MildFlow M) (eqb (natAbs z) 0) (flow.Goto target) flow.Next tt tt
 
   pub choose-mild : (i n : ℕ) (z : ℤ) → MildFlow M (choose i n z)
   choose-mild i n (pos zero) = tt
-  choose-mild i n (pos (suc k)) = flow-either (leb (suc k) n) (flow.Goto (i + suc k)) (flow.Goto (i + n + 1)) tt tt
+  choose-mild i n (pos (suc k)) = cond-either (MildFlow M) (leb (suc k) n) (flow.Goto (i + suc k)) (flow.Goto (i + n + 1)) tt tt
   choose-mild i n (negsuc k) = tt
 
 pub on-number : (c : Code) (d : List ℕ) (M : Type 0) (r : Num) (k : ℤ → Flow) → mildNum false r ≡ true → ((z : ℤ) → MildFlow M (k z)) → TurnOk c d Outside M (onNumber r k)

@@ -6,16 +6,14 @@ use mathlib.Core.Path.{_≡_, refl, sym, ap, _∙_}
 use mathlib.Core.Bool.{Bool, true, false}
 use mathlib.Core.List.{List, _++_}
 use lib.Dec.{ltb}
-use lib.ListN.{length, take, drop, getD, length-append, length-drop, List·getD-append}
+use lib.ListN.{length, take, drop, getD, length-append, List·getD-append}
 use lib.Seq.{length-take-le, getD-append-add, getD-take, getD-drop, ext-getD}
 use borrow.Author.Tests.{ltb-true, ltb-false}
+use Rattle.rules.proofs.Sizes.{part-length}
 use Rattle.rules_run.specs.Turns.{stored}
 use Rattle.rules_run.proofs.Stored.{stored-low, stored-mid, stored-high, stored-length}
 
 module _ (d : List ℕ) (a n : ℕ) where
-  pub part-length : a + n ≤ length d → length (take n (drop a d)) ≡ n
-  part-length h = length-take-le n (drop a d) (omega (arith, length-drop a d))
-
   pub part-char : (i : ℕ) → i < n → getD (take n (drop a d)) i 0 ≡ getD d (a + i) 0
   part-char i l = getD-take n (drop a d) i 0 l ∙ getD-drop a d i 0
 

@@ -4,7 +4,6 @@
 use Prim.Native.Nat.{ℕ, _<_}
 use native.Mathlib.Omega.{arith}
 use mathlib.Core.Path.{_≡_, refl, _∙_, subst}
-use mathlib.Core.Bool.{Bool, true, false, cond}
 use mathlib.Core.List.{List}
 use lib.Dec.{ltb, eqb}
 use lib.ListN.{length}
@@ -12,6 +11,7 @@ use Rattle.rules.specs.declared.Fault.{Fault}
 use Rattle.rules.specs.declared.Fault.the-variants as fault
 use Rattle.rules.specs.Stops.{faultNumber}
 use Rattle.rules.specs.Values.{Limit, Letters, Top}
+use Rattle.rules.proofs.Walk.{cond-either}
 use Rattle.rules_unit.specs.Codes.{Code}
 use Rattle.rules_unit.specs.Sound.{SoundCode}
 use Rattle.rules_run.specs.declared.Flow.{Flow}
@@ -62,16 +62,12 @@ abbrev MovedOk : Type 0 → Moved → Type 0
 MovedOk M (to s) = Unit {0}
 MovedOk M (stuck x) = MildFault M x
 
-moved-either : (M : Type 0) (t : Bool) (x y : Moved) → MovedOk M x → MovedOk M y → MovedOk M (cond t x y)
-moved-either M true x y f g = f
-moved-either M false x y f g = g
-
 moved-ok : (n : ℕ) (s : State) (M : Type 0) (f : Flow) → MildFlow M f → MovedOk M (movedBy n s f)
 unfolding movedBy
 moved-ok n s M flow.Next m = tt
 moved-ok n s M (flow.Goto i) m = tt
-moved-ok n s M (flow.Call i) m = moved-either M (ltb (s .depth) 50) (to (called s i)) (stuck fault.CallsFull) tt tt
-moved-ok n s M flow.Return m = moved-either M (eqb (s .depth) 0) (stuck fault.NoCall) (to (returned s)) tt tt
+moved-ok n s M (flow.Call i) m = cond-either (MovedOk M) (ltb (s .depth) 50) (to (called s i)) (stuck fault.CallsFull) tt tt
+moved-ok n s M flow.Return m = cond-either (MovedOk M) (eqb (s .depth) 0) (stuck fault.NoCall) (to (returned s)) tt tt
 moved-ok n s M flow.Stop m = tt
 moved-ok n s M (flow.Bad x) m = m
 

@@ -25,9 +25,10 @@ use Rattle.rules_unit.specs.declared.Verb.the-variants as verb
 use Rattle.rules_unit.specs.declared.Row.{Row}
 use Rattle.rules_unit.specs.Table.{verbOf, rowOf, useOf, usesBy}
 use Rattle.rules_unit.specs.Codes.{Code}
-use Rattle.rules_unit.specs.Expressions.{placeSort, alphaSort, sortAt, suits, useb}
+use Rattle.rules_unit.specs.Expressions.{placeSort, alphaSort, sortAt, suits}
 use Rattle.rules_unit.specs.Sound.{SoundCode}
-use Rattle.rules_unit.proofs.Statements.{uses-good}
+use Rattle.rules_unit.proofs.Sorts.{suits-right}
+use Rattle.rules_unit.proofs.Statements.{uses-good, Used}
 use Rattle.rules_run.specs.declared.Span.{Span}
 use Rattle.rules_run.specs.declared.Span.the-variants.{Outside}
 use Rattle.rules_run.specs.declared.Flow.{Flow}
@@ -45,7 +46,6 @@ use Rattle.rules_fence.proofs.Jumps.{if-mild, choose-mild, number-mild,
 use Rattle.rules_fence.proofs.Moves.{MildFlow, TurnOk, failed-ok, goes-ok, on-place, source-ok, clear-ok, count-ok, case-ok}
 use Rattle.rules_fence.proofs.PlaceSpans.{placeSpan, useSpan}
 use Rattle.rules_fence.proofs.Places.{PlaceOk, WorkedOk}
-use Rattle.rules_fence.proofs.Sorts.{suits-right}
 
 abbrev pub aimBy : Code → Row → Statement → Span
 aimBy c r s = useSpan c (useOf (r .a) (s .a))
@@ -85,13 +85,10 @@ module _ (c : Code) (s : SoundCode c) (letters : Letters (c .dialect .sign)) (d 
 
   -- ---- statements
 
-  abbrev Used : Row → Statement → Type 0
-  Used r t = (k : ℕ) → k < length (usesBy r t) → useb c (getD (usesBy r t) k use-of.Nothing) ≡ true
-
   abbrev Kept : Row → Statement → Type 0
   Kept r t = (k : ℕ) → k < length (usesBy r t) → UseFenced c (getD (usesBy r t) k use-of.Nothing)
 
-  act-ok : (t : Statement) (x : Act) → verbOf (t .code) ≡ verb.At x → Used (rowOf (verb.At x)) t → Kept (rowOf (verb.At x)) t
+  act-ok : (t : Statement) (x : Act) → verbOf (t .code) ≡ verb.At x → Used c (rowOf (verb.At x)) t → Kept (rowOf (verb.At x)) t
       → TurnOk c d (aimBy c (rowOf (verb.At x)) t) (BadText c d t) (onPlace (workedOf c d (c .items (t .a))) (actAt c d x t))
   act-ok t act.Set q u r =
       set-ok (BadText c d t) (t .a) (t .b) (u 0 (omega arith)) (u 1 (omega arith)) (r 0 (omega arith)) (r 1 (omega arith)) (λ k g f. (q, k, g, f))
@@ -99,7 +96,7 @@ module _ (c : Code) (s : SoundCode c) (letters : Letters (c .dialect .sign)) (d 
   act-ok t (act.Count up) q u r = at-place (BadText c d t) (t .a) (countAt c d up) (r 0 (omega arith)) (count-ok c d (placeSpan c (c .items (t .a))) (BadText c d t) s letters e v up)
   act-ok t (act.Case upper) q u r = at-place (BadText c d t) (t .a) (caseAt upper) (r 0 (omega arith)) (case-ok c d (placeSpan c (c .items (t .a))) (BadText c d t) s letters e v upper)
 
-  by-verb : (i : ℕ) (t : Statement) (x : Verb) → verbOf (t .code) ≡ x → Used (rowOf x) t → Kept (rowOf x) t → TurnOk c d (aimBy c (rowOf x) t) (BadText c d t) (turnBy c i d x t)
+  by-verb : (i : ℕ) (t : Statement) (x : Verb) → verbOf (t .code) ≡ x → Used c (rowOf x) t → Kept (rowOf x) t → TurnOk c d (aimBy c (rowOf x) t) (BadText c d t) (turnBy c i d x t)
   unfolding turnBy
   by-verb i t (verb.At x) q u r = act-ok t x q u r
   by-verb i t verb.Goto q u r = goes-ok c d Outside (BadText c d t) (flow.Goto (t .c)) tt

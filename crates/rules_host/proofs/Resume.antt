@@ -9,6 +9,7 @@ use mathlib.Core.Logic.{_↔_, inl, inr}
 use lib.Dec.{ltb, eqb}
 use lib.ListN.{length, getD, replicate, length-drop, length-set}
 use borrow.Author.Tests.{le-leb, lt-leb, eq-eqb, eqb-true, ltb-true, ltb-false}
+use Rattle.rules.proofs.Walk.{cond-either}
 use Rattle.rules_unit.specs.declared.Parts.{Parts}
 use Rattle.rules_unit.specs.declared.Refusal.{Refusal}
 use Rattle.rules_unit.specs.declared.Refusal.the-variants as refusal
@@ -93,16 +94,12 @@ abbrev Kept : ℕ → Moved → Type 0
 Kept n (to s) = length (s .returns) ≡ n
 Kept n (stuck f) = Unit {0}
 
-kept-either : (n : ℕ) (b : Bool) (x y : Moved) → Kept n x → Kept n y → Kept n (cond b x y)
-kept-either n true x y f g = f
-kept-either n false x y f g = g
-
 moved-kept : (n : ℕ) (s : State) (f : Flow) → Kept (length (s .returns)) (movedBy n s f)
 unfolding movedBy
 moved-kept n s flow.Next = refl
 moved-kept n s (flow.Goto i) = refl
-moved-kept n s (flow.Call i) = kept-either (length (s .returns)) (ltb (s .depth) 50) _ _ (length-set (s .returns) (s .depth) _) tt
-moved-kept n s flow.Return = kept-either (length (s .returns)) (eqb (s .depth) 0) _ _ tt (length-set (s .returns) _ 0)
+moved-kept n s (flow.Call i) = cond-either (Kept (length (s .returns))) (ltb (s .depth) 50) _ _ (length-set (s .returns) (s .depth) _) tt
+moved-kept n s flow.Return = cond-either (Kept (length (s .returns))) (eqb (s .depth) 0) _ _ tt (length-set (s .returns) _ 0)
 moved-kept n s flow.Stop = refl
 moved-kept n s (flow.Bad e) = tt
 

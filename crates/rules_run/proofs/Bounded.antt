@@ -1,10 +1,10 @@
 -- What expressions come to (document 01, "Values and references"): every number is in the range of values, every place lies inside the data,
 -- and a decimal place has no more characters than a number has digits.
 --   Bounded bound c size w    w is in the range below the bound, or lies inside the data's size bytes or the literals
---   worked-within             what an expression comes to lies where the rules say
+--   worked-within             what an expression comes to lies where the rules say; place-within, of a place that is found
 -- Assumes nothing.
-use mathlib.Core.Path.{_≡_, refl}
-use mathlib.Core.Bool.{true, false}
+use mathlib.Core.Path.{_≡_, refl, subst}
+use mathlib.Core.Bool.{Bool, true, false}
 use mathlib.Core.List.{List, [], _∷_}
 use Prim.Native.Nat.{ℕ, _+_, _^_, _≤_, _<_}
 use native.Mathlib.Omega.{arith}
@@ -16,7 +16,7 @@ use Rattle.rules.specs.declared.Fault.the-variants as fault
 use Rattle.rules.specs.Values.{Val, Limit, Top}
 use Rattle.rules.specs.declared.Num.the-variants.{Failed}
 use Rattle.rules.proofs.Signed.{pow-le18}
-use Rattle.rules.proofs.Range.{InRange, range-if}
+use Rattle.rules.proofs.Range.{InRange}
 use Rattle.rules.proofs.Walk.{cond-case}
 use Rattle.rules.proofs.Tests.{both}
 use Rattle.rules_unit.specs.declared.How.{How}
@@ -123,7 +123,7 @@ module _ (c : Code) (d : List ℕ) (bound : ℕ) (truths : 1 < bound) (sums : c 
   pub number-bounded : (size : ℕ) (w : Worked) → Bounded bound c size w → InRange bound (numberOf c d w)
   number-bounded size (worked.Number v) h = h
   number-bounded size (worked.Place decimal a n) h =
-      range-if bound decimal (readAt c d a n) (Failed fault.Malformed) (λ _. read-range c d bound truths sums digits a n) (λ _. tt)
+      cond-case (InRange bound) decimal (readAt c d a n) (Failed fault.Malformed) (λ _. read-range c d bound truths sums digits a n) (λ _. tt)
   number-bounded size (worked.Text p l) h = tt
   number-bounded size (worked.Failed e) h = tt
 
@@ -138,3 +138,7 @@ pub worked-within : (c : Code) (d : List ℕ) → Limit (c .dialect .limit) → 
 worked-within c d limit bound is =
     within-of c (length d) (workedOf c d is)
     (worked-bounded c d (10 ^ 18) (omega arith) (bound .most) (pow-le18 (omega (arith, limit .most))) is)
+
+-- A place that is found lies inside the data.
+pub place-within : (c : Code) (size : ℕ) (w : Worked) (decimal : Bool) (a n : ℕ) → Within c size w → w ≡ worked.Place decimal a n → a + n ≤ size
+place-within c size w decimal a n within e = subst (Within c size) e within .0

@@ -7,7 +7,7 @@ use mathlib.Core.Path.{_≡_, refl}
 use mathlib.Core.Logic.{_⊎_, inl, inr}
 use lib.Dec.{leb, eqb}
 use borrow.Author.Tests.{leb-true}
-use mathlib.Core.Bool.{Bool, true, false, cond}
+use mathlib.Core.Bool.{Bool, true}
 use mathlib.Core.List.{List}
 use lib.IntN.{ℤ, pos, negsuc, natAbs}
 use lib.ListN.{take, drop}
@@ -16,6 +16,7 @@ use Rattle.rules.specs.declared.Fault.the-variants as fault
 use Rattle.rules.specs.declared.Num.{Num}
 use Rattle.rules.specs.declared.Num.the-variants.{Value, Failed}
 use Rattle.rules.specs.Moves.{alphaOf}
+use Rattle.rules.proofs.Walk.{cond-case, cond-either}
 use Rattle.rules_unit.specs.declared.Statement.{Statement}
 use Rattle.rules_unit.specs.declared.Act.{Act}
 use Rattle.rules_unit.specs.declared.Act.the-variants as act
@@ -50,24 +51,16 @@ MayGo i v s flow.Return = v ≡ verb.Return
 MayGo i v s flow.Stop = Unit {0}
 MayGo i v s (flow.Bad e) = ⊥
 
-may-either : (i : ℕ) (v : Verb) (s : Statement) (t : Bool) (x y : Flow) → (t ≡ true → MayGo i v s x) → MayGo i v s y → MayGo i v s (cond t x y)
-may-either i v s true x y f g = f refl
-may-either i v s false x y f g = g
-
 choose-may : (i : ℕ) (s : Statement) (v : ℤ) → MayGo i verb.Computed s (choose i (s .a) v)
 choose-may i s (pos zero) = inr (refl, omega arith)
 choose-may i s (pos (suc v)) =
-    may-either i verb.Computed s (leb (suc v) (s .a)) (flow.Goto (i + suc v)) (flow.Goto (i + s .a + 1))
-    (λ e. inr (refl, omega (arith, leb-true (suc v) (s .a) e))) (inr (refl, omega arith))
+    cond-case (MayGo i verb.Computed s) (leb (suc v) (s .a)) (flow.Goto (i + suc v)) (flow.Goto (i + s .a + 1))
+    (λ e. inr (refl, omega (arith, leb-true (suc v) (s .a) e))) (λ e. inr (refl, omega arith))
 choose-may i s (negsuc v) = inr (refl, omega arith)
 
 module _ (P : Turn → Type 0) (fails : (e : Fault) → workb e ≡ true → P (failed e)) (puts : (w : Write) → P (stores w)) where
-  by-test : (t : Bool) (x y : Turn) → P x → P y → P (cond t x y)
-  by-test true x y f g = f
-  by-test false x y f g = g
-
   by-number : (decimal : Bool) (a n : ℕ) (v : ℤ) → P (moveNumber decimal a n v)
-  by-number decimal a n v = search (by-test, puts)
+  by-number decimal a n v = cond-either P decimal _ _ (puts (write.Number a n v)) (puts (write.Show a n v))
 
   by-num : (decimal : Bool) (a n : ℕ) (r : Num) → passes workb r ≡ true → P (moveNum decimal a n r)
   by-num decimal a n (Value v) m = by-number decimal a n v
@@ -87,18 +80,18 @@ module _ (P : Turn → Type 0) (fails : (e : Fault) → workb e ≡ true → P (
     by-worked : (decimal : Bool) (a n : ℕ) (w : Worked) → Works w → P (moveWorked c d decimal a n w)
     by-worked decimal a n (worked.Number v) m = by-number decimal a n v
     by-worked decimal a n (worked.Place number b l) m =
-        by-test number _ _ (by-num decimal a n (readAt c d b l) (read-works c d b l))
-        (by-test decimal _ _ (by-num true a n (alphaOf (c .dialect .top) (take l (drop b d))) (alpha-works c d (take l (drop b d)))) (puts (write.Move a n b l)))
+        cond-either P number _ _ (by-num decimal a n (readAt c d b l) (read-works c d b l))
+        (cond-either P decimal _ _ (by-num true a n (alphaOf (c .dialect .top) (take l (drop b d))) (alpha-works c d (take l (drop b d)))) (puts (write.Move a n b l)))
     by-worked decimal a n (worked.Text p l) m =
-        by-test decimal _ _ (by-num true a n (alphaOf (c .dialect .top) (take l (drop p (c .literals)))) (alpha-works c d (take l (drop p (c .literals))))) (puts (write.Literal a n p l))
+        cond-either P decimal _ _ (by-num true a n (alphaOf (c .dialect .top) (take l (drop p (c .literals)))) (alpha-works c d (take l (drop p (c .literals))))) (puts (write.Literal a n p l))
     by-worked decimal a n (worked.Failed e) m = fails e m
 
     by-count : (up decimal : Bool) (a n : ℕ) → P (countAt c d up decimal a n)
     by-count up decimal a n =
-        by-test decimal _ _ (by-num true a n (counted (c .dialect .top) up (readAt c d a n)) (counted-works c d up (readAt c d a n) (read-works c d a n))) (fails fault.Malformed refl)
+        cond-either P decimal _ _ (by-num true a n (counted (c .dialect .top) up (readAt c d a n)) (counted-works c d up (readAt c d a n) (read-works c d a n))) (fails fault.Malformed refl)
 
     by-case : (up decimal : Bool) (a n : ℕ) → P (caseAt up decimal a n)
-    by-case up decimal a n = by-test decimal _ _ (fails fault.Malformed refl) (puts (write.Case a n up))
+    by-case up decimal a n = cond-either P decimal _ _ (fails fault.Malformed refl) (puts (write.Case a n up))
 
     by-act : (x : Act) (s : Statement) (decimal : Bool) (a n : ℕ) → P (actAt c d x s decimal a n)
     by-act act.Set s decimal a n = by-worked decimal a n (workedOf c d (c .items (s .b))) (worked-works c d (c .items (s .b)))
@@ -120,7 +113,7 @@ module _ (P : Turn → Type 0) (fails : (e : Fault) → workb e ≡ true → P (
     turn-case i verb.Goto s j = j (flow.Goto (s .c)) (inl (refl, refl))
     turn-case i verb.IfZero s j =
         by-b s (ifZero (s .c))
-        (λ z. j (ifZero (s .c) z) (may-either i verb.IfZero s (eqb (natAbs z) 0) (flow.Goto (s .c)) flow.Next (λ e. inl (refl, refl)) tt))
+        (λ z. j (ifZero (s .c) z) (cond-either (MayGo i verb.IfZero s) (eqb (natAbs z) 0) (flow.Goto (s .c)) flow.Next (inl (refl, refl)) tt))
     turn-case i verb.Call s j = j (flow.Call (s .c)) (refl, inl (refl, refl))
     turn-case i verb.Return s j = j flow.Return refl
     turn-case i verb.Stop s j = j flow.Stop tt

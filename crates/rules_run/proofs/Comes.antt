@@ -19,6 +19,7 @@ use Rattle.rules_unit.specs.declared.Sort.{Sort}
 use Rattle.rules_unit.specs.declared.Sort.the-variants as sort
 use Rattle.rules_unit.specs.Codes.{Code, decimalb}
 use Rattle.rules_unit.specs.Expressions.{opTakes, howTakes, takes, itemb, placeSort, sortOf}
+use Rattle.rules_unit.proofs.Items.{op-two}
 use Rattle.rules_run.specs.declared.Span.{Span}
 use Rattle.rules_run.specs.declared.Span.the-variants.{At, Outside}
 use Rattle.rules_run.specs.declared.Worked.{Worked}
@@ -26,7 +27,7 @@ use Rattle.rules_run.specs.declared.Worked.the-variants as worked
 use Rattle.rules_run.specs.Spans.{spanOf}
 use Rattle.rules_run.specs.Evaluation.{apply, left, asPlace, placeBy, place, lastOf}
 use Rattle.rules_run.proofs.Faults.{calc-passes}
-use Rattle.rules_run.proofs.Formed.{formedb, literal-formed, step-formed, op-two}
+use Rattle.rules_run.proofs.Formed.{formedb, literal-formed, step-formed}
 
 abbrev pub Comes : Sort → Worked → Type 0
 Comes k (worked.Number v) = k ≡ sort.Number

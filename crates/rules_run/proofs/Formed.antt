@@ -16,14 +16,10 @@ use Rattle.rules.specs.declared.Fault.the-variants as fault
 use Rattle.rules.specs.declared.Num.{Num}
 use Rattle.rules.specs.declared.Num.the-variants.{Value, Failed}
 use Rattle.rules.proofs.Tests.{both}
-use Rattle.rules_unit.specs.declared.How.{How}
-use Rattle.rules_unit.specs.declared.How.the-variants as how
-use Rattle.rules_unit.specs.declared.Op.{Op}
-use Rattle.rules_unit.specs.declared.Op.the-variants as op
 use Rattle.rules_unit.specs.declared.Item.{Item}
 use Rattle.rules_unit.specs.declared.Item.the-variants as item
 use Rattle.rules_unit.specs.Codes.{Code, decimalb}
-use Rattle.rules_unit.specs.Expressions.{digitsb, opTakes, howTakes, takes, numberb, itemb, placeSort, sortOf, goesOn}
+use Rattle.rules_unit.specs.Expressions.{digitsb, numberb, itemb, placeSort, sortOf, goesOn}
 use Rattle.rules_run.specs.declared.Span.{Span}
 use Rattle.rules_run.specs.declared.Span.the-variants.{At, Outside}
 use Rattle.rules_run.specs.declared.Worked.{Worked}
@@ -90,35 +86,3 @@ module _ (P : Worked → Type 0) (w : (e : Fault) → formedb e ≡ true → P (
   step-formed (suc (suc n)) f [] k t h g m c = absurd (omega arith)
   step-formed (suc (suc n)) f (y ∷ []) k t h g m c = absurd (omega arith)
   step-formed (suc (suc n)) f (y ∷ (x ∷ st)) k t h g m c = room-formed st (f x y) k (omega arith) (m x y) (λ v. c (v ∷ st) (omega arith))
-
-pub op-two : (o : Op) → opTakes o ≤ 2
-op-two op.Add = omega arith
-op-two op.Subtract = omega arith
-op-two op.Multiply = omega arith
-op-two op.Divide = omega arith
-op-two op.Round = omega arith
-op-two op.Negate = omega arith
-op-two op.Eq = omega arith
-op-two op.Ne = omega arith
-op-two op.Gt = omega arith
-op-two op.Lt = omega arith
-op-two op.Ge = omega arith
-op-two op.Le = omega arith
-op-two op.Not = omega arith
-op-two op.And = omega arith
-op-two op.Or = omega arith
-op-two op.Xor = omega arith
-
-how-two : (h : How) → howTakes h ≤ 2
-how-two how.First = omega arith
-how-two how.Element = omega arith
-how-two how.Range = omega arith
-how-two how.Length = omega arith
-
-pub takes-two : (i : Item) → takes i ≤ 2
-takes-two (item.Number p l) = omega arith
-takes-two (item.Reference h f) = how-two h
-takes-two (item.Text p l) = omega arith
-takes-two (item.Operator o) = op-two o
-takes-two item.End = omega arith
-takes-two item.Bad = omega arith

@@ -1,29 +1,26 @@
 -- A statement of a sound unit never answers Malformed, whatever the data are (document 01, "The coded unit").
 -- Assumes nothing.
-use Prim.Native.Nat.{ℕ, _<_}
+use Prim.Native.Nat.{ℕ}
 use native.Mathlib.Omega.{arith}
 use mathlib.Core.Path.{_≡_, refl, sym, ap, _∙_}
 use mathlib.Core.Bool.{Bool, true, false, false≢true}
 use mathlib.Core.List.{List}
 use lib.Dec.{eqb}
 use lib.IntN.{natAbs}
-use lib.ListN.{length, getD}
 use Rattle.rules_unit.specs.declared.Statement.{Statement}
 use Rattle.rules_unit.specs.declared.Act.{Act}
 use Rattle.rules_unit.specs.declared.Act.the-variants as act
 use Rattle.rules_unit.specs.declared.Verb.{Verb}
 use Rattle.rules_unit.specs.declared.Verb.the-variants as verb
-use Rattle.rules_unit.specs.declared.Row.{Row}
-use Rattle.rules_unit.specs.Table.{verbOf, rowOf, usesBy}
-use Rattle.rules_unit.specs.declared.Sort.{Sort}
+use Rattle.rules_unit.specs.Table.{verbOf, rowOf}
 use Rattle.rules_unit.specs.declared.Sort.the-variants as sort
 use Rattle.rules_unit.specs.declared.Want.{Want}
 use Rattle.rules_unit.specs.declared.Want.the-variants as want
-use Rattle.rules_unit.specs.declared.Use.the-variants as use-of
 use Rattle.rules_unit.specs.Codes.{Code}
-use Rattle.rules_unit.specs.Expressions.{placeSort, sortAt, suits, useb}
+use Rattle.rules_unit.specs.Expressions.{placeSort, sortAt, suits}
 use Rattle.rules_unit.specs.Sound.{RowSound, StatementSound}
-use Rattle.rules_unit.proofs.Statements.{uses-good}
+use Rattle.rules_unit.proofs.Sorts.{suits-right}
+use Rattle.rules_unit.proofs.Statements.{uses-good, Used}
 use Rattle.rules_run.specs.declared.Worked.{Worked}
 use Rattle.rules_run.specs.declared.Worked.the-variants as worked
 use Rattle.rules_run.specs.declared.Write.the-variants as write
@@ -34,20 +31,8 @@ use Rattle.rules_run.specs.Turns.{onPlace, clearAt, counted, countAt, ca
 use Rattle.rules_run.proofs.Faults.{passes}
 use Rattle.rules_run.proofs.Formed.{formedb}
 use Rattle.rules_run.proofs.Comes.{Comes}
-use Rattle.rules_run.proofs.Sorted.{rightb, sort-comes}
+use Rattle.rules_run.proofs.Sorted.{sort-comes}
 use Rattle.rules_run.proofs.FormedMoves.{formedFlow, Formed, formed-failed, formed-stores, formed-num, formed-on, flow-cond, formed-choose, read-formed, formed-worked, counted-formed}
-
--- An expression that suits its use is not Wrong.
-suits-right : (w : Want) (k : Sort) → suits w k ≡ true → rightb k ≡ true
-suits-right want.Place sort.Wrong q = q
-suits-right want.DecimalPlace sort.Wrong q = q
-suits-right want.AlphaPlace sort.Wrong q = q
-suits-right want.Source sort.Wrong q = q
-suits-right want.Number sort.Wrong q = q
-suits-right w sort.Number q = refl
-suits-right w sort.Text q = refl
-suits-right w sort.Decimal q = refl
-suits-right w sort.Alpha q = refl
 
 module _ (c : Code) (d : List ℕ) where
   formed-count : (up decimal : Bool) (a n : ℕ) → suits want.DecimalPlace (placeSort decimal) ≡ true → Formed (countAt c d up decimal a n)
@@ -79,11 +64,7 @@ module _ (c : Code) (d : List ℕ) where
       by (worked.Text p l) m = absurd (false≢true (ap (suits want.Number) (sym m) ∙ q))
       by (worked.Failed f) m = m
 
-  -- All uses of a statement are of the sort that is wanted.
-  abbrev Used : Row → Statement → Type 0
-  Used r s = (k : ℕ) → k < length (usesBy r s) → useb c (getD (usesBy r s) k use-of.Nothing) ≡ true
-
-  formed-act : (x : Act) (s : Statement) → Used (rowOf (verb.At x)) s → Formed (onPlace (workedOf c d (c .items (s .a))) (actAt c d x s))
+  formed-act : (x : Act) (s : Statement) → Used c (rowOf (verb.At x)) s → Formed (onPlace (workedOf c d (c .items (s .a))) (actAt c d x s))
   formed-act act.Set s u =
       formed-place want.Place (s .a) (actAt c d act.Set s) refl refl (u 0 (omega arith))
       (λ t x n q. formed-worked c d (sortAt c (s .b)) t x n (workedOf c d (c .items (s .b))) (sort-comes c d (s .b) (suits-right want.Source (sortAt c (s .b)) (u 1 (omega arith)))))
@@ -91,7 +72,7 @@ module _ (c : Code) (d : List ℕ) where
   formed-act (act.Count up) s u = formed-place want.DecimalPlace (s .a) (countAt c d up) refl refl (u 0 (omega arith)) (formed-count up)
   formed-act (act.Case upper) s u = formed-place want.AlphaPlace (s .a) (caseAt upper) refl refl (u 0 (omega arith)) (formed-case upper)
 
-  formed-by : (i : ℕ) (v : Verb) (s : Statement) → RowSound c i (rowOf v) s → Used (rowOf v) s → Formed (turnBy c i d v s)
+  formed-by : (i : ℕ) (v : Verb) (s : Statement) → RowSound c i (rowOf v) s → Used c (rowOf v) s → Formed (turnBy c i d v s)
   unfolding turnBy
   formed-by i (verb.At x) s f u = formed-act x s u
   formed-by i verb.Goto s f u = record { formed = refl }

@@ -14,6 +14,7 @@ use lib.Dec.{ltb, leb}
 use lib.IntN.{ℤ, pos, negsuc, negℤ, _-ℤ_, +ℤ-assoc, *ℤ-zero}
 use lib.Signed.{leZ}
 use borrow.Author.Tests.{ltb-true, ltb-false, leb-true, leb-false, le-leb, lt-leb, le-ltb, lt-ltb}
+use Rattle.rules.proofs.Walk.{cond-same}
 use Rattle.rules_unit.specs.declared.Field.{Field}
 use Rattle.rules_unit.specs.declared.How.{How}
 use Rattle.rules_unit.specs.declared.How.the-variants as how
@@ -32,10 +33,6 @@ under a zero h = absurd (omega arith)
 under a (suc b) h = rw (lt-ltb a (suc b) h)
 
 -- ---- bytes inside the size
-
-same-cond : {A : Type 0} (t : Bool) (x : A) → cond t x x ≡ x
-same-cond true x = refl
-same-cond false x = refl
 
 module _ (size a n : ℕ) where
   pub past : size < a + n → Outside ≡ within size (pos a) n
@@ -82,7 +79,7 @@ module _ (size o : ℕ) where
 
   turned : (a b : ℕ) → b < a → Outside ≡ rangeSpan size o (pos a) (pos b)
   unfolding rangeSpan
-  turned a b h = rw (lt-leb a b h) (sym (same-cond (leb 1 a) Outside))
+  turned a b h = rw (lt-leb a b h) (sym (cond-same (leb 1 a) Outside))
 
   pub range-turned : {a b : ℕ} {s e : ℤ} → s ≡ pos a → e ≡ pos b → b < a → Outside ≡ rangeSpan size o s e
   range-turned {a} {b} p q h = rw (p, q) (turned a b h)
@@ -91,7 +88,7 @@ module _ (size o : ℕ) where
   unfolding rangeSpan
   range-end (pos zero) e h = refl
   range-end (pos (suc a)) (pos b) h = turned (suc a) b (omega (arith, leb-false 1 b h))
-  range-end (pos (suc a)) (negsuc b) h = sym (same-cond (leb 1 (suc a)) Outside)
+  range-end (pos (suc a)) (negsuc b) h = sym (cond-same (leb 1 (suc a)) Outside)
   range-end (negsuc a) e h = refl
 
   pub range-is : {a b : ℕ} {s e : ℤ} → s ≡ pos a → e ≡ pos b → 1 ≤ a → a ≤ b

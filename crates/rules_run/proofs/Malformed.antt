@@ -3,10 +3,11 @@
 -- Assumes nothing.
 use Prim.Native.Nat.{ℕ, _<_}
 use mathlib.Core.Path.{_≡_, refl, sym, ap, _∙_, subst}
-use mathlib.Core.Bool.{Bool, true, false, cond, false≢true}
+use mathlib.Core.Bool.{true, false, false≢true}
 use mathlib.Core.List.{List}
 use lib.Dec.{ltb, eqb}
 use Rattle.rules.specs.declared.Fault.the-variants as fault
+use Rattle.rules.proofs.Walk.{cond-either}
 use Rattle.rules_unit.specs.declared.Parts.{Parts}
 use Rattle.rules_unit.specs.declared.Checked.the-variants as checked
 use Rattle.rules_unit.specs.Codes.{Code}
@@ -33,16 +34,12 @@ abbrev MovedFormed : Moved → Type 0
 MovedFormed (to s) = Unit {0}
 MovedFormed (stuck f) = formedb f ≡ true
 
-moved-either : (t : Bool) (x y : Moved) → MovedFormed x → MovedFormed y → MovedFormed (cond t x y)
-moved-either true x y f g = f
-moved-either false x y f g = g
-
 moved-formed : (n : ℕ) (s : State) (f : Flow) → formedFlow f ≡ true → MovedFormed (movedBy n s f)
 unfolding movedBy
 moved-formed n s flow.Next h = tt
 moved-formed n s (flow.Goto i) h = tt
-moved-formed n s (flow.Call i) h = moved-either (ltb (s .depth) 50) (to (called s i)) (stuck fault.CallsFull) tt refl
-moved-formed n s flow.Return h = moved-either (eqb (s .depth) 0) (stuck fault.NoCall) (to (returned s)) refl tt
+moved-formed n s (flow.Call i) h = cond-either MovedFormed (ltb (s .depth) 50) (to (called s i)) (stuck fault.CallsFull) tt refl
+moved-formed n s flow.Return h = cond-either MovedFormed (eqb (s .depth) 0) (stuck fault.NoCall) (to (returned s)) refl tt
 moved-formed n s flow.Stop h = tt
 moved-formed n s (flow.Bad e) h = h
 

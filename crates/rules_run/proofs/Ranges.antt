@@ -18,8 +18,9 @@ use Rattle.rules.specs.declared.Num.the-variants.{Value, Failed}
 use Rattle.rules.specs.declared.Fault.the-variants as fault
 use Rattle.rules.specs.Values.{Val, isFrom}
 use Rattle.rules.specs.Arithmetic.{kept, isTrue, eqZ, xorb}
+use Rattle.rules.proofs.Range.{InRange, range-kept, range-div, range-round, range-neg, range-truth}
 use Rattle.rules.proofs.Tests.{both}
-use Rattle.rules.proofs.Range.{InRange, range-if, range-kept, range-div, range-round, range-neg, range-truth}
+use Rattle.rules.proofs.Walk.{cond-case}
 use Rattle.rules.proofs.Answers.{range-read}
 use Rattle.rules.proofs.Decimals.{from-digit, more-digits}
 use Rattle.rules_unit.specs.declared.How.{How}
@@ -76,16 +77,16 @@ module _ (c : Code) (d : List ℕ) (bound : ℕ) (truths : 1 < bound) (sums : c 
   plain-range : (s : List ℕ) → length s ≤ c .dialect .limit → InRange bound (plainNumber s)
   unfolding plainNumber
   plain-range s h =
-      range-if bound (digitsb s) (Value (pos (digitsFrom 0 s))) (Failed fault.Malformed)
+      cond-case (InRange bound) (digitsb s) (Value (pos (digitsFrom 0 s))) (Failed fault.Malformed)
       (λ e. record { small = lt-of-lt-of-le (digits-most (c .dialect .limit) 0 0 s (lit< tt) (omega arith) e) digits })
       (λ e. tt)
 
   literal-range : (p l : ℕ) → InRange bound (literalNumber c p l)
   unfolding literalNumber
   literal-range p l =
-      range-if bound (leb 1 l) _ (Failed fault.Malformed)
-      (λ _. range-if bound (leb l (c .dialect .limit)) _ (Failed fault.Malformed)
-      (λ e. range-if bound (leb (p + l) (length (c .literals))) _ (Failed fault.Malformed)
+      cond-case (InRange bound) (leb 1 l) _ (Failed fault.Malformed)
+      (λ _. cond-case (InRange bound) (leb l (c .dialect .limit)) _ (Failed fault.Malformed)
+      (λ e. cond-case (InRange bound) (leb (p + l) (length (c .literals))) _ (Failed fault.Malformed)
       (λ _. plain-range (take l (drop p (c .literals))) (omega (arith, leb-true l (c .dialect .limit) e, length-take l (drop p (c .literals)))))
       (λ _. tt)) (λ _. tt)) (λ _. tt)
 
@@ -99,8 +100,8 @@ module _ (c : Code) (d : List ℕ) (bound : ℕ) (truths : 1 < bound) (sums : c 
   reference-range : (h : How) (f : ℕ) (x y : ℤ) → InRange bound (reference c d h f x y)
   unfolding reference
   reference-range h f x y =
-      range-if bound (ltb f (c .fields)) _ (Failed fault.Malformed)
-      (λ _. range-if bound (decimalb c f) _ (Failed fault.Malformed) (λ _. span-range (spanOf (length d) (c .field f) h x y)) (λ _. tt))
+      cond-case (InRange bound) (ltb f (c .fields)) _ (Failed fault.Malformed)
+      (λ _. cond-case (InRange bound) (decimalb c f) _ (Failed fault.Malformed) (λ _. span-range (spanOf (length d) (c .field f) h x y)) (λ _. tt))
       (λ _. tt)
 
   pub apply-range : (i : Item) (x y : ℤ) → Val bound x → Val bound y → InRange bound (apply c d i x y)

@@ -1,11 +1,10 @@
 -- A well-formed expression of a sort comes to a value of that sort, or to a fault that is not Malformed, whatever the data are (document 01,
 -- "The coded unit").
---   rightb k        k is another sort than Wrong
 -- Assumes nothing.
 use Prim.Native.Nat.{ℕ, _+_, _-_, _≤_}
 use native.Mathlib.Omega.{arith}
 use mathlib.Core.Path.{_≡_, refl, sym, _∙_, subst}
-use mathlib.Core.Bool.{Bool, true, false, cond, false≢true}
+use mathlib.Core.Bool.{true}
 use mathlib.Core.List.{List, [], _∷_}
 use lib.Dec.{leb, eqb}
 use lib.IntN.{ℤ}
@@ -16,16 +15,11 @@ use Rattle.rules_unit.specs.declared.Sort.{Sort}
 use Rattle.rules_unit.specs.declared.Sort.the-variants as sort
 use Rattle.rules_unit.specs.Codes.{Code}
 use Rattle.rules_unit.specs.Expressions.{takes, itemb, sortOf, goesOn, sortFrom, sortAt}
+use Rattle.rules_unit.proofs.Items.{takes-two}
+use Rattle.rules_unit.proofs.Sorts.{rightb, sure}
 use Rattle.rules_run.specs.Evaluation.{apply, stepBy, onHeld, lastOf, workedFrom, workedOf}
-use Rattle.rules_run.proofs.Formed.{item-formed, step-formed, takes-two}
+use Rattle.rules_run.proofs.Formed.{item-formed, step-formed}
 use Rattle.rules_run.proofs.Comes.{Comes, last-comes}
-
-abbrev pub rightb : Sort → Bool
-rightb sort.Wrong = false
-rightb sort.Number = true
-rightb sort.Text = true
-rightb sort.Decimal = true
-rightb sort.Alpha = true
 
 module _ (c : Code) (d : List ℕ) where
   -- These are the tests that the check has passed at an item.
@@ -36,10 +30,6 @@ module _ (c : Code) (d : List ℕ) where
     few : n - takes i + 1 ≤ 16
     rest : rightb (sortFrom c is (n - takes i + 1) (sortOf c i)) ≡ true
     same : sortFrom c (i ∷ is) n k ≡ sortFrom c is (n - takes i + 1) (sortOf c i)
-
-  sure : (t : Bool) (a : Sort) → rightb (cond t a sort.Wrong) ≡ true → (t ≡ true) × (rightb a ≡ true)
-  sure true a h = (refl, h)
-  sure false a h = absurd (false≢true h)
 
   passed : (i : Item) (is : List Item) (n : ℕ) (k : Sort) → rightb (sortFrom c (i ∷ is) n k) ≡ true → Passed i is n k
   unfolding sortFrom

@@ -3,13 +3,13 @@
 -- Assumes nothing.
 use Prim.Native.Nat.{ℕ, _<_, _≤_}
 use native.Mathlib.Omega.{arith}
-use mathlib.Core.Path.{_≡_, refl, subst}
-use mathlib.Core.Bool.{Bool, true, false, cond}
+use mathlib.Core.Path.{_≡_, subst}
 use mathlib.Core.List.{List}
 use mathlib.Core.Logic.{inl, inr}
 use lib.Dec.{ltb, eqb}
 use borrow.Author.Tests.{ltb-true, eqb-false}
 use Rattle.rules.specs.declared.Fault.the-variants as fault
+use Rattle.rules.proofs.Walk.{cond-case}
 use Rattle.rules_unit.specs.declared.Statement.{Statement}
 use Rattle.rules_unit.specs.declared.Role.{Role}
 use Rattle.rules_unit.specs.declared.Row.{Row}
@@ -68,18 +68,14 @@ abbrev pub MovedSound : ℕ → Moved → Type 0
 MovedSound n (to s) = Sound n s
 MovedSound n (stuck f) = Unit {0}
 
-moved-either : (n : ℕ) (t : Bool) (x y : Moved) → (t ≡ true → MovedSound n x) → (t ≡ false → MovedSound n y) → MovedSound n (cond t x y)
-moved-either n true x y f g = f refl
-moved-either n false x y f g = g refl
-
 pub moved-sound : {n : ℕ} {s : State} → Sound n s → s .at < n → (f : Flow) → FlowSound n f → MovedSound n (movedBy n s f)
 unfolding movedBy
 moved-sound t l flow.Next h = gone-sound t (omega arith)
 moved-sound t l (flow.Goto i) h = gone-sound t h
 moved-sound {n} {s} t l (flow.Call i) h =
-    moved-either n (ltb (s .depth) 50) (to (called s i)) (stuck fault.CallsFull) (λ e. called-sound t h (omega arith) (ltb-true (s .depth) 50 e)) (λ e. tt)
+    cond-case (MovedSound n) (ltb (s .depth) 50) (to (called s i)) (stuck fault.CallsFull) (λ e. called-sound t h (omega arith) (ltb-true (s .depth) 50 e)) (λ e. tt)
 moved-sound {n} {s} t l flow.Return h =
-    moved-either n (eqb (s .depth) 0) (stuck fault.NoCall) (to (returned s)) (λ e. tt) (λ e. returned-sound t (omega (arith, eqb-false (s .depth) 0 e)))
+    cond-case (MovedSound n) (eqb (s .depth) 0) (stuck fault.NoCall) (to (returned s)) (λ e. tt) (λ e. returned-sound t (omega (arith, eqb-false (s .depth) 0 e)))
 moved-sound t l flow.Stop h = gone-sound t (omega arith)
 moved-sound t l (flow.Bad e) h = tt
 

@@ -9,8 +9,18 @@ use borrow.Author.Tests.{ltb-true, ltb-false, lt-ltb, le-ltb}
 use Rattle.rules.specs.declared.Fault.{Fault}
 use Rattle.rules_unit.specs.Codes.{Code}
 use Rattle.rules_run.specs.declared.State.{State}
+use Rattle.rules_run.specs.declared.Stop.{Stop}
 use Rattle.rules_run.specs.declared.Stop.the-variants as stop
+use Rattle.rules_run.specs.declared.Outcome.{Outcome}
 use Rattle.rules_run.specs.Runs.{Moved, to, stuck, nextOf, dataAfter, Ran, ended, runFrom}
+
+-- ---- what a call leaves, part by part
+
+abbrev pub halted : Stop → ℕ → ℕ → State → Outcome
+halted e place k s = record { stop = e; place = place; count = k; state = s }
+
+abbrev pub ran : Outcome → List ℕ → Ran
+ran r d = record { outcome = r; bytes = d }
 
 -- ---- the four ways of a step
 

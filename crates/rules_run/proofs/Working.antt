@@ -15,6 +15,7 @@ use Rattle.rules.specs.declared.Fault.the-variants as fault
 use Rattle.rules.specs.declared.Num.{Num}
 use Rattle.rules.specs.declared.Num.the-variants.{Value, Failed}
 use Rattle.rules.specs.Moves.{alphaOf}
+use Rattle.rules.proofs.Walk.{cond-either}
 use Rattle.rules_unit.specs.declared.How.{How}
 use Rattle.rules_unit.specs.declared.How.the-variants as how
 use Rattle.rules_unit.specs.declared.Item.{Item}
@@ -45,10 +46,6 @@ Works (worked.Number v) = Unit {0}
 Works (worked.Place decimal a n) = Unit {0}
 Works (worked.Text p l) = Unit {0}
 Works (worked.Failed e) = workb e ≡ true
-
-works-cond : (t : Bool) (x y : Worked) → Works x → Works y → Works (cond t x y)
-works-cond true x y f g = f
-works-cond false x y f g = g
 
 module _ (c : Code) (d : List ℕ) where
   pub read-works : (a n : ℕ) → passes workb (readAt c d a n) ≡ true
@@ -87,13 +84,13 @@ module _ (c : Code) (d : List ℕ) where
 
   as-works : (f : ℕ) (s : Span) → Works (asPlace c f s)
   as-works f (At a n) =
-      works-cond (decimalb c f) (cond (ltb (c .dialect .limit) n) (worked.Failed fault.TooLong) (worked.Place true a n)) (worked.Place false a n)
-      (works-cond (ltb (c .dialect .limit) n) (worked.Failed fault.TooLong) (worked.Place true a n) refl tt) tt
+      cond-either Works (decimalb c f) (cond (ltb (c .dialect .limit) n) (worked.Failed fault.TooLong) (worked.Place true a n)) (worked.Place false a n)
+      (cond-either Works (ltb (c .dialect .limit) n) (worked.Failed fault.TooLong) (worked.Place true a n) refl tt) tt
   as-works f Outside = refl
 
   by-works : (h : How) (f : ℕ) (x y : ℤ) → Works (placeBy c d h f x y)
   unfolding placeBy
-  by-works h f x y = works-cond (ltb f (c .fields)) _ (worked.Failed fault.Malformed) (as-works f (spanOf (length d) (c .field f) h x y)) refl
+  by-works h f x y = cond-either Works (ltb f (c .fields)) _ (worked.Failed fault.Malformed) (as-works f (spanOf (length d) (c .field f) h x y)) refl
 
   place-works : (h : How) (f : ℕ) (st : List ℤ) → Works (place c d h f st)
   unfolding place
@@ -115,7 +112,7 @@ module _ (c : Code) (d : List ℕ) where
   unfolding lastOf
   last-works (item.Number p l) st = step-any workb refl Works (λ e m. m) 0 (apply c d (item.Number p l)) st left (item-works (item.Number p l)) left-works
   last-works (item.Reference h f) st = place-works h f st
-  last-works (item.Text p l) [] = works-cond (textb c p l) (worked.Text p l) (worked.Failed fault.Malformed) tt refl
+  last-works (item.Text p l) [] = cond-either Works (textb c p l) (worked.Text p l) (worked.Failed fault.Malformed) tt refl
   last-works (item.Text p l) (x ∷ st) = refl
   last-works (item.Operator o) st = step-any workb refl Works (λ e m. m) (opTakes o) (apply c d (item.Operator o)) st left (item-works (item.Operator o)) left-works
   last-works item.End st = refl

@@ -1,17 +1,27 @@
 -- The items of an expression, one by one: the only place where the bound on their number is argued about.
 --   width-some, width-most    an item takes 1 to 5 bytes
+--   op-two, takes-two         an item takes no more than two values
+--   isEnd i                   the item is the end of an expression
+--   known-field               a reference that keeps its own rule is to a field of the unit
 --   beyond                    past the end of the expressions there is no item
---   items-step                the expression at an offset is its first item, and the expression that starts after that one
+--   items-step, items-as      the expression at an offset is its first item, and the expression that starts after that one
 -- Assumes nothing.
-use mathlib.Core.Path.{_≡_, ap}
+use mathlib.Core.Path.{_≡_, sym, ap, _∙_}
+use mathlib.Core.Bool.{Bool, true, false}
 use mathlib.Core.List.{List}
-use Prim.Native.Nat.{ℕ, zero, suc, _+_, _≤_}
+use Prim.Native.Nat.{ℕ, zero, suc, _+_, _<_, _≤_}
 use native.Mathlib.Omega.{arith}
 use lib.ListN.{length}
-use borrow.Author.Tests.{le-ltb}
+use borrow.Author.Tests.{le-ltb, ltb-true}
+use Rattle.rules_unit.specs.declared.Parts.{Parts}
+use Rattle.rules_unit.specs.declared.How.{How}
+use Rattle.rules_unit.specs.declared.How.the-variants as how
+use Rattle.rules_unit.specs.declared.Op.{Op}
+use Rattle.rules_unit.specs.declared.Op.the-variants as op
 use Rattle.rules_unit.specs.declared.Item.{Item}
 use Rattle.rules_unit.specs.declared.Item.the-variants as item
-use Rattle.rules_unit.specs.Decode.{itemAt, widthOf, follow, itemsIn, itemsAt}
+use Rattle.rules_unit.specs.Decode.{itemAt, widthOf, follow, itemsIn, itemsAt, codeOf}
+use Rattle.rules_unit.specs.Expressions.{opTakes, howTakes, takes, itemb}
 
 pub width-some : (i : Item) → 1 ≤ widthOf i
 width-some (item.Number place len) = omega arith
@@ -29,6 +39,50 @@ width-most (item.Operator o) = omega arith
 width-most item.End = omega arith
 width-most item.Bad = omega arith
 
+pub op-two : (o : Op) → opTakes o ≤ 2
+op-two op.Add = omega arith
+op-two op.Subtract = omega arith
+op-two op.Multiply = omega arith
+op-two op.Divide = omega arith
+op-two op.Round = omega arith
+op-two op.Negate = omega arith
+op-two op.Eq = omega arith
+op-two op.Ne = omega arith
+op-two op.Gt = omega arith
+op-two op.Lt = omega arith
+op-two op.Ge = omega arith
+op-two op.Le = omega arith
+op-two op.Not = omega arith
+op-two op.And = omega arith
+op-two op.Or = omega arith
+op-two op.Xor = omega arith
+
+how-two : (h : How) → howTakes h ≤ 2
+how-two how.First = omega arith
+how-two how.Element = omega arith
+how-two how.Range = omega arith
+how-two how.Length = omega arith
+
+pub takes-two : (i : Item) → takes i ≤ 2
+takes-two (item.Number place len) = omega arith
+takes-two (item.Reference h field) = how-two h
+takes-two (item.Text place len) = omega arith
+takes-two (item.Operator o) = op-two o
+takes-two item.End = omega arith
+takes-two item.Bad = omega arith
+
+abbrev pub isEnd : Item → Bool
+isEnd (item.Number place len) = false
+isEnd (item.Reference h field) = false
+isEnd (item.Text place len) = false
+isEnd (item.Operator o) = false
+isEnd item.End = true
+isEnd item.Bad = false
+
+-- "field numbers .. lie inside their parts"
+pub known-field : (u : List ℕ) (p : Parts) (i : Item) (h : How) (f : ℕ) → i ≡ item.Reference h f → itemb (codeOf u p) i ≡ true → f < p .f
+known-field u p i h f e g = ltb-true f (p .f) (rw e at g)
+
 pub beyond : (s : List ℕ) (at : ℕ) → length s ≤ at → itemAt s at ≡ item.Bad
 unfolding itemAt
 beyond s at h = rw (le-ltb at (length s) h)
@@ -43,3 +97,7 @@ enough (suc k) s at h =
 pub items-step : (s : List ℕ) (at : ℕ) → itemsAt s at ≡ follow (itemAt s at) (itemsAt s (at + widthOf (itemAt s at)))
 unfolding itemsAt itemsIn
 items-step s at = ap (follow (itemAt s at)) (enough (length s) s (at + widthOf (itemAt s at)) (omega arith))
+
+-- i is the first item, as the code has read it
+pub items-as : (s : List ℕ) (at : ℕ) (i : Item) → i ≡ itemAt s at → itemsAt s at ≡ follow i (itemsAt s (at + widthOf i))
+items-as s at i e = items-step s at ∙ ap (λ (j : Item). follow j (itemsAt s (at + widthOf j))) (sym e)

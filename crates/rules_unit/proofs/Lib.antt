@@ -1,4 +1,5 @@
 pub mod Items
+pub mod Sorts
 pub mod Tells
 pub mod Fields
 pub mod WellFormed

@@ -2,6 +2,7 @@
 --   check-says       what the answer says is so
 --   check-only       what is so is the answer
 --   passed-sound, sound-passed, passed-fills, passed-parts    of a unit that passes
+--   passed-by, fills-by    the same of the answer that the code has
 --   one-field        a byte in two decimal fields of a sound unit makes them one
 -- Assumes nothing.
 use Prim.Native.Nat.{ℕ, _-_, _<_, _≤_}
@@ -165,6 +166,14 @@ module _ (u : List ℕ) (p : Parts) where
 
   pub passed-fills : checkOf u ≡ checked.Passed p → Fills u p
   passed-fills e = rw (passed-parts e) (passed-sound e .filled .fills)
+
+-- v is the answer of the check
+module _ (u : List ℕ) (v : Checked) (is : v ≡ checkOf u) (p : Parts) (e : v ≡ checked.Passed p) where
+  pub passed-by : checkOf u ≡ checked.Passed p
+  passed-by = sym is ∙ e
+
+  pub fills-by : Fills u p
+  fills-by = passed-fills u p passed-by
 
 -- ---- a byte belongs to one decimal field
 

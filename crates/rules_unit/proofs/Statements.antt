@@ -22,7 +22,7 @@ use Rattle.rules_unit.specs.declared.Checked.{Checked}
 use Rattle.rules_unit.specs.declared.Checked.the-variants as checked
 use Rattle.rules_unit.specs.Codes.{Code}
 use Rattle.rules_unit.specs.Decode.{codeOf}
-use Rattle.rules_unit.specs.Table.{verbOf, rowOf, usesOf}
+use Rattle.rules_unit.specs.Table.{verbOf, rowOf, usesBy, usesOf}
 use Rattle.rules_unit.specs.Expressions.{useb, usesb}
 use Rattle.rules_unit.specs.WellFormed.{UseSound}
 use Rattle.rules_unit.specs.Checks.{isGoto, gotosb, tableb, roleb, rowb, shapeb, foundOf, onward, statementsFrom}
@@ -103,6 +103,10 @@ module _ (c : Code) where
   -- The test of each use of a sound statement.
   pub uses-good : (i : ℕ) → UsesSound c i → (k : ℕ) → k < length (usesOf (c .statement i)) → useb c (getD (usesOf (c .statement i)) k use-of.Nothing) ≡ true
   uses-good i s k h = use-tells c (getD (usesOf (c .statement i)) k use-of.Nothing) .of (s .each k h)
+
+  -- Every use of a statement is of the sort that is wanted, where r is its row.
+  abbrev pub Used : Row → Statement → Type 0
+  Used r s = (k : ℕ) → k < length (usesBy r s) → useb c (getD (usesBy r s) k use-of.Nothing) ≡ true
 
   -- ---- what is found of one statement
 

@@ -1,5 +1,6 @@
 -- Expressions (document 01, "The coded unit"): the test of a use tells that its expression is well formed, and of the sort that is wanted.
 --   Chain is n k     the tests that the items is pass, where n values are held after an item of the sort k
+--   text-tells       textb tells TextSound
 --   use-tells        useb tells UseSound
 -- Assumes nothing.
 use Prim.Native.Nat.{ℕ, zero, suc, _+_, _-_, _<_, _≤_}
@@ -22,6 +23,7 @@ use Rattle.rules_unit.specs.declared.Use.the-variants as use-of
 use Rattle.rules_unit.specs.Codes.{Code, decimalb}
 use Rattle.rules_unit.specs.Expressions.{digitsb, takes, numberb, textb, itemb, placeSort, sortOf, goesOn, sortFrom, sortAt, suits, useb}
 use Rattle.rules_unit.specs.WellFormed.{AllDigits, NumberSound, TextSound, ItemSound, taken, held, IsNumber, Wanted, WellFormed, UseSound}
+use Rattle.rules_unit.proofs.Sorts.{wrong-suits}
 use Rattle.rules_unit.proofs.Tells.{Tells, tells-lt, tells-le, tells-eq, tells-true, tells-false, tells-as, tells-and}
 
 -- ---- items
@@ -52,7 +54,7 @@ module _ (c : Code) where
       tells-as (λ r. record { some = r .0; short = r .1 .0; inside = r .1 .1 .0; digits = r .1 .1 .1 }) (λ r. (r .some, (r .short, (r .inside, r .digits))))
       (tells-and (tells-le 1 len) (tells-and (tells-le len (c .dialect .limit)) (tells-and (tells-le (place + len) (length (c .literals))) (digits-tell (take len (drop place (c .literals)))))))
 
-  text-tells : (place len : ℕ) → Tells (textb c place len) (TextSound c place len)
+  pub text-tells : (place len : ℕ) → Tells (textb c place len) (TextSound c place len)
   unfolding textb
   text-tells place len =
       tells-as (λ r. record { some = r .0; inside = r .1 }) (λ r. (r .some, r .inside)) (tells-and (tells-le 1 len) (tells-le (place + len) (length (c .literals))))
@@ -77,12 +79,6 @@ module _ (c : Code) where
   neither f g (inl x) = f x
   neither f g (inr y) = g y
 
-  not-true : false ≡ true → ⊥
-  not-true e = false≢true e
-
-  not-false : true ≡ false → ⊥
-  not-false e = true≢false e
-
   no : ⊥ → ⊥
   no x = x
 
@@ -93,7 +89,7 @@ module _ (c : Code) where
     where
       by : (t : Bool) → Tells (goesOn (placeSort t)) (⊥ ⊎ (t ≡ true))
       by true = something _ (inr refl)
-      by false = nothing _ (neither no not-true)
+      by false = nothing _ (neither no false≢true)
   goes-tells (item.Text place len) = nothing _ (neither no no)
   goes-tells (item.Operator o) = something _ (inl tt)
   goes-tells item.End = nothing _ (neither no no)
@@ -116,7 +112,7 @@ module _ (c : Code) where
     where
       by : (t : Bool) → Tells (suits want.DecimalPlace (placeSort t)) (t ≡ true)
       by true = something _ refl
-      by false = nothing _ not-true
+      by false = nothing _ false≢true
   wanted-tells want.DecimalPlace (item.Text place len) = tells-false
   wanted-tells want.DecimalPlace (item.Operator o) = tells-false
   wanted-tells want.DecimalPlace item.End = tells-false
@@ -125,7 +121,7 @@ module _ (c : Code) where
   wanted-tells want.AlphaPlace (item.Reference h field) = by (decimalb c field)
     where
       by : (t : Bool) → Tells (suits want.AlphaPlace (placeSort t)) (t ≡ false)
-      by true = nothing _ not-false
+      by true = nothing _ true≢false
       by false = something _ refl
   wanted-tells want.AlphaPlace (item.Text place len) = tells-false
   wanted-tells want.AlphaPlace (item.Operator o) = tells-false
@@ -146,7 +142,7 @@ module _ (c : Code) where
     where
       by : (t : Bool) → Tells (suits want.Number (placeSort t)) (⊥ ⊎ (t ≡ true))
       by true = something _ (inr refl)
-      by false = nothing _ (neither no not-true)
+      by false = nothing _ (neither no false≢true)
   wanted-tells want.Number (item.Text place len) = nothing _ (neither no no)
   wanted-tells want.Number (item.Operator o) = something _ (inl tt)
   wanted-tells want.Number item.End = nothing _ (neither no no)
@@ -165,23 +161,13 @@ module _ (c : Code) where
   sortAfter k (i ∷ is) = sortAfter (sortOf c i) is
 
   module _ (w : Want) where
-    wrong-suits : suits w sort.Wrong ≡ false
-    wrong-suits = by w
-      where
-        by : (w : Want) → suits w sort.Wrong ≡ false
-        by want.Place = refl
-        by want.DecimalPlace = refl
-        by want.AlphaPlace = refl
-        by want.Source = refl
-        by want.Number = refl
-
     -- A test, then the rest.
     if-tells : (t : Bool) (a : Sort) {P Q : Type 0} → Tells t P → Tells (suits w a) Q → Tells (suits w (cond t a sort.Wrong)) (P × Q)
     if-tells t a {P} {Q} p q = subst (λ (x : Bool). Tells x (P × Q)) (by t) (tells-and p q)
       where
         by : (t : Bool) → cond t (suits w a) false ≡ suits w (cond t a sort.Wrong)
         by true = refl
-        by false = sym wrong-suits
+        by false = sym (wrong-suits w)
 
     chain-tells : (is : List Item) (n : ℕ) (k : Sort) → Tells (suits w (sortFrom c is n k)) (Chain is n k × (suits w (sortAfter k is) ≡ true))
     unfolding sortFrom

@@ -27,6 +27,7 @@ use Rattle.rules_unit.specs.declared.Item.{Item}
 use Rattle.rules_unit.specs.declared.Item.the-variants as item
 use Rattle.rules_unit.specs.Codes.{Code}
 use Rattle.rules_unit.specs.Expressions.{howTakes, takes, textb}
+use Rattle.rules_unit.proofs.Items.{takes-two}
 use Rattle.rules_run.specs.declared.Worked.the-variants as worked
 use Rattle.rules_run.specs.Spans.{spanOf}
 use Rattle.rules_run.specs.Evaluation.{calc, reference, apply, halt, push, room, stepBy, left, placeBy, place, textBy}
@@ -59,32 +60,6 @@ left-other held (suc zero) h = absurd (h refl)
 left-other held (suc (suc n)) h = refl
 
 -- ---- an item
-
-takes-two : (i : Item) → takes i ≤ 2
-takes-two (item.Number place len) = omega arith
-takes-two (item.Reference how.First f) = omega arith
-takes-two (item.Reference how.Element f) = omega arith
-takes-two (item.Reference how.Range f) = omega arith
-takes-two (item.Reference how.Length f) = omega arith
-takes-two (item.Text place len) = omega arith
-takes-two (item.Operator op.Add) = omega arith
-takes-two (item.Operator op.Subtract) = omega arith
-takes-two (item.Operator op.Multiply) = omega arith
-takes-two (item.Operator op.Divide) = omega arith
-takes-two (item.Operator op.Round) = omega arith
-takes-two (item.Operator op.Negate) = omega arith
-takes-two (item.Operator op.Eq) = omega arith
-takes-two (item.Operator op.Ne) = omega arith
-takes-two (item.Operator op.Gt) = omega arith
-takes-two (item.Operator op.Lt) = omega arith
-takes-two (item.Operator op.Ge) = omega arith
-takes-two (item.Operator op.Le) = omega arith
-takes-two (item.Operator op.Not) = omega arith
-takes-two (item.Operator op.And) = omega arith
-takes-two (item.Operator op.Or) = omega arith
-takes-two (item.Operator op.Xor) = omega arith
-takes-two item.End = omega arith
-takes-two item.Bad = omega arith
 
 under : (k n : ℕ) (f : ℤ → ℤ → Num) (held : List ℤ) → n < k → k ≤ 2 → stepBy k f (topDown held n) ≡ halt fault.Malformed
 unfolding stepBy topDown

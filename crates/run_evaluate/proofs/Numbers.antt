@@ -1,12 +1,12 @@
 -- An expression of the unit, as the part of the unit that the code reads, and the number that it comes to, once it is known what it comes to.
 -- Assumes nothing.
-use mathlib.Core.Path.{_≡_, ap, subst}
+use mathlib.Core.Path.{_≡_, ap}
 use mathlib.Core.Bool.{Bool, true, false}
 use mathlib.Core.List.{List}
-use Prim.Native.Nat.{ℕ, _+_, _-_, _≤_}
+use Prim.Native.Nat.{ℕ, _-_}
 use native.Mathlib.Omega.{arith}
 use lib.IntN.{ℤ}
-use lib.ListN.{length, take, drop}
+use lib.ListN.{take, drop}
 use mir.Syntax.{w64}
 use mir.Val.{SFits, toZ, ofZ}
 use Rattle.rules.specs.declared.Num.{Num}
@@ -19,7 +19,7 @@ use Rattle.rules_unit.specs.declared.Parts.{Parts}
 use Rattle.rules_unit.specs.Decode.{expressionsAt, literalsAt, itemsAt, codeOf}
 use Rattle.rules_run.specs.declared.Worked.{Worked}
 use Rattle.rules_run.specs.declared.Worked.the-variants as worked
-use Rattle.rules_run.specs.Evaluation.{workedOf, numberOf, Within}
+use Rattle.rules_run.specs.Evaluation.{workedOf, numberOf}
 
 -- The expressions are the part of the unit from a to b.
 pub worked-part : (u : List ℕ) (p : Parts) (d : List ℕ) (a b e e′ : ℕ) (r : Worked)
@@ -38,10 +38,6 @@ module _ (u : List ℕ) (p : Parts) (d : List ℕ) (w : Worked) where
   number-failed f e = rw e
 
   module _ (decimal : Bool) (a n : ℕ) (e : w ≡ worked.Place decimal a n) where
-    -- "every place lies inside the data"
-    pub place-inside : Within (codeOf u p) (length d) w → a + n ≤ length d
-    place-inside h = subst (Within (codeOf u p) (length d)) e h .0
-
     pub number-read : (r : Num) → decimal ≡ true → r ≡ readOf (p .dialect .limit) (p .dialect .sign) (take n (drop a d)) → r ≡ numberOf (codeOf u p) d w
     number-read r t q = rw (e, t) q
 

@@ -20,6 +20,7 @@ use Rattle.rules.specs.declared.Fault.the-variants as fault
 use Rattle.rules.specs.Values.{Val}
 use Rattle.rules.proofs.Range.{of-range}
 use Rattle.rules.proofs.Signed.{back, again, val-fits, op-plain, pow-le18}
+use Rattle.rules.proofs.Walk.{cond-same}
 use Rattle.rules_unit.specs.declared.Parts.{Parts}
 use Rattle.rules_unit.specs.declared.How.{How}
 use Rattle.rules_unit.specs.declared.How.the-variants as how
@@ -29,13 +30,12 @@ use Rattle.rules_unit.specs.declared.Item.the-variants as item
 use Rattle.rules_unit.specs.Codes.{Code}
 use Rattle.rules_unit.specs.Decode.{wordAt, referenceAt, numberAt, textAt, itemAt, widthOf, follow, itemsAt, codeOf}
 use Rattle.rules_unit.specs.Expressions.{howTakes, opTakes, takes, textb}
-use Rattle.rules_unit.proofs.Items.{items-step, beyond}
+use Rattle.rules_unit.proofs.Items.{items-as, beyond}
 use Rattle.rules_run.specs.declared.Worked.{Worked}
 use Rattle.rules_run.specs.declared.Worked.the-variants as worked
 use Rattle.rules_run.specs.Spans.{spanOf}
 use Rattle.rules_run.specs.Evaluation.{calc, literalNumber, reference, apply, Held, halt, push, room, stepBy, left, onHeld, placeBy, lastOf, workedFrom, workedOf}
 use Rattle.rules_run.proofs.Ranges.{apply-range}
-use Rattle.unit_sorts.proofs.Notes.{same}
 use Rattle.run_items.proofs.Closing.{closed, unclosed}
 use Rattle.run_evaluate.specs.declared.Step.{Step}
 use Rattle.run_evaluate.specs.declared.Step.the-variants.{Hold, Done}
@@ -71,15 +71,14 @@ module _ (c : Code) (d : List ℕ) (st : List ℤ) where
   rest-text : (p l : ℕ) (is : List Item) → (is ≡ [] → ⊥) → restOf c d (item.Text p l ∷ is) st ≡ worked.Failed fault.Malformed
   unfolding restOf workedFrom stepBy
   rest-text p l [] o = absurd (o refl)
-  rest-text p l (j ∷ is) o = ap (λ (h : Held). onHeld h (restOf c d (j ∷ is))) (same (ltb (length st) 16) (halt fault.Malformed))
+  rest-text p l (j ∷ is) o = ap (λ (h : Held). onHeld h (restOf c d (j ∷ is))) (cond-same (ltb (length st) 16) (halt fault.Malformed))
 
 -- ---- a step
 
 module _ (u : List ℕ) (p : Parts) (d es : List ℕ) (i n : ℕ) (held : List ℤ) (ready : Ready u p d es i held) where
   at-item : (it : Item) → it ≡ itemAt es i
       → restOf (codeOf u p) d (itemsAt es i) (topDown held n) ≡ restOf (codeOf u p) d (follow it (itemsAt es (i + widthOf it))) (topDown held n)
-  at-item it e =
-      ap (λ (l : List Item). restOf (codeOf u p) d l (topDown held n)) (items-step es i ∙ ap (λ (j : Item). follow j (itemsAt es (i + widthOf j))) (sym e))
+  at-item it e = ap (λ (l : List Item). restOf (codeOf u p) d l (topDown held n)) (items-as es i it e)
 
   leads-done : (r : Step) (w : Worked) → r ≡ Done w → restOf (codeOf u p) d (itemsAt es i) (topDown held n) ≡ w → Leads (codeOf u p) d es i n held r
   leads-done r w e f = rw e (record { same = sym f; onward = tt })
@@ -290,7 +289,7 @@ module _ (c : Code) (d es : List ℕ) (i n : ℕ) (held : List ℤ) (z : Worked)
   pub loop-beyond : length es ≤ i → worked.Failed fault.Malformed ≡ z
   unfolding restOf workedFrom lastOf
   loop-beyond h =
-      sym (ap (λ (l : List Item). restOf c d l (topDown held n)) (items-step es i ∙ ap (λ (j : Item). follow j (itemsAt es (i + widthOf j))) (beyond es i h)))
+      sym (ap (λ (l : List Item). restOf c d l (topDown held n)) (items-as es i item.Bad (sym (beyond es i h))))
       ∙ rest
 
   module _ (r : Step) (step : Leads c d es i n held r) where

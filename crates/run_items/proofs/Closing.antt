@@ -12,15 +12,7 @@ use Rattle.rules_unit.specs.declared.Op.{Op}
 use Rattle.rules_unit.specs.declared.Item.{Item}
 use Rattle.rules_unit.specs.declared.Item.the-variants as item
 use Rattle.rules_unit.specs.Decode.{referenceAt, numberAt, textAt, itemBy, itemAt, widthOf, follow, itemsAt}
-use Rattle.rules_unit.proofs.Items.{items-step}
-
-abbrev isEnd : Item → Bool
-isEnd (item.Number place len) = false
-isEnd (item.Reference h f) = false
-isEnd (item.Text place len) = false
-isEnd (item.Operator o) = false
-isEnd item.End = true
-isEnd item.Bad = false
+use Rattle.rules_unit.proofs.Items.{isEnd, items-step}
 
 -- Every code but 00 has an item that is not End.
 record Other (i : Item) : Type 0 where

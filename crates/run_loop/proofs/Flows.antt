@@ -12,6 +12,7 @@ use denote.Enum.Declared.{tagOf}
 use types.Run.{OneOf, miss}
 use Rattle.rules.specs.declared.Fault.{Fault}
 use Rattle.rules.specs.declared.Fault.the-variants as fault
+use Rattle.rules.proofs.Walk.{cond-either}
 use Rattle.rules_run.specs.declared.Flow.{Flow}
 use Rattle.rules_run.specs.declared.Flow.the-variants as flow
 use Rattle.rules_run.specs.declared.State.{State}
@@ -79,15 +80,11 @@ module _ (n : ℕ) (s : State) (t : Turn) where
 
 -- What holds of a turn and of every error holds of what the turn comes to.
 module _ (P : Turn → Type 0) (depth : ℕ) (t : Turn) (fails : (e : Fault) → P (failed e)) (own : P t) where
-  either : (b : Bool) (x y : Turn) → P x → P y → P (cond b x y)
-  either true x y h k = h
-  either false x y h k = k
-
   by-either : (f : Flow) → P (underBy depth t f)
   by-either flow.Next = own
   by-either (flow.Goto i) = own
-  by-either (flow.Call i) = either (ltb depth 50) t (failed fault.CallsFull) own (fails fault.CallsFull)
-  by-either flow.Return = either (eqb depth 0) (failed fault.NoCall) t (fails fault.NoCall) own
+  by-either (flow.Call i) = cond-either P (ltb depth 50) t (failed fault.CallsFull) own (fails fault.CallsFull)
+  by-either flow.Return = cond-either P (eqb depth 0) (failed fault.NoCall) t (fails fault.NoCall) own
   by-either flow.Stop = own
   by-either (flow.Bad k) = own
 

@@ -17,7 +17,6 @@ use Rattle.rules_unit.proofs.Sound.{passed-sound, passed-fills}
 use Rattle.rules_run.specs.declared.Flow.the-variants as flow
 use Rattle.rules_run.specs.declared.State.{State}
 use Rattle.rules_run.specs.declared.Turn.{Turn}
-use Rattle.rules_run.specs.declared.Stop.{Stop}
 use Rattle.rules_run.specs.declared.Stop.the-variants as stop
 use Rattle.rules_run.specs.declared.Outcome.{Outcome}
 use Rattle.rules_run.specs.States.{gone, called, returned}
@@ -26,7 +25,7 @@ use Rattle.rules_run.specs.Runs.{Ran, Moved, movedBy, stuck, to, runFrom}
 use Rattle.rules_run.proofs.Lengths.{passed-dialect}
 use Rattle.rules_run.proofs.Outside.{applied-length}
 use Rattle.rules_run.proofs.Room.{turn-room}
-use Rattle.rules_run.proofs.Steps.{run-ends, run-spent, run-fails, run-goes}
+use Rattle.rules_run.proofs.Steps.{halted, ran, run-ends, run-spent, run-fails, run-goes}
 use Rattle.run_loop.specs.Flows.{turnUnder}
 use Rattle.run_loop.proofs.Flows.{led, led-as, to-as, under-moves, under-write, under-either, call-free, return-free}
 
@@ -54,12 +53,6 @@ module _ (u : List ℕ) (p : Parts) (e : checkOf u ≡ checked.Passed p) where
 pub ruleset passed-laws = (passed-fills, passed-dialect, passed-shape, passed-room)
 
 -- ---- a turn
-
-abbrev halted : Stop → ℕ → ℕ → State → Outcome
-halted e place k s = record { stop = e; place = place; count = k; state = s }
-
-abbrev ran : Outcome → List ℕ → Ran
-ran r d = record { outcome = r; bytes = d }
 
 module _ (u : List ℕ) (p : Parts) (s : State) (d : List ℕ) (m k : ℕ) (z : Ran) (rest : runFrom (codeOf u p) m s d k ≡ z) where
   pub turn-ends : (r : Outcome) → r ≡ halted stop.End (p .n) k s → p .n ≤ s .at → ran r d ≡ z

@@ -84,9 +84,6 @@ module _ (decimal : Bool) (a n : ℕ) (t : Turn) where
     source-failed f h e = rw h e
 
 -- where the source lies
-pub place-within : (c : Code) (size : ℕ) (w : Worked) (number : Bool) (b m : ℕ) → Within c size w → w ≡ worked.Place number b m → b + m ≤ size
-place-within c size w number b m within e = subst (Within c size) e within .0
-
 pub text-within : (u : List ℕ) (p : Parts) (size : ℕ) (w : Worked) (place count : ℕ) → Within (codeOf u p) size w → w ≡ worked.Text place count
     → place + count ≤ length (codeOf u p .literals)
 text-within u p size w place count within e = subst (Within (codeOf u p) size) e within

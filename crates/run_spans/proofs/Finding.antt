@@ -1,7 +1,7 @@
 -- Laws of finding spans, for the code: its numbers are of 64 bits.
 -- Assumes nothing.
 use Prim.Native.Nat.{ℕ, _*_, _^_, _<_, _≤_}
-use native.Mathlib.Nat.{mul-le-mul, mul-le-mul-left, mul-one}
+use native.Mathlib.Nat.{mul-le-mul-left, mul-one}
 use native.Mathlib.Omega.{arith}
 use mathlib.Core.Path.{_≡_, refl, sym, ap, ap₂, _∙_}
 use mathlib.Core.Bool.{Bool, true, false}
@@ -18,12 +18,9 @@ use Rattle.rules_run.specs.Spans.{within, elementSpan, rangeSpan, lengthSpan, s
 
 -- ---- numbers
 
--- a product with a size: no less than the count, and one that fits
+-- a product with a size is no less than the count
 pub grows : (k n : ℕ) → 1 ≤ n → k ≤ k * n
 grows k n h = rw mul-one at (mul-le-mul-left k h)
-
-pub product : (k n : ℕ) → k < 65536 → n < 65536 → k * n ≤ 65535 * 65535
-product k n hk hn = mul-le-mul {n₂ = 65535} {m₂ = 65535} (omega arith) (omega arith)
 
 -- what the calls that ask for a number's sign and its magnitude tell of it
 pub told : {s : ℤ} {t b : Bool} {k : ℕ} → SFits w64 s → t ≡ isNeg (toZ w64 (ofZ w64 s)) → t ≡ b → k ≡ natAbs (toZ w64 (ofZ w64 s)) → s ≡ signed b k

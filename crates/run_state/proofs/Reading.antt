@@ -4,12 +4,13 @@ use Prim.Native.Nat.{ℕ, zero, suc, _+_, _<_, _≤_}
 use native.Mathlib.Nat.{add-comm}
 use native.Mathlib.Omega.{arith}
 use mathlib.Core.Path.{_≡_, refl, sym, ap, _∙_}
-use mathlib.Core.Bool.{Bool, true, false, cond}
+use mathlib.Core.Bool.{true, false}
 use mathlib.Core.List.{List, [], _∷_}
 use lib.Dec.{leb}
 use lib.ListN.{length, getD, take, drop, set, length-drop, drop-of-length-le}
 use lib.Seq.{drop-cons, getD-drop}
 use borrow.Author.Tests.{le-leb, lt-leb, eq-eqb, ne-eqb}
+use Rattle.rules.proofs.Walk.{cond-same}
 use Rattle.rules_run.specs.declared.State.{State}
 use Rattle.rules_host.specs.Laid.{laid}
 use Rattle.rules_host.proofs.Laid.{laid-next, laid-all, laid-same}
@@ -17,15 +18,11 @@ use Rattle.rules_host.specs.Numbers.{smallb, stateb, noState, stateOf}
 
 -- ---- numbers that are no state's
 
-neither : (b : Bool) → cond b false false ≡ false
-neither true = refl
-neither false = refl
-
 over : (w : List ℕ) (i : ℕ) → i < length w → 65535 < getD w i 0 → smallb w ≡ false
 unfolding smallb
 over [] i h k = absurd (omega arith)
 over (x ∷ w) zero h k = rw (lt-leb x 65535 k)
-over (x ∷ w) (suc i) h k = rw (over w i (omega arith) k) (neither (leb x 65535))
+over (x ∷ w) (suc i) h k = rw (over w i (omega arith) k) (cond-same (leb x 65535) false)
 
 module _ (w : List ℕ) (z : State) (is : z ≡ noState) where
   -- There are not 52.

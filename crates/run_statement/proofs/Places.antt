@@ -1,7 +1,7 @@
 -- What is done at a place once it is found, and where it is none: one law for each thing that an expression comes to.
 -- Assumes nothing.
 use Prim.Native.Nat.{ℕ, _+_, _≤_}
-use mathlib.Core.Path.{_≡_, sym, _∙_, ap, subst}
+use mathlib.Core.Path.{_≡_, sym, _∙_, ap}
 use mathlib.Core.Bool.{Bool}
 use mathlib.Core.List.{List}
 use lib.IntN.{ℤ}
@@ -18,7 +18,7 @@ use Rattle.rules_run.specs.declared.Worked.the-variants as worked
 use Rattle.rules_run.specs.declared.Turn.{Turn}
 use Rattle.rules_run.specs.Evaluation.{workedOf, Within}
 use Rattle.rules_run.specs.Turns.{failed, moveWorked, onPlace, actAt}
-use Rattle.rules_run.proofs.Bounded.{worked-within}
+use Rattle.rules_run.proofs.Bounded.{worked-within, place-within}
 use Rattle.rules_unit.specs.declared.Act.{Act}
 use Rattle.rules_unit.specs.declared.Act.the-variants as act
 
@@ -58,4 +58,4 @@ within-by u p d is x dialect e = rw e (worked-within (codeOf u p) d (dialect .li
 -- a place lies inside the data
 pub found-inside : (u : List ℕ) (p : Parts) (d : List ℕ) (is : List Item) (x : Worked) → SoundDialect (p .dialect) → x ≡ workedOf (codeOf u p) d is
     → (decimal : Bool) (a n : ℕ) → x ≡ worked.Place decimal a n → a + n ≤ length d
-found-inside u p d is x dialect e decimal a n h = subst (Within (codeOf u p) (length d)) h (within-by u p d is x dialect e) .0
+found-inside u p d is x dialect e decimal a n h = place-within (codeOf u p) (length d) x decimal a n (within-by u p d is x dialect e) h

@@ -6,19 +6,17 @@ use native.Mathlib.Numerals.{add-one}
 use native.Mathlib.Omega.{arith}
 use mathlib.Core.Path.{_≡_, sym, ap, _∙_}
 use mathlib.Core.List.{List, _++_, append-nil}
-use lib.ListN.{length, take, drop, getD, set, replicate, length-drop, length-replicate}
-use lib.Seq.{length-take-le, drop-cons, drop-drop, take-add, take-take, take-length, set-split}
+use lib.ListN.{length, take, drop, getD, set, replicate, length-replicate}
+use lib.Seq.{drop-cons, drop-drop, take-add, take-take, take-length, set-split}
 use borrow.Rule.Slice.PartMut.{putMid, mid-len}
 use Rattle.rules.specs.Moves.{fitted}
+use Rattle.rules.proofs.Sizes.{part-length}
 use Rattle.alpha.proofs.Fitting.{fitted-is}
 use Rattle.rules_run.specs.Turns.{stored}
 use Rattle.rules_run.proofs.Stored.{stored-low, stored-high, stored-length, stored-none, stored-append, stored-prepend, stored-part}
 
 module _ (d : List ℕ) where
   -- ---- both directions
-
-  part-length : (b n : ℕ) → b + n ≤ length d → length (take n (drop b d)) ≡ n
-  part-length b n h = length-take-le n (drop b d) (omega (arith, length-drop b d))
 
   -- two parts that touch
   joined : (b m n : ℕ) → take m (drop b d) ++ take n (drop (b + m) d) ≡ take (m + n) (drop b d)
@@ -37,7 +35,7 @@ module _ (d : List ℕ) where
       ≡ stored d to (take (n + 1) (drop from d))
   up-turn to from n h k =
       let s : List ℕ = take n (drop from d) in
-      let l : length s ≡ n = part-length from n (omega arith) in
+      let l : length s ≡ n = part-length d from n (omega arith) in
       let e : to + n ≡ to + length s = omega arith in
       let room : to + n < length (stored d to s) = omega (arith, stored-length d to s (omega arith)) in
       byte (stored d to s) (to + n) (from + n) room k (stored-high d to s (from + n) (omega arith) (omega arith))
@@ -50,8 +48,8 @@ module _ (d : List ℕ) where
       ≡ stored d a (take (1 + n) (drop b d))
   down-byte a b n h k =
       let s : List ℕ = take n (drop (b + 1) d) in
-      let l : length s ≡ n = part-length (b + 1) n (omega arith) in
-      let one : length (take 1 (drop b d)) ≡ 1 = part-length b 1 (omega arith) in
+      let l : length s ≡ n = part-length d (b + 1) n (omega arith) in
+      let one : length (take 1 (drop b d)) ≡ 1 = part-length d b 1 (omega arith) in
       let e : a + 1 ≡ a + length (take 1 (drop b d)) = omega arith in
       let room : a < length (stored d (a + 1) s) = omega (arith, stored-length d (a + 1) s (omega arith)) in
       byte (stored d (a + 1) s) a b room (omega arith) (stored-low d (a + 1) s b (omega arith) (omega arith))
@@ -85,7 +83,7 @@ module _ (d : List ℕ) where
       → stored d start (take len (drop from d)) ≡ stored d start (fitted len (take count (drop from d)))
   cut start len from count h k =
       let s : List ℕ = take count (drop from d) in
-      let m : min len (length s) ≡ len = min-eq-left (omega (arith, part-length from count k)) in
+      let m : min len (length s) ≡ len = min-eq-left (omega (arith, part-length d from count k)) in
       ap (stored d start)
       (sym (fitted-is len s ∙ rw (m, sub-self len, append-nil (take len s)) (take-take len count (drop from d) h)))
 
@@ -97,7 +95,7 @@ module _ (d : List ℕ) where
   filled start len from count ys h k l q =
       let s : List ℕ = take count (drop from d) in
       let x : List ℕ = stored d start s in
-      let n : length s ≡ count = part-length from count l in
+      let n : length s ≡ count = part-length d from count l in
       let room : start + len ≤ length x = omega (arith, stored-length d start s (omega arith)) in
       let w : start + len - (start + count) ≡ len - length s = omega arith in
       let f : ys ≡ replicate (len - length s) 32 = q ∙ ap (λ (j : ℕ). replicate j 32) (mid-len (start + count) (start + len) x room ∙ w) in

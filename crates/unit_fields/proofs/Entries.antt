@@ -1,7 +1,5 @@
 -- Laws of checks 1 and 3, as their code meets them: f is the entry that the code has read. Assumes nothing.
 use Prim.Native.Nat.{ℕ, _+_, _-_, _*_, _<_, _≤_}
-use native.Mathlib.Omega.{arith}
-use native.Mathlib.Nat.{mul-le-mul}
 use mathlib.Core.Path.{_≡_, sym, _∙_, subst}
 use mathlib.Core.Bool.{Bool, true, false, cond, not}
 use mathlib.Core.List.{List}
@@ -27,10 +25,6 @@ module _ (u : List ℕ) (m : Mark) (w : Bool) (least : 12 ≤ length u) (most : 
   pub filled-by : (q : Parts) (r : ℕ) → w ≡ false → q ≡ partsOf u → r ≡ fullLength q → eqb r (length u) ≡ filledb u
   unfolding filledb
   filled-by q r e f g = rw (le-leb 12 (length u) least, le-leb (length u) 57353 most, ← read, ← is, e, g, f)
-
--- a product of words
-pub product : (m n : ℕ) → m < 65536 → n < 65536 → m * n ≤ 65535 * 65535
-product m n h k = mul-le-mul {n₂ = 65535} {m₂ = 65535} (omega arith) (omega arith)
 
 -- ---- one entry
 

@@ -21,14 +21,14 @@ use Rattle.rules_unit.specs.declared.Checked.the-variants as checked
 use Rattle.rules_unit.specs.declared.Refusal.{Refusal}
 use Rattle.rules_unit.specs.declared.Stretch.{Stretch}
 use Rattle.rules_unit.specs.Codes.{Code}
-use Rattle.rules_unit.specs.Decode.{Fills, expressionsAt, literalsAt, itemAt, widthOf, follow, itemsAt, codeOf}
+use Rattle.rules_unit.specs.Decode.{expressionsAt, literalsAt, itemAt, widthOf, follow, itemsAt, codeOf}
 use Rattle.rules_unit.specs.Expressions.{textb, sortFrom, sortAt, suits, useb}
 use Rattle.rules_unit.specs.Table.{rowOf, useOf, usesOf}
 use Rattle.rules_unit.specs.Checks.{checkOf}
 use Rattle.rules_unit.specs.Literals.{nowhere, loneText, stretchBy, stretchIn, stretchOf, literalOf}
-use Rattle.rules_unit.proofs.Items.{items-step}
+use Rattle.rules_unit.proofs.Items.{isEnd, items-as}
 use Rattle.rules_unit.proofs.Table.{verb-set}
-use Rattle.rules_unit.proofs.Tells.{Tells, tells-le, tells-and}
+use Rattle.rules_unit.proofs.WellFormed.{text-tells}
 use Rattle.rules_unit.proofs.Sound.{passed-sound, passed-fills}
 use Rattle.rules_unit.proofs.Statements.{uses-good}
 
@@ -41,14 +41,6 @@ isText (item.Text place len) = true
 isText (item.Operator o) = false
 isText item.End = false
 isText item.Bad = false
-
-abbrev isEnd : Item → Bool
-isEnd (item.Number place len) = false
-isEnd (item.Reference h field) = false
-isEnd (item.Text place len) = false
-isEnd (item.Operator o) = false
-isEnd item.End = true
-isEnd item.Bad = false
 
 no-text : (from : ℕ) (j : Item) (more : List Item) → isText j ≡ false → nowhere ≡ loneText from (follow j more)
 no-text from (item.Number place len) more e = refl
@@ -69,7 +61,7 @@ no-end from place len item.Bad more e = refl
 module _ (s : List ℕ) (at from : ℕ) (i j : Item) (read : i ≡ itemAt s at) (is : i ≡ j) where
   -- the expression starts with that item
   starts : itemsAt s at ≡ follow j (itemsAt s (at + widthOf j))
-  starts = items-step s at ∙ ap (λ (x : Item). follow x (itemsAt s (at + widthOf x))) (sym read ∙ is)
+  starts = items-as s at j (sym is ∙ read)
 
   module _ (z : Stretch) where
     pub lone-other : isText j ≡ false → z ≡ nowhere → z ≡ loneText from (itemsAt s at)
@@ -115,9 +107,6 @@ module _ (u : List ℕ) (p : Parts) (z : Stretch) where
     in-by s h f w = rw (lt-ltb i (p .n) (omega arith), ← f) w
 
 module _ (u : List ℕ) (v : Checked) (asked : v ≡ checkOf u) where
-  pub fills-by : (p : Parts) → v ≡ checked.Passed p → Fills u p
-  fills-by p e = passed-fills u p (sym asked ∙ e)
-
   module _ (i : ℕ) (z : Stretch) where
     pub stretch-passed : (p : Parts) → v ≡ checked.Passed p → z ≡ stretchIn u i (checked.Passed p) → z ≡ stretchOf u i
     unfolding stretchOf
@@ -126,10 +115,6 @@ module _ (u : List ℕ) (v : Checked) (asked : v ≡ checkOf u) where
     pub stretch-refused : (r : Refusal) → v ≡ checked.Refused r → z ≡ nowhere → z ≡ stretchOf u i
     unfolding stretchOf
     stretch-refused r e w = rw (← asked, e) w
-
-text-tells : (c : Code) (place len : ℕ) → Tells (textb c place len) ((1 ≤ len) × (place + len ≤ length (c .literals)))
-unfolding textb
-text-tells c place len = tells-and (tells-le 1 len) (tells-le (place + len) (length (c .literals)))
 
 -- ---- the literal lies inside the unit
 
@@ -142,7 +127,7 @@ module _ (c : Code) (from n : ℕ) (fits : from + length (c .literals) ≤ n) wh
   inside-items (item.Text place len ∷ []) e = by (textb c place len) refl e
     where
       by : (t : Bool) → textb c place len ≡ t → suits want.Source (cond t sort.Text sort.Wrong) ≡ true → from + place + len ≤ n
-      by true q w = omega (arith, text-tells c place len .to q .1)
+      by true q w = omega (arith, text-tells c place len .to q .inside)
       by false q w = absurd (false≢true w)
   inside-items (item.Text place len ∷ (i ∷ is)) e = omega arith
   inside-items (item.Operator o ∷ is) e = omega arith

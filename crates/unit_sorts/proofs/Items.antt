@@ -3,9 +3,8 @@
 use mathlib.Core.Path.{_≡_}
 use mathlib.Core.Bool.{Bool, true, false}
 use mathlib.Core.List.{List}
-use Prim.Native.Nat.{ℕ, _<_}
+use Prim.Native.Nat.{ℕ}
 use lib.Dec.{ltb}
-use borrow.Author.Tests.{ltb-true}
 use Rattle.rules_unit.specs.declared.Parts.{Parts}
 use Rattle.rules_unit.specs.declared.How.{How}
 use Rattle.rules_unit.specs.declared.Op.{Op}
@@ -34,10 +33,6 @@ module _ (u : List ℕ) (p : Parts) (i : Item) where
 
   pub bad-rule : i ≡ item.Bad → false ≡ itemb (codeOf u p) i
   bad-rule e = rw e
-
-  -- "field numbers .. lie inside their parts"
-  pub known-field : (h : How) (f : ℕ) → i ≡ item.Reference h f → itemb (codeOf u p) i ≡ true → f < p .f
-  known-field h f e g = ltb-true f (p .f) (rw e at g)
 
   pub reference-sort : (h : How) (f : ℕ) (r : Sort) → i ≡ item.Reference h f → r ≡ placeSort (isDecimal (codeOf u p .field f .kind))
       → r ≡ sortOf (codeOf u p) i

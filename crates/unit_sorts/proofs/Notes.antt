@@ -9,6 +9,7 @@ use lib.Dec.{T, eqb, ltb}
 use lib.ListN.{length, getD, set, replicate, List·getD-eq-default}
 use lib.Seq.{getD-set-same, getD-set-other, set-out}
 use borrow.Author.Tests.{eq-eqb, ne-eqb, eqb-true, eqb-false, ltb-true, ltb-false}
+use Rattle.rules.proofs.Walk.{cond-same}
 use Rattle.rules_unit.specs.declared.Sort.{Sort}
 use Rattle.rules_unit.specs.declared.Sort.the-variants as sort
 use Rattle.rules_unit.specs.Codes.{Code}
@@ -31,16 +32,12 @@ sort-back sort.Text = refl
 sort-back sort.Decimal = refl
 sort-back sort.Alpha = refl
 
-pub same : {A : Type 0} (b : Bool) (x : A) → cond b x x ≡ x
-same true x = refl
-same false x = refl
-
 -- ---- reading a note
 
 module _ (notes : List ℕ) (e n : ℕ) where
   blank : getD notes e 0 ≡ 0 → notedAt notes e n ≡ sort.Wrong
   unfolding notedAt sortBy
-  blank h = rw h (same (eqb 0 n) sort.Wrong)
+  blank h = rw h (cond-same (eqb 0 n) sort.Wrong)
 
   pub noted-out : length notes ≤ e → sort.Wrong ≡ notedAt notes e n
   noted-out h = sym (blank (List·getD-eq-default notes 0 h))

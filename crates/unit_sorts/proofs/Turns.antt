@@ -11,6 +11,7 @@ use lib.ListN.{length}
 use borrow.Author.Tests.{le-leb, lt-leb, eq-eqb, ne-eqb, not-true}
 use denote.Enum.Declared.{tagOf}
 use types.Run.{OneOf, miss}
+use Rattle.rules.proofs.Walk.{cond-same}
 use Rattle.rules_unit.specs.declared.Item.{Item}
 use Rattle.rules_unit.specs.declared.Item.the-variants as item
 use Rattle.rules_unit.specs.declared.Sort.{Sort}
@@ -19,9 +20,8 @@ use Rattle.rules_unit.specs.Codes.{Code}
 use Rattle.rules_unit.specs.Decode.{itemAt, widthOf, follow, itemsAt}
 use Rattle.rules_unit.specs.Expressions.{takes, itemb, sortOf, goesOn, sortFrom}
 use Rattle.unit_sorts.specs.Notes.{isWrong, notedAt, Noted}
-use Rattle.unit_sorts.proofs.Notes.{same}
 use Rattle.rules_unit.proofs.Item.{the-type}
-use Rattle.rules_unit.proofs.Items.{items-step, beyond}
+use Rattle.rules_unit.proofs.Items.{items-as, beyond}
 
 -- what the code's `if let Item::End` leaves: the item's tag is one of the others
 pub not-end : (i : Item) → OneOf (0 ∷ (1 ∷ (2 ∷ (3 ∷ (5 ∷ []))))) (tagOf the-type i) → i ≡ item.End → ⊥
@@ -51,8 +51,7 @@ ahead c s at n i =
 
 at-item : (c : Code) (s : List ℕ) (at n : ℕ) (k : Sort) (i : Item) → i ≡ itemAt s at
     → sortFrom c (itemsAt s at) n k ≡ sortFrom c (follow i (itemsAt s (at + widthOf i))) n k
-at-item c s at n k i e =
-    ap (λ (l : List Item). sortFrom c l n k) (items-step s at ∙ ap (λ (j : Item). follow j (itemsAt s (at + widthOf j))) (sym e))
+at-item c s at n k i e = ap (λ (l : List Item). sortFrom c l n k) (items-as s at i e)
 
 pub turn : (c : Code) (s : List ℕ) (at n : ℕ) (k : Sort) (i : Item) → i ≡ itemAt s at → (i ≡ item.End → ⊥)
     → sortFrom c (itemsAt s at) n k ≡ cond (goesOn k) (ahead c s at n i) sort.Wrong
@@ -61,7 +60,7 @@ turn c s at n k i e other = at-item c s at n k i e ∙ next-sort c i (itemsAt s 
 module _ (c : Code) (s : List ℕ) (at n : ℕ) (k z : Sort) (left : sortFrom c (itemsAt s at) n k ≡ z) where
   pub turn-beyond : length s ≤ at → sort.Wrong ≡ z
   unfolding sortFrom
-  turn-beyond h = sym (same (goesOn k) sort.Wrong) ∙ sym (at-item c s at n k item.Bad (sym (beyond s at h))) ∙ left
+  turn-beyond h = sym (cond-same (goesOn k) sort.Wrong) ∙ sym (at-item c s at n k item.Bad (sym (beyond s at h))) ∙ left
 
   module _ (i : Item) (e : i ≡ itemAt s at) where
     at-end : i ≡ item.End → z ≡ cond (eqb n 1) k sort.Wrong

@@ -1,7 +1,8 @@
 -- `dibol::run` meets its contract: the checks stand in the order of `runOf`, and what passes them all is run.
 -- Assumes nothing.
 use borrow.Author.Needs.{needs}
-use Rattle.dibol.proofs.Ways.{call-ways, passed-by, sound-by}
+use Rattle.rules_unit.proofs.Sound.{passed-by}
+use Rattle.dibol.proofs.Ways.{call-ways, sound-by}
 use Rattle.dibol.proofs.run.Statement.{statement}
 use Rattle.dibol.proofs.run.Tie as tie
 

@@ -1,7 +1,8 @@
 -- `fence::breach` meets its contract: the answer of the check decides.
 -- Assumes nothing.
 use borrow.Author.Needs.{needs}
-use Rattle.fence.proofs.Answers.{passed-by, breach-passed, breach-refused}
+use Rattle.rules_unit.proofs.Sound.{passed-by}
+use Rattle.fence.proofs.Answers.{breach-passed, breach-refused}
 use Rattle.fence.proofs.breach.Statement.{statement}
 use Rattle.fence.proofs.breach.Tie as tie
 

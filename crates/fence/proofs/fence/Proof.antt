@@ -1,7 +1,8 @@
 -- `fence::fence` meets its contract: the answer of the check decides, and what passes is held to the rules.
 -- Assumes nothing.
 use borrow.Author.Needs.{needs}
-use Rattle.fence.proofs.Answers.{passed-by, fence-passed, fence-refused}
+use Rattle.rules_unit.proofs.Sound.{passed-by}
+use Rattle.fence.proofs.Answers.{fence-passed, fence-refused}
 use Rattle.fence.proofs.fence.Statement.{statement}
 use Rattle.fence.proofs.fence.Tie as tie
 

@@ -1,7 +1,8 @@
 -- `fence_references::item_breach` meets its contract: each arm knows the constructor, and only a reference can break a rule.
 -- Assumes nothing.
 use borrow.Author.Needs.{needs}
-use Rattle.fence_references.proofs.References.{item-field, item-reference, item-number, item-text, item-operator, item-end, item-bad}
+use Rattle.rules_unit.proofs.Items.{known-field}
+use Rattle.fence_references.proofs.References.{item-reference, item-number, item-text, item-operator, item-end, item-bad}
 use Rattle.fence_references.proofs.item_breach.Statement.{statement}
 use Rattle.fence_references.proofs.item_breach.Tie as tie
 
@@ -12,7 +13,7 @@ enum-known-item : tie.Need-enum-known-item
 enum-known-item c = search needs
 
 reference-breach-requires : tie.Need-reference-breach-requires
-reference-breach-requires c κs = (search needs, (search needs, (search item-field depth 3, search needs)))
+reference-breach-requires c κs = (search needs, (search needs, (search known-field depth 3, search needs)))
 
 enum-told-2 : tie.Need-enum-told-2
 enum-told-2 c = search needs

@@ -7,10 +7,12 @@ use mathlib.Core.Path.{_≡_}
 use lib.ListN.{length, drop}
 use Rattle.rules_unit.specs.Table.{usesOf}
 use Rattle.rules_unit.specs.Decode.{codeOf}
+use Rattle.rules_unit.proofs.Sound.{passed-fills}
+use Rattle.rules_run.proofs.Lengths.{passed-dialect}
 use Rattle.rules_fence.specs.Breaches.{usesBreach, breachOf}
 use Rattle.fence_statements.specs.Notes.{Both}
 use Rattle.fence_statements.proofs.Notes.{both-still, both-kept}
-use Rattle.fence_statements.proofs.Statements.{fills-of, dialect-of, use-good, uses-start, uses-over, uses-break, uses-on}
+use Rattle.fence_statements.proofs.Statements.{use-good, uses-start, uses-over, uses-break, uses-on}
 use Rattle.fence_statements.proofs.breach_of.Statement.{statement}
 use Rattle.fence_statements.proofs.breach_of.Tie as tie
 
@@ -23,7 +25,7 @@ abbrev μ-loop : tie.MeasureT-loop
 μ-loop unit parts ahead reads₀ writes₀ i s k₀ reads writes k = 3 - k
 
 statement-requires : tie.Need-statement-requires Inv-loop μ-loop
-statement-requires c κs = (search fills-of depth 3, search needs)
+statement-requires c κs = (search passed-fills depth 3, search needs)
 
 loop-holds : tie.Need-loop-holds Inv-loop μ-loop
 loop-holds c = (search uses-start depth 3, search needs, search needs, search needs)
@@ -32,7 +34,7 @@ use-at-requires : tie.Need-use-at-requires Inv-loop μ-loop
 use-at-requires c κs = search needs
 
 use-breach-requires : tie.Need-use-breach-requires Inv-loop μ-loop
-use-breach-requires c κs = (search fills-of depth 3, (search dialect-of depth 3, (search needs, (search use-good depth 3, search needs))))
+use-breach-requires c κs = (search passed-fills depth 3, (search passed-dialect depth 3, (search needs, (search use-good depth 3, search needs))))
 
 keeps-requires : tie.Need-keeps-requires Inv-loop μ-loop
 keeps-requires c κs = search needs

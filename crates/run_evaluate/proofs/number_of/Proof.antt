@@ -2,7 +2,8 @@
 -- the data, so it can be read.
 -- Assumes nothing.
 use borrow.Author.Needs.{needs}
-use Rattle.run_evaluate.proofs.Numbers.{number-value, number-text, number-failed, place-inside, number-read, number-alpha}
+use Rattle.rules_run.proofs.Bounded.{place-within}
+use Rattle.run_evaluate.proofs.Numbers.{number-value, number-text, number-failed, number-read, number-alpha}
 use Rattle.run_evaluate.proofs.number_of.Statement.{statement}
 use Rattle.run_evaluate.proofs.number_of.Tie as tie
 
@@ -13,7 +14,7 @@ enum-known-w-2 : tie.Need-enum-known-w-2
 enum-known-w-2 c = search needs
 
 read-at-requires : tie.Need-read-at-requires
-read-at-requires c κs = (search needs, search place-inside depth 3)
+read-at-requires c κs = (search needs, search place-within depth 3)
 
 returns : tie.Need-returns
 returns c = search number-read depth 3

@@ -2,7 +2,8 @@
 -- data, and text inside the literals.
 -- Assumes nothing.
 use borrow.Author.Needs.{needs}
-use Rattle.run_moves.proofs.Moves.{source-number, source-place, source-text, source-failed, place-within, text-within}
+use Rattle.rules_run.proofs.Bounded.{place-within}
+use Rattle.run_moves.proofs.Moves.{source-number, source-place, source-text, source-failed, text-within}
 use Rattle.run_moves.proofs.move_worked.Statement.{statement}
 use Rattle.run_moves.proofs.move_worked.Tie as tie
 

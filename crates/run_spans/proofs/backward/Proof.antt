@@ -4,8 +4,9 @@ use Prim.Native.Nat.{_*_}
 use mathlib.Core.Path.{_∙_}
 use borrow.Author.Needs.{needs}
 use native.Mathlib.Omega.{arith}
+use Rattle.rules.proofs.Sizes.{product}
 use Rattle.rules_run.proofs.Located.{before, after}
-use Rattle.run_spans.proofs.Finding.{grows, product}
+use Rattle.run_spans.proofs.Finding.{grows}
 use Rattle.run_spans.proofs.backward.Statement.{statement}
 use Rattle.run_spans.proofs.backward.Tie as tie
 

@@ -3,8 +3,9 @@
 use Prim.Native.Nat.{_+_, _*_}
 use borrow.Author.Needs.{needs}
 use native.Mathlib.Omega.{arith}
+use Rattle.rules.proofs.Sizes.{product}
 use Rattle.rules_run.proofs.Located.{past}
-use Rattle.run_spans.proofs.Finding.{grows, product}
+use Rattle.run_spans.proofs.Finding.{grows}
 use Rattle.run_spans.proofs.forward.Statement.{statement}
 use Rattle.run_spans.proofs.forward.Tie as tie
 

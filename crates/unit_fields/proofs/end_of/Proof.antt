@@ -2,7 +2,7 @@
 -- Assumes nothing.
 use native.Mathlib.Omega.{arith}
 use borrow.Author.Needs.{needs}
-use Rattle.unit_fields.proofs.Entries.{product}
+use Rattle.rules.proofs.Sizes.{product}
 use Rattle.unit_fields.proofs.end_of.Statement.{statement}
 use Rattle.unit_fields.proofs.end_of.Tie as tie
 

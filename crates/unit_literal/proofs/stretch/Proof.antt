@@ -1,7 +1,8 @@
 -- `unit_literal::stretch` meets its contract: the answer of the check decides, and a unit that passes is filled by its parts.
 -- Assumes nothing.
 use borrow.Author.Needs.{needs}
-use Rattle.unit_literal.proofs.Stretches.{fills-by, stretch-passed, stretch-refused}
+use Rattle.rules_unit.proofs.Sound.{fills-by}
+use Rattle.unit_literal.proofs.Stretches.{stretch-passed, stretch-refused}
 use Rattle.unit_literal.proofs.stretch.Statement.{statement}
 use Rattle.unit_literal.proofs.stretch.Tie as tie
 

@@ -2,7 +2,8 @@
 -- names a field that there is, so its entry can be read.
 -- Assumes nothing.
 use borrow.Author.Needs.{needs}
-use Rattle.unit_sorts.proofs.Items.{known-field, reference-sort}
+use Rattle.rules_unit.proofs.Items.{known-field}
+use Rattle.unit_sorts.proofs.Items.{reference-sort}
 use Rattle.unit_sorts.proofs.sort_of.Statement.{statement}
 use Rattle.unit_sorts.proofs.sort_of.Tie as tie
 

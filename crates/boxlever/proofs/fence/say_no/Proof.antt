@@ -1,7 +1,8 @@
 -- `boxlever::fence::say_no` meets its contract: the unit passed its check, so its parts fill it and its dialect is a dialect's.
 -- Assumes nothing.
 use borrow.Author.Needs.{needs}
-use Rattle.boxlever.proofs.Passed.{fills-by, dialect-by}
+use Rattle.rules_unit.proofs.Sound.{fills-by}
+use Rattle.boxlever.proofs.Passed.{dialect-by}
 use Rattle.boxlever.proofs.fence.say_no.Statement.{statement}
 use Rattle.boxlever.proofs.fence.say_no.Tie as tie
 
