@@ -80,7 +80,7 @@ fn put_field(l: Line, unit: &[u8], parts: Parts, i: u16) -> Line {
     let mut next = put_text(l, b"; ");
     next = put_name(next, field, i);
     next = put_text(next, b" has");
-    next = put_bytes(next, offset, less(unit_fields::end_of(field), offset));
+    next = put_bytes(next, offset, less(unit_decode::end_of(field), offset));
     put_elements(next, field)
 }
 
@@ -103,7 +103,7 @@ fn put_data(l: Line, parts: Parts, span: Span) -> Line {
 // Whether a field is decimal and shares a byte with a span.
 fn is_shared(field: Field, span: Span) -> bool {
     let kind = field.kind;
-    if !unit_sorts::is_decimal(kind) {
+    if !unit_decode::is_decimal(kind) {
         return false;
     }
     match span {
@@ -111,7 +111,7 @@ fn is_shared(field: Field, span: Span) -> bool {
             if sum(start, len) <= field.offset as usize {
                 return false;
             }
-            start < unit_fields::end_of(field)
+            start < unit_decode::end_of(field)
         }
         Span::Outside => false,
     }
@@ -140,7 +140,7 @@ fn put_shared(l: Line, unit: &[u8], parts: Parts, span: Span) -> Line {
 
 // Puts the bytes of the field of a reference with bounds. Without bounds a reference names its field's first element, and nothing is put.
 fn put_own(l: Line, unit: &[u8], parts: Parts, how: How, i: u16) -> Line {
-    if unit_sorts::how_takes(how) == 0 {
+    if unit_decode::how_takes(how) == 0 {
         return l;
     }
     put_field(l, unit, parts, i)
@@ -165,7 +165,7 @@ fn say_unknown(l: Line, unit: &[u8], parts: Parts, i: u16) {
 
 // Whether nothing is to be told of a reference: it has no bounds and is on no decimal field.
 fn is_plain(unit: &[u8], parts: Parts, how: How, span: Span, aimed: bool) -> bool {
-    if 0 < unit_sorts::how_takes(how) {
+    if 0 < unit_decode::how_takes(how) {
         return false;
     }
     if !aimed {
@@ -183,7 +183,7 @@ fn say_bounded(l: Line, unit: &[u8], parts: Parts, how: How, i: u16, s: Seen, wr
     let span = span_of(unit, parts, how, i, s);
     let field = field_of(unit, parts, i);
     let kind = field.kind;
-    let aimed = if unit_sorts::is_decimal(kind) {
+    let aimed = if unit_decode::is_decimal(kind) {
         false
     } else {
         written

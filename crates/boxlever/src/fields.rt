@@ -58,7 +58,7 @@ fn fitting(field: Field, room: usize) -> usize {
 // How many of a field's elements a row has.
 fn on_row(field: Field) -> usize {
     let kind = field.kind;
-    if unit_sorts::is_decimal(kind) {
+    if unit_decode::is_decimal(kind) {
         return fitting(field, DECIMAL_ROOM);
     }
     fitting(field, ALPHA_ROOM)
@@ -120,7 +120,7 @@ fn put_elements(
 fn start_of(field: Field, i: u16) -> usize {
     let mut before = field;
     before.count = i;
-    unit_fields::end_of(before)
+    unit_decode::end_of(before)
 }
 
 // The element i of a field.
@@ -135,7 +135,7 @@ fn put_held(l: Line, parts: Parts, data: &[u8], field: Field, i: u16, column: us
     let start = start_of(field, i);
     let k = least(on_row(field), less(field.count as usize, i as usize));
     let next = put_elements(l, parts, data, start, size, k, false);
-    if unit_sorts::is_decimal(kind) {
+    if unit_decode::is_decimal(kind) {
         let filled = fill_to(put_text(next, b"  "), column);
         return put_elements(filled, parts, data, start, size, k, true);
     }
@@ -145,7 +145,7 @@ fn put_held(l: Line, parts: Parts, data: &[u8], field: Field, i: u16, column: us
 // How many columns the stored characters of a decimal field take.
 fn stored_width(parts: Parts, data: &[u8], field: Field, show: Show) -> usize {
     let kind = field.kind;
-    if !unit_sorts::is_decimal(kind) {
+    if !unit_decode::is_decimal(kind) {
         return 0;
     }
     let start = start_of(field, 0);
@@ -201,7 +201,7 @@ fn put_entry(l: Line, field: Field, i: u16) -> Line {
 // Puts a field's bytes, size and count.
 fn put_sizes(l: Line, field: Field) -> Line {
     let from = field.offset as usize;
-    let mut next = put_span(l, from, less(unit_fields::end_of(field), from));
+    let mut next = put_span(l, from, less(unit_decode::end_of(field), from));
     next = put_right(next, field.size as u64, SIZE);
     next = put_right(next, field.count as u64, COUNT);
     fill_to(next, STORED)

@@ -140,7 +140,7 @@ fn put_bounds(l: Line, h: Held, how: How) -> Line {
 
 // A reference takes the values held last as its bounds, as many as its form has.
 fn hold_reference(h: Held, unit: &[u8], parts: Parts, how: How, i: u16) -> Held {
-    let taken = unit_sorts::how_takes(how) as usize;
+    let taken = unit_decode::how_takes(how) as usize;
     let mut l = put_name(line_before(h, taken), field_of(unit, parts, i), i);
     if taken == 1 {
         l = put_value(l, h, 1, true);
@@ -215,7 +215,7 @@ fn hold_joined(h: Held, op: Op) -> Held {
 
 // An operator takes one or two of the values held last.
 fn hold_operator(h: Held, op: Op) -> Held {
-    if unit_sorts::op_takes(op) == 1 {
+    if unit_decode::op_takes(op) == 1 {
         return hold_alone(h, op);
     }
     hold_joined(h, op)

@@ -26,8 +26,8 @@ fn behind(field: Field, floor: usize) -> usize
     ensures { λ r. ⌜ r ≡ behindOf field floor ⌝ }
 {
     let kind = field.kind;
-    if unit_sorts::is_decimal(kind) {
-        return unit_fields::end_of(field);
+    if unit_decode::is_decimal(kind) {
+        return unit_decode::end_of(field);
     }
     floor
 }

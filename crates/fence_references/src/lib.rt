@@ -90,10 +90,10 @@ fn span_breach(
     if a < unit_decode::long(entry.offset) {
         return Breach::LeavesField;
     }
-    if unit_fields::end_of(entry) < a + n {
+    if unit_decode::end_of(entry) < a + n {
         return Breach::LeavesField;
     }
-    if unit_sorts::is_decimal(kind) {
+    if unit_decode::is_decimal(kind) {
         return element_breach(unit, parts, dest, field, a, n);
     }
     alpha_breach(unit, parts, ahead, dest, a, n)

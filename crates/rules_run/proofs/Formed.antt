@@ -15,7 +15,6 @@ use Rattle.rules.specs.declared.Fault.{Fault}
 use Rattle.rules.specs.declared.Fault.the-variants as fault
 use Rattle.rules.specs.declared.Num.{Num}
 use Rattle.rules.specs.declared.Num.the-variants.{Value, Failed}
-use Rattle.rules.proofs.Tests.{both}
 use Rattle.rules_unit.specs.declared.Item.{Item}
 use Rattle.rules_unit.specs.declared.Item.the-variants as item
 use Rattle.rules_unit.specs.Codes.{Code, decimalb}

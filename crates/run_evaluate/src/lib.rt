@@ -156,7 +156,7 @@ fn reference_step(
         let y = held[1];
         return Step::Done(run_items::place_of(unit, parts, bytes, how, field, n, x, y));
     }
-    let taken = unit_decode::long(unit_sorts::how_takes(how));
+    let taken = unit_decode::long(unit_decode::how_takes(how));
     if n < taken {
         return malformed();
     }
@@ -213,7 +213,7 @@ fn operator_step(
     requires { ⌜ itemAt (now es) i ≡ item.Operator op ⌝ }
     ensures { λ r. ⌜ Leads (codeOf (now (unit .entry)) parts) (now (bytes .entry)) (now (es .entry)) i n (now (held .entry)) r ⌝ }
 {
-    let taken = unit_decode::long(unit_sorts::op_takes(op));
+    let taken = unit_decode::long(unit_decode::op_takes(op));
     if n < taken {
         return malformed();
     }

@@ -21,7 +21,7 @@ use Rattle.rules_unit.specs.declared.Parts.{Parts}
 use Rattle.rules_unit.specs.Decode.{Fills, literalsAt, codeOf}
 use Rattle.rules_unit.specs.Expressions.{digitsb}
 use Rattle.rules_run.specs.Evaluation.{digitsFrom, plainNumber, literalNumber}
-use Rattle.unit_sorts.proofs.Literals.{literals-length, literal-part}
+use Rattle.unit_decode.proofs.Literals.{literals-length, literal-part}
 
 -- ---- digits
 

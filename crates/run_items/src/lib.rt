@@ -108,7 +108,7 @@ pub fn read_reference(
     }
     let entry = unit_decode::field(unit, parts, field);
     let kind = entry.kind;
-    if unit_sorts::is_decimal(kind) {} else {
+    if unit_decode::is_decimal(kind) {} else {
         return Num::Failed(Fault::Malformed);
     }
     match run_spans::span_of(bytes.len(), entry, how, x, y) {
@@ -128,7 +128,7 @@ pub fn read_first(unit: &[u8], parts: Parts, bytes: &[u8], field: u16) -> Num
     }
     let entry = unit_decode::field(unit, parts, field);
     let kind = entry.kind;
-    if unit_sorts::is_decimal(kind) {} else {
+    if unit_decode::is_decimal(kind) {} else {
         return Num::Failed(Fault::Malformed);
     }
     match run_spans::first_span(bytes.len(), entry) {
@@ -198,7 +198,7 @@ fn place_by(unit: &[u8], parts: Parts, bytes: &[u8], how: How, field: u16, x: i6
     }
     let entry = unit_decode::field(unit, parts, field);
     let kind = entry.kind;
-    let decimal = unit_sorts::is_decimal(kind);
+    let decimal = unit_decode::is_decimal(kind);
     let most = unit_decode::long(parts.dialect.limit);
     match run_spans::span_of(bytes.len(), entry, how, x, y) {
         Span::At { start, len } => place_at(most, decimal, start, len),
@@ -216,7 +216,7 @@ pub fn place_first(unit: &[u8], parts: Parts, bytes: &[u8], field: u16) -> Worke
     }
     let entry = unit_decode::field(unit, parts, field);
     let kind = entry.kind;
-    let decimal = unit_sorts::is_decimal(kind);
+    let decimal = unit_decode::is_decimal(kind);
     let most = unit_decode::long(parts.dialect.limit);
     match run_spans::first_span(bytes.len(), entry) {
         Span::At { start, len } => place_at(most, decimal, start, len),
@@ -241,7 +241,7 @@ pub fn place_of(
     requires { ⌜ Val (10 ^ 18) y ⌝ }
     ensures { λ r. ⌜ r ≡ cond (eqb n (howTakes how)) (placeBy (codeOf (now (unit .entry)) parts) (now (bytes .entry)) how field x y) (worked.Failed fault.Malformed) ⌝ }
 {
-    let taken = unit_decode::long(unit_sorts::how_takes(how));
+    let taken = unit_decode::long(unit_decode::how_takes(how));
     if n == taken {
         return place_by(unit, parts, bytes, how, field, x, y);
     }

@@ -24,7 +24,7 @@ use Rattle.rules_run.specs.declared.Write.the-variants as write
 use Rattle.rules_run.specs.declared.Turn.{Turn}
 use Rattle.rules_run.specs.Evaluation.{Within}
 use Rattle.rules_run.specs.Turns.{failed, stores, moveNumber, moveNum, moveWorked}
-use Rattle.run_stores.proofs.Literals.{literal-is}
+use Rattle.unit_decode.proofs.Literals.{literal-is}
 
 -- the destination, and the turn that a callee answers
 module _ (decimal : Bool) (a n : ℕ) (t : Turn) where

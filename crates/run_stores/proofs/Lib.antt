@@ -1,4 +1,3 @@
-pub mod Literals
 pub mod Moving
 pub mod Storing
 pub mod Writes

@@ -19,7 +19,7 @@ use Rattle.rules_unit.specs.declared.Parts.{Parts}
 use Rattle.rules_unit.specs.Decode.{Fills, literalsAt, codeOf}
 use Rattle.rules_run.specs.Turns.{stored, cased, cleared}
 use Rattle.rules_run.proofs.Stored.{stored-part}
-use Rattle.run_stores.proofs.Literals.{literal-is}
+use Rattle.unit_decode.proofs.Literals.{literal-is}
 
 -- the n bytes of the data from a on, lent as the part from a to a + n, and what came back of them
 module _ (d : List ℕ) (a n : ℕ) (room : a + n ≤ length d) where

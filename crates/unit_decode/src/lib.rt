@@ -1,4 +1,5 @@
-// The coded unit's bytes, decoded: words, the trailer, field entries, items, statements; and the table of statements. Nothing is checked here.
+// The coded unit's bytes, decoded: words, the trailer, field entries and where they end, items and how many values they take, statements; and the table
+// of statements. Nothing is checked here.
 use rules_unit::Act;
 use rules_unit::Dialect;
 use rules_unit::Field;
@@ -17,6 +18,8 @@ ghost use mathlib.Core.Path.{_≡_};
 ghost use Prim.Native.Nat.{_+_, _*_, _<_, _≤_};
 ghost use lib.ListN.{length};
 ghost use Rattle.rules_unit.specs.declared.Verb.the-variants as verb;
+ghost use Rattle.rules_unit.specs.Codes.{isDecimal};
+ghost use Rattle.rules_unit.specs.Expressions.{opTakes, howTakes, takes};
 ghost use Rattle.rules_unit.specs.Table.{verbOf, rowWith, rowOf};
 ghost use Rattle.rules_unit.specs.Decode.{Fills, wordAt, eighteen, markOf, dialectOf, partsOf, kindOf, fieldAt, referenceAt, numberAt, textAt, itemBy, itemAt, widthOf, statementAt, expressionsAt, literalsAt, statementsAt, fullLength, codeOf};
 
@@ -142,6 +145,18 @@ fn kind_of(b: u8) -> Kind
     }
 }
 
+// Whether a field's kind is decimal.
+pub fn is_decimal(kind: Kind) -> bool
+    ensures { λ r. ⌜ r ≡ isDecimal kind ⌝ }
+{
+    match kind {
+        Kind::Alpha => false,
+        Kind::Decimal => true,
+        Kind::Record => false,
+        Kind::Bad => false,
+    }
+}
+
 // The field entry at an offset of the unit.
 fn field_at(u: &[u8], at: usize) -> Field
     requires { ⌜ at + 8 ≤ length (now u) ⌝ }
@@ -164,6 +179,13 @@ pub fn field(unit: &[u8], parts: Parts, i: u16) -> Field
 {
     let d = long(parts.d);
     field_at(unit, d + long(i) * 8)
+}
+
+// Where a field ends in the data, or would end; no sum or product of words is too large for an index.
+pub fn end_of(field: Field) -> usize
+    ensures { λ r. ⌜ r ≡ field .offset + field .count * field .size ⌝ }
+{
+    long(field.offset) + long(field.count) * long(field.size)
 }
 
 // ---- expressions
@@ -277,6 +299,56 @@ pub fn width_of(item: Item) -> usize
         Item::Operator(_) => 1,
         Item::End => 1,
         Item::Bad => 1,
+    }
+}
+
+// How many values an operator takes.
+pub fn op_takes(op: Op) -> u16
+    ensures { λ r. ⌜ r ≡ opTakes op ⌝ }
+{
+    match op {
+        Op::Add => 2,
+        Op::Subtract => 2,
+        Op::Multiply => 2,
+        Op::Divide => 2,
+        Op::Round => 2,
+        Op::Negate => 1,
+        Op::Eq => 2,
+        Op::Ne => 2,
+        Op::Gt => 2,
+        Op::Lt => 2,
+        Op::Ge => 2,
+        Op::Le => 2,
+        Op::Not => 1,
+        Op::And => 2,
+        Op::Or => 2,
+        Op::Xor => 2,
+    }
+}
+
+// How many values a reference takes, as its bounds.
+pub fn how_takes(how: How) -> u16
+    ensures { λ r. ⌜ r ≡ howTakes how ⌝ }
+{
+    match how {
+        How::First => 0,
+        How::Element => 1,
+        How::Range => 2,
+        How::Length => 2,
+    }
+}
+
+// How many values an item takes.
+pub fn takes_of(item: Item) -> u16
+    ensures { λ r. ⌜ r ≡ takes item ⌝ }
+{
+    match item {
+        Item::Number { place: _, len: _ } => 0,
+        Item::Reference { how, field: _ } => how_takes(how),
+        Item::Text { place: _, len: _ } => 0,
+        Item::Operator(op) => op_takes(op),
+        Item::End => 0,
+        Item::Bad => 0,
     }
 }
 

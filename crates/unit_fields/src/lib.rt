@@ -1,10 +1,9 @@
 // The checks of a coded unit that need no expression: its length, the ranges of its parts and its field entries (1 to 3).
-use rules_unit::Field;
 use rules_unit::Kind;
 use rules_unit::Mark;
 use rules_unit::Parts;
 ghost use mathlib.Core.Path.{_≡_};
-ghost use Prim.Native.Nat.{_+_, _*_, _<_};
+ghost use Prim.Native.Nat.{_+_, _<_};
 ghost use Rattle.rules_unit.specs.Codes.{isBad, isRecord};
 ghost use Rattle.rules_unit.specs.Decode.{Fills, isWrong, codeOf};
 ghost use Rattle.rules_unit.specs.Checks.{filledb, rangesb, entryb, floorAfter, goodFields};
@@ -89,13 +88,6 @@ fn is_record(kind: Kind) -> bool
     }
 }
 
-// Where a field ends in the data, or would end; no sum or product of words is too large for an index.
-pub fn end_of(field: Field) -> usize
-    ensures { λ r. ⌜ r ≡ field .offset + field .count * field .size ⌝ }
-{
-    unit_decode::long(field.offset) + unit_decode::long(field.count) * unit_decode::long(field.size)
-}
-
 // Whether the field entry i keeps its rule. The floor is the end of the last alpha or decimal entry before it.
 fn entry_good(unit: &[u8], parts: Parts, i: u16, floor: usize) -> bool
     requires { ⌜ Fills (now unit) parts ⌝ }
@@ -116,7 +108,7 @@ fn entry_good(unit: &[u8], parts: Parts, i: u16, floor: usize) -> bool
     if field.count < 1 {
         return false;
     }
-    if unit_decode::long(parts.d) < end_of(field) {
+    if unit_decode::long(parts.d) < unit_decode::end_of(field) {
         return false;
     }
     if is_record(kind) {
@@ -125,7 +117,7 @@ fn entry_good(unit: &[u8], parts: Parts, i: u16, floor: usize) -> bool
     if unit_decode::long(field.offset) < floor {
         return false; // The offset does not rise, or a byte is shared.
     }
-    if unit_sorts::is_decimal(kind) {
+    if unit_decode::is_decimal(kind) {
         return field.size <= parts.dialect.limit;
     }
     true
@@ -142,7 +134,7 @@ fn floor_after(unit: &[u8], parts: Parts, i: u16, floor: usize) -> usize
     if is_record(kind) {
         return floor;
     }
-    end_of(field)
+    unit_decode::end_of(field)
 }
 
 // The first field entry that breaks its rule; the number of entries where none does.

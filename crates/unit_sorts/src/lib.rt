@@ -1,9 +1,6 @@
 // Expressions: their form and their sort. What is found of the items to the end of an expression is noted, so that no two expressions that come
 // to the same item walk on from it.
-use rules_unit::How;
 use rules_unit::Item;
-use rules_unit::Kind;
-use rules_unit::Op;
 use rules_unit::Parts;
 use rules_unit::Sort;
 ghost use mathlib.Core.Path.{_≡_};
@@ -12,7 +9,7 @@ ghost use Prim.Native.Nat.{_+_, _*_, _<_, _≤_};
 ghost use lib.ListN.{set};
 ghost use Rattle.rules_unit.specs.Codes.{isDecimal};
 ghost use Rattle.rules_unit.specs.Decode.{Fills, itemsAt, codeOf};
-ghost use Rattle.rules_unit.specs.Expressions.{digitsb, opTakes, howTakes, takes, numberb, textb, itemb, placeSort, sortOf, goesOn, sortFrom, sortAt};
+ghost use Rattle.rules_unit.specs.Expressions.{digitsb, numberb, textb, itemb, placeSort, sortOf, goesOn, sortFrom, sortAt};
 ghost use Rattle.rules_unit.specs.declared.Sort.the-variants as sort;
 ghost use Rattle.unit_sorts.specs.Notes.{isWrong, noteOf, sortBy, notedAt, Noted, NotedOf};
 
@@ -32,56 +29,6 @@ fn digits(s: &[u8]) -> bool
         i += 1;
     }
     true
-}
-
-// How many values an operator takes.
-pub fn op_takes(op: Op) -> u16
-    ensures { λ r. ⌜ r ≡ opTakes op ⌝ }
-{
-    match op {
-        Op::Add => 2,
-        Op::Subtract => 2,
-        Op::Multiply => 2,
-        Op::Divide => 2,
-        Op::Round => 2,
-        Op::Negate => 1,
-        Op::Eq => 2,
-        Op::Ne => 2,
-        Op::Gt => 2,
-        Op::Lt => 2,
-        Op::Ge => 2,
-        Op::Le => 2,
-        Op::Not => 1,
-        Op::And => 2,
-        Op::Or => 2,
-        Op::Xor => 2,
-    }
-}
-
-// How many values a reference takes, as its bounds.
-pub fn how_takes(how: How) -> u16
-    ensures { λ r. ⌜ r ≡ howTakes how ⌝ }
-{
-    match how {
-        How::First => 0,
-        How::Element => 1,
-        How::Range => 2,
-        How::Length => 2,
-    }
-}
-
-// How many values an item takes.
-pub fn takes_of(item: Item) -> u16
-    ensures { λ r. ⌜ r ≡ takes item ⌝ }
-{
-    match item {
-        Item::Number { place: _, len: _ } => 0,
-        Item::Reference { how, field: _ } => how_takes(how),
-        Item::Text { place: _, len: _ } => 0,
-        Item::Operator(op) => op_takes(op),
-        Item::End => 0,
-        Item::Bad => 0,
-    }
 }
 
 // Whether a number literal has 1 to the dialect's digits and lies inside the literals.
@@ -132,18 +79,6 @@ fn item_good(unit: &[u8], parts: Parts, item: Item) -> bool
     }
 }
 
-// Whether a field's kind is decimal.
-pub fn is_decimal(kind: Kind) -> bool
-    ensures { λ r. ⌜ r ≡ isDecimal kind ⌝ }
-{
-    match kind {
-        Kind::Alpha => false,
-        Kind::Decimal => true,
-        Kind::Record => false,
-        Kind::Bad => false,
-    }
-}
-
 // The sort of a place, by whether its field is decimal.
 fn place_sort(decimal: bool) -> Sort
     ensures { λ r. ⌜ r ≡ placeSort decimal ⌝ }
@@ -159,7 +94,7 @@ fn field_sort(unit: &[u8], parts: Parts, i: u16) -> Sort
 {
     let field = unit_decode::field(unit, parts, i);
     let kind = field.kind;
-    place_sort(is_decimal(kind))
+    place_sort(unit_decode::is_decimal(kind))
 }
 
 // The sort that an item gives as the last one.
@@ -293,7 +228,7 @@ fn sort_in(unit: &[u8], parts: Parts, s: &[u8], notes: &[u8], at: usize) -> Sort
         if item_good(unit, parts, item) {} else {
             return Sort::Wrong;
         }
-        let taken = takes_of(item);
+        let taken = unit_decode::takes_of(item);
         if n < taken {
             return Sort::Wrong;
         }
@@ -326,7 +261,7 @@ fn note_in(unit: &[u8], parts: Parts, s: &[u8], notes: &mut [u8], at: usize, k: 
             return;
         }
         note(notes, i, n, k);
-        n = n - takes_of(item) + 1;
+        n = n - unit_decode::takes_of(item) + 1;
         i = i + unit_decode::width_of(item);
     }
 }

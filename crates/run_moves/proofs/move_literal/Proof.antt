@@ -2,7 +2,7 @@
 -- literal; an alpha one has it stored.
 -- Assumes nothing.
 use borrow.Author.Needs.{needs}
-use Rattle.run_stores.proofs.Literals.{literal-end}
+use Rattle.unit_decode.proofs.Literals.{literal-end}
 use Rattle.run_moves.proofs.Moves.{literal-alpha, literal-moved}
 use Rattle.run_moves.proofs.move_literal.Statement.{statement}
 use Rattle.run_moves.proofs.move_literal.Tie as tie

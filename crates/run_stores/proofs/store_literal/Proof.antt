@@ -2,7 +2,7 @@
 -- the literal.
 -- Assumes nothing.
 use borrow.Author.Needs.{needs}
-use Rattle.run_stores.proofs.Literals.{literal-end}
+use Rattle.unit_decode.proofs.Literals.{literal-end}
 use Rattle.run_stores.proofs.Storing.{part-literal}
 use Rattle.run_stores.proofs.store_literal.Statement.{statement}
 use Rattle.run_stores.proofs.store_literal.Tie as tie

@@ -1,7 +1,8 @@
 -- `unit_sorts::number_good` meets its contract: the tests are the rule's own, and the part of the unit that `digits` reads is the literal.
 -- Assumes nothing.
 use borrow.Author.Needs.{needs}
-use Rattle.unit_sorts.proofs.Literals.{number-empty, number-long, number-past, number-there}
+use Rattle.unit_decode.proofs.Literals.{number-empty, number-long, number-past}
+use Rattle.unit_sorts.proofs.Literals.{digits-there}
 use Rattle.unit_sorts.proofs.number_good.Statement.{statement}
 use Rattle.unit_sorts.proofs.number_good.Tie as tie
 
@@ -48,7 +49,7 @@ digits-requires : tie.Need-digits-requires
 digits-requires c κs = search needs
 
 returns-4 : tie.Need-returns-4
-returns-4 c = search number-there depth 3
+returns-4 c = search digits-there depth 3
 
 pub number-good-spec : {M : Type 1} → statement M
 number-good-spec =

@@ -1,10 +1,10 @@
--- `unit_fields::end_of` meets its contract: its sum is the one asked for, and a product of two words fits an index.
+-- `unit_decode::end_of` meets its contract: its sum is the one asked for, and a product of two words fits an index.
 -- Assumes nothing.
 use native.Mathlib.Omega.{arith}
 use borrow.Author.Needs.{needs}
 use Rattle.rules.proofs.Sizes.{product}
-use Rattle.unit_fields.proofs.end_of.Statement.{statement}
-use Rattle.unit_fields.proofs.end_of.Tie as tie
+use Rattle.unit_decode.proofs.end_of.Statement.{statement}
+use Rattle.unit_decode.proofs.end_of.Tie as tie
 
 long-requires : tie.Need-long-requires
 long-requires c κs = search needs
