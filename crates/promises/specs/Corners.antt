@@ -27,7 +27,7 @@ use Rattle.rules_unit.specs.Expressions.{digitsb, numberb, textb, sortFrom, sor
 use Rattle.rules_unit.specs.Checks.{filledb, rangesb, entryb, goodFields, rowb, shapeb, foundOf, statementsFrom, partsCheck, checkOf}
 use Rattle.rules_unit.specs.Literals.{stretchOf, literalOf}
 use Rattle.rules_run.specs.Spans.{within, elementSpan, rangeSpan, lengthSpan, spanOf}
-use Rattle.rules_run.specs.Evaluation.{digitsFrom, plainNumber, literalNumber, reference, stepBy, placeBy, place, lastOf, workedFrom, workedOf, calc}
+use Rattle.rules_run.specs.Evaluation.{digitsFrom, literalNumber, reference, stepBy, placeBy, place, lastOf, workedFrom, workedOf, calc}
 use Rattle.rules_run.specs.States.{returnsb, soundb}
 use Rattle.rules_run.specs.Turns as turns
 use Rattle.promises.specs.Rows.{number, text, stop, Row, _is_, AllHold, limit, top, sign, bytes, minus, answer, into, AM, NZ, NUM, expression, element, range, forth, back}
@@ -152,7 +152,7 @@ operators =
     ∷ []
 
 pub operators-hold : AllHold operators
-unfolding numberAt itemBy itemAt itemsIn itemsAt digitsb digitsFrom plainNumber literalNumber calc stepBy lastOf workedFrom workedOf
+unfolding numberAt itemBy itemAt itemsIn itemsAt digitsb numberb digitsFrom literalNumber calc stepBy lastOf workedFrom workedOf
 operators-hold = refl
 
 -- ---- references
@@ -187,7 +187,7 @@ references =
     ∷ []
 
 pub references-hold : AllHold references
-unfolding reference readOf readFrom digitsb digitsFrom plainNumber literalNumber calc stepBy within elementSpan rangeSpan lengthSpan spanOf placeBy place lastOf workedFrom workedOf
+unfolding reference readOf readFrom digitsb numberb digitsFrom literalNumber calc stepBy within elementSpan rangeSpan lengthSpan spanOf placeBy place lastOf workedFrom workedOf
 references-hold = refl
 
 -- ---- items

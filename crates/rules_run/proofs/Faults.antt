@@ -19,10 +19,10 @@ use Rattle.rules.specs.Moves.{alphaFrom, alphaOf}
 use Rattle.rules_unit.specs.declared.Op.{Op}
 use Rattle.rules_unit.specs.declared.Op.the-variants as op
 use Rattle.rules_unit.specs.Codes.{Code}
-use Rattle.rules_unit.specs.Expressions.{digitsb}
+use Rattle.rules_unit.specs.Expressions.{numberb}
 use Rattle.rules_run.specs.declared.Worked.{Worked}
 use Rattle.rules_run.specs.declared.Worked.the-variants as worked
-use Rattle.rules_run.specs.Evaluation.{calc, digitsFrom, plainNumber, literalNumber, halt, push, room, stepBy, onHeld}
+use Rattle.rules_run.specs.Evaluation.{calc, digitsFrom, literalNumber, halt, push, room, stepBy, onHeld}
 
 abbrev pub passes : (Fault → Bool) → Num → Bool
 passes p (Value v) = true
@@ -94,13 +94,9 @@ module _ (p : Fault → Bool) where
 module _ (p : Fault → Bool) (malformed : p fault.Malformed ≡ true) where
   -- What a number literal answers.
   pub literal-passes : (c : Code) (place len : ℕ) → passes p (literalNumber c place len) ≡ true
-  unfolding literalNumber plainNumber
+  unfolding literalNumber
   literal-passes c place len =
-      let s = take len (drop place (c .literals)) in
-      pass-cond p (leb 1 len) _ (Failed fault.Malformed)
-      (pass-cond p (leb len (c .dialect .limit)) _ (Failed fault.Malformed)
-      (pass-cond p (leb (place + len) (length (c .literals))) _ (Failed fault.Malformed)
-      (pass-cond p (digitsb s) (Value (pos (digitsFrom 0 s))) (Failed fault.Malformed) refl malformed) malformed) malformed) malformed
+      pass-cond p (numberb c place len) (Value (pos (digitsFrom 0 (take len (drop place (c .literals)))))) (Failed fault.Malformed) refl malformed
 
   module _ (P : Worked → Type 0) (w : (e : Fault) → p e ≡ true → P (worked.Failed e)) where
     pub on-room : (st : List ℤ) (g : Num) (k : List ℤ → Worked) → passes p g ≡ true → ((v : ℤ) → g ≡ Value v → P (k (v ∷ st))) → P (onHeld (room st g) k)

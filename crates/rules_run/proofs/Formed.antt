@@ -7,7 +7,6 @@ use native.Mathlib.Omega.{arith}
 use mathlib.Core.Path.{_≡_, refl}
 use mathlib.Core.Bool.{Bool, true, false, cond, false≢true}
 use mathlib.Core.List.{List, [], _∷_}
-use lib.Dec.{leb}
 use lib.IntN.{ℤ, pos}
 use lib.ListN.{length, take, drop}
 use borrow.Author.Tests.{lt-ltb}
@@ -18,13 +17,13 @@ use Rattle.rules.specs.declared.Num.the-variants.{Value, Failed}
 use Rattle.rules_unit.specs.declared.Item.{Item}
 use Rattle.rules_unit.specs.declared.Item.the-variants as item
 use Rattle.rules_unit.specs.Codes.{Code, decimalb}
-use Rattle.rules_unit.specs.Expressions.{digitsb, numberb, itemb, placeSort, sortOf, goesOn}
+use Rattle.rules_unit.specs.Expressions.{numberb, itemb, placeSort, sortOf, goesOn}
 use Rattle.rules_run.specs.declared.Span.{Span}
 use Rattle.rules_run.specs.declared.Span.the-variants.{At, Outside}
 use Rattle.rules_run.specs.declared.Worked.{Worked}
 use Rattle.rules_run.specs.declared.Worked.the-variants as worked
 use Rattle.rules_run.specs.Spans.{spanOf}
-use Rattle.rules_run.specs.Evaluation.{plainNumber, literalNumber, readSpan, reference, apply, push, room, stepBy, onHeld}
+use Rattle.rules_run.specs.Evaluation.{literalNumber, readSpan, reference, apply, push, room, stepBy, onHeld}
 use Rattle.rules_run.proofs.Faults.{passes, calc-passes, read-passes}
 
 abbrev pub formedb : Fault → Bool
@@ -41,12 +40,8 @@ formedb fault.RoundCount = true
 
 module _ (c : Code) where
   pub literal-formed : (p l : ℕ) → numberb c p l ≡ true → passes formedb (literalNumber c p l) ≡ true
-  unfolding numberb literalNumber plainNumber
-  literal-formed p l o =
-      let a = both (leb 1 l) _ .0 o in
-      let b = both (leb l (c .dialect .limit)) _ .0 (a .1) in
-      let e = both (leb (p + l) (length (c .literals))) (digitsb (take l (drop p (c .literals)))) .0 (b .1) in
-      rw (a .0, b .0, e .0, e .1)
+  unfolding literalNumber
+  literal-formed p l o = rw o
 
   span-formed : (d : List ℕ) (s : Span) → passes formedb (readSpan c d s) ≡ true
   span-formed d (At a n) = read-passes formedb refl refl (c .dialect .limit) (c .dialect .sign) (take n (drop a d))

@@ -29,11 +29,11 @@ use Rattle.rules_unit.specs.declared.Op.the-variants as op
 use Rattle.rules_unit.specs.declared.Item.{Item}
 use Rattle.rules_unit.specs.declared.Item.the-variants as item
 use Rattle.rules_unit.specs.Codes.{Code, decimalb}
-use Rattle.rules_unit.specs.Expressions.{digitsb}
+use Rattle.rules_unit.specs.Expressions.{digitsb, numberb}
 use Rattle.rules_run.specs.declared.Span.{Span}
 use Rattle.rules_run.specs.declared.Span.the-variants.{At, Outside}
 use Rattle.rules_run.specs.Spans.{spanOf}
-use Rattle.rules_run.specs.Evaluation.{calc, digitsFrom, plainNumber, literalNumber, readAt, readSpan, reference, apply}
+use Rattle.rules_run.specs.Evaluation.{calc, digitsFrom, literalNumber, readAt, readSpan, reference, apply}
 
 pub range-up : {low high : ℕ} → low ≤ high → (n : Num) → InRange low n → InRange high n
 range-up h (Value z) v = record { small = omega (arith, v .small) }
@@ -74,21 +74,17 @@ module _ (c : Code) (d : List ℕ) (bound : ℕ) (truths : 1 < bound) (sums : c 
   calc-range op.Or x y vx vy = range-truth (isTrue x || isTrue y) truths
   calc-range op.Xor x y vx vy = range-truth (xorb (isTrue x) (isTrue y)) truths
 
-  plain-range : (s : List ℕ) → length s ≤ c .dialect .limit → InRange bound (plainNumber s)
-  unfolding plainNumber
-  plain-range s h =
-      cond-case (InRange bound) (digitsb s) (Value (pos (digitsFrom 0 s))) (Failed fault.Malformed)
-      (λ e. record { small = lt-of-lt-of-le (digits-most (c .dialect .limit) 0 0 s (lit< tt) (omega arith) e) digits })
-      (λ e. tt)
-
   literal-range : (p l : ℕ) → InRange bound (literalNumber c p l)
-  unfolding literalNumber
+  unfolding numberb literalNumber
   literal-range p l =
-      cond-case (InRange bound) (leb 1 l) _ (Failed fault.Malformed)
-      (λ _. cond-case (InRange bound) (leb l (c .dialect .limit)) _ (Failed fault.Malformed)
-      (λ e. cond-case (InRange bound) (leb (p + l) (length (c .literals))) _ (Failed fault.Malformed)
-      (λ _. plain-range (take l (drop p (c .literals))) (omega (arith, leb-true l (c .dialect .limit) e, length-take l (drop p (c .literals)))))
-      (λ _. tt)) (λ _. tt)) (λ _. tt)
+      let s = take l (drop p (c .literals)) in
+      cond-case (InRange bound) (numberb c p l) (Value (pos (digitsFrom 0 s))) (Failed fault.Malformed)
+      (λ e.
+      let short = both (leb l (c .dialect .limit)) _ .0 (both (leb 1 l) _ .0 e .1) in
+      let plain = both (leb (p + l) (length (c .literals))) (digitsb s) .0 (short .1) .1 in
+      let few : length s ≤ c .dialect .limit = omega (arith, leb-true l (c .dialect .limit) (short .0), length-take l (drop p (c .literals))) in
+      record { small = lt-of-lt-of-le (digits-most (c .dialect .limit) 0 0 s (lit< tt) (omega arith) plain) digits })
+      (λ _. tt)
 
   pub read-range : (a n : ℕ) → InRange bound (readAt c d a n)
   read-range a n = range-up digits (readAt c d a n) (range-read (c .dialect .limit) (c .dialect .sign) (take n (drop a d)))

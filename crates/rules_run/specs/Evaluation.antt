@@ -13,7 +13,7 @@ use mathlib.Core.Path.{_≡_}
 use Prim.Native.Nat.{ℕ, zero, suc, _+_, _-_, _*_, _^_, _≤_}
 use mathlib.Core.Bool.{true, false, cond}
 use mathlib.Core.List.{List, [], _∷_}
-use lib.Dec.{ltb, leb}
+use lib.Dec.{ltb}
 use lib.IntN.{ℤ, pos, negℤ}
 use lib.ListN.{length, take, drop}
 use Rattle.rules.specs.declared.Fault.{Fault}
@@ -29,7 +29,7 @@ use Rattle.rules_unit.specs.declared.Op.the-variants as op
 use Rattle.rules_unit.specs.declared.Item.{Item}
 use Rattle.rules_unit.specs.declared.Item.the-variants as item
 use Rattle.rules_unit.specs.Codes.{Code, decimalb}
-use Rattle.rules_unit.specs.Expressions.{digitsb, opTakes, takes, textb}
+use Rattle.rules_unit.specs.Expressions.{opTakes, takes, numberb, textb}
 use Rattle.rules_run.specs.declared.Span.{Span}
 use Rattle.rules_run.specs.declared.Span.the-variants.{At, Outside}
 use Rattle.rules_run.specs.declared.Worked.{Worked}
@@ -62,17 +62,10 @@ unfoldable pub digitsFrom : ℕ → List ℕ → ℕ
 digitsFrom acc [] = acc
 digitsFrom acc (b ∷ bs) = digitsFrom (acc * 10 + (b - 48)) bs
 
--- Digits that stand alone make a number; Malformed where one is none.
-unfoldable pub plainNumber : List ℕ → Num
-plainNumber s = cond (digitsb s) (Value (pos (digitsFrom 0 s))) (Failed fault.Malformed)
-
 -- "01 number literal: place in literals (2 bytes), length (1 byte, 1 to 18), all digits 0 to 9"
 unfoldable pub literalNumber : Code → ℕ → ℕ → Num
 literalNumber c place len =
-    cond (leb 1 len)
-    (cond (leb len (c .dialect .limit))
-    (cond (leb (place + len) (length (c .literals))) (plainNumber (take len (drop place (c .literals)))) (Failed fault.Malformed))
-    (Failed fault.Malformed)) (Failed fault.Malformed)
+    cond (numberb c place len) (Value (pos (digitsFrom 0 (take len (drop place (c .literals)))))) (Failed fault.Malformed)
 
 abbrev pub readAt : Code → List ℕ → ℕ → ℕ → Num
 readAt c d a n = readOf (c .dialect .limit) (c .dialect .sign) (take n (drop a d))

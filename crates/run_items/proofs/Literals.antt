@@ -1,7 +1,7 @@
 -- Number literals: the digits of a literal one by one, and the literal as the part of the unit that the code reads.
 -- Assumes nothing.
-use mathlib.Core.Path.{_≡_, refl, sym, ap, _∙_}
-use mathlib.Core.Bool.{cond}
+use mathlib.Core.Path.{_≡_, sym, ap, _∙_}
+use mathlib.Core.Bool.{false}
 use mathlib.Core.List.{List}
 use Prim.Native.Nat.{ℕ, _+_, _-_, _*_, _^_, _≤_, _<_}
 use native.Mathlib.Numerals.{add-one}
@@ -9,7 +9,6 @@ use native.Mathlib.Omega.{arith}
 use lib.IntN.{ℤ, pos}
 use lib.ListN.{length, getD, take, drop, drop-of-length-le}
 use lib.Seq.{drop-cons}
-use borrow.Author.Tests.{le-leb, lt-leb}
 use mir.Syntax.{w64}
 use mir.Val.{SFits, toZ, ofZ}
 use Rattle.rules.specs.declared.Num.{Num}
@@ -19,19 +18,12 @@ use Rattle.rules.proofs.Decimals.{from-yes, from-low, from-high, more-digits}
 use Rattle.rules.proofs.Signed.{back}
 use Rattle.rules_unit.specs.declared.Parts.{Parts}
 use Rattle.rules_unit.specs.Decode.{Fills, literalsAt, codeOf}
-use Rattle.rules_unit.specs.Expressions.{digitsb}
-use Rattle.rules_run.specs.Evaluation.{digitsFrom, plainNumber, literalNumber}
-use Rattle.unit_decode.proofs.Literals.{literals-length, literal-part}
+use Rattle.rules_unit.specs.Expressions.{digitsb, numberb}
+use Rattle.rules_run.specs.Evaluation.{digitsFrom, literalNumber}
+use Rattle.unit_decode.proofs.Literals.{literals-length, literal-is, number-there}
+use Rattle.run_items.specs.Digits.{plainFrom}
 
 -- ---- digits
-
--- The number that plain digits make, after those of acc.
-unfoldable pub plainFrom : ℕ → List ℕ → Num
-plainFrom acc s = cond (digitsb s) (Value (pos (digitsFrom acc s))) (Failed fault.Malformed)
-
-pub plain-start : (s : List ℕ) → plainFrom 0 (drop 0 s) ≡ plainNumber s
-unfolding plainFrom plainNumber
-plain-start s = refl
 
 -- A digit more after the i digits of acc.
 pub plain-digits : (acc i b : ℕ) → acc < 10 ^ i → b ≤ 57 → acc * 10 + (b - 48) < 10 ^ (i + 1)
@@ -63,27 +55,15 @@ module _ (s : List ℕ) (acc i : ℕ) (z : Num) (rest : plainFrom acc (drop i s)
 
 -- ---- literals
 
--- f, n and m are the code's own copies of the place, the length and P
 module _ (u : List ℕ) (p : Parts) (place len : ℕ) where
-  pub literal-empty : len < 1 → Failed fault.Malformed ≡ literalNumber (codeOf u p) place len
+  pub literal-none : false ≡ numberb (codeOf u p) place len → Failed fault.Malformed ≡ literalNumber (codeOf u p) place len
   unfolding literalNumber
-  literal-empty h = sym (rw (lt-leb 1 len h))
+  literal-none h = rw (← h)
 
-  pub literal-long : p .dialect .limit < len → Failed fault.Malformed ≡ literalNumber (codeOf u p) place len
-  unfolding literalNumber
-  literal-long h = sym (rw (le-leb 1 len (omega arith), lt-leb len (p .dialect .limit) h))
-
-  module _ (fills : Fills u p) (some : 1 ≤ len) (f n m : ℕ) (ef : f ≡ place) (en : n ≡ len) (em : m ≡ p .p) where
-    pub literal-past : len ≤ p .dialect .limit → m < f + n → Failed fault.Malformed ≡ literalNumber (codeOf u p) place len
-    unfolding literalNumber
-    literal-past g h =
-        sym (rw (le-leb 1 len some, le-leb len (p .dialect .limit) g, lt-leb (place + len) (length (codeOf u p .literals)) (omega (arith, literals-length u p fills))))
-
-    pub literal-there : (start : ℕ) (r : Num) → len ≤ p .dialect .limit → f + n ≤ m → start ≡ literalsAt p
-        → r ≡ plainNumber (take (start + f + n - (start + f)) (drop (start + f) u)) → r ≡ literalNumber (codeOf u p) place len
-    unfolding literalNumber
-    literal-there start r g h es q =
-        let size : start + f + n - (start + f) ≡ len = omega arith in
-        let from : start + f ≡ literalsAt p + place = omega arith in
-        rw (le-leb 1 len some, le-leb len (p .dialect .limit) g, le-leb (place + len) (length (codeOf u p .literals)) (omega (arith, literals-length u p fills)))
-        (rw (literal-part u p fills place len (omega arith)) (rw (size, from) at q))
+  -- f, n and m are the code's own copies of the place, the length and P
+  pub literal-there : Fills u p → 1 ≤ len → (f n m : ℕ) → f ≡ place → n ≡ len → m ≡ p .p → (start : ℕ) (r : Num) → len ≤ p .dialect .limit → f + n ≤ m → start ≡ literalsAt p
+      → r ≡ plainFrom 0 (take (start + f + n - (start + f)) (drop (start + f) u)) → r ≡ literalNumber (codeOf u p) place len
+  unfolding plainFrom literalNumber
+  literal-there fills some f n m ef en em start r g h es q =
+      let inside : place + len ≤ length (codeOf u p .literals) = omega (arith, literals-length u p fills) in
+      rw (← number-there u p place len fills some f n m ef en em g h) (q ∙ ap (plainFrom 0) (literal-is u p fills place len start f n es ef en inside))

@@ -19,7 +19,8 @@ ghost use Rattle.rules_unit.specs.declared.How.the-variants as how;
 ghost use Rattle.rules_unit.specs.Decode.{Fills, SoundDialect, codeOf};
 ghost use Rattle.rules_unit.specs.Expressions.{howTakes, textb};
 ghost use Rattle.rules_run.specs.declared.Worked.the-variants as worked;
-ghost use Rattle.rules_run.specs.Evaluation.{calc, plainNumber, literalNumber, reference, placeBy};
+ghost use Rattle.rules_run.specs.Evaluation.{calc, literalNumber, reference, placeBy};
+ghost use Rattle.run_items.specs.Digits.{plainFrom};
 
 // A byte as a number that a sum may be made with.
 fn wide(x: u8) -> u64
@@ -31,7 +32,7 @@ fn wide(x: u8) -> u64
 // The number that plain digits make; Malformed where a character is none.
 fn plain_number(s: &[u8]) -> Num
     requires { ⌜ length (now s) ≤ 18 ⌝ }
-    ensures { λ r. ⌜ r ≡ plainNumber (now (s .entry)) ⌝ }
+    ensures { λ r. ⌜ r ≡ plainFrom 0 (now (s .entry)) ⌝ }
 {
     let mut acc: u64 = 0;
     let mut i = 0;

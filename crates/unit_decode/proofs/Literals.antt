@@ -27,7 +27,7 @@ module _ (u : List ℕ) (p : Parts) (fills : Fills u p) where
   literals-length = length-take-le (p .p) (drop (literalsAt p) u) (simp length-drop (omega (arith, fills .whole)))
 
   -- the n bytes from f on of the literals are those of the unit that stand as far after where the literals start
-  pub literal-part : (f n : ℕ) → f + n ≤ p .p → take n (drop f (codeOf u p .literals)) ≡ take n (drop (literalsAt p + f) u)
+  literal-part : (f n : ℕ) → f + n ≤ p .p → take n (drop f (codeOf u p .literals)) ≡ take n (drop (literalsAt p + f) u)
   literal-part f n h = part f n (p .p) (drop (literalsAt p) u) h ∙ ap (take n) (drop-drop f (literalsAt p) u)
 
   -- the count characters of the literals at place, as a part of the unit: x, y and z are the code's own copies

@@ -1,15 +1,16 @@
 -- `run_items::literal_number` meets its contract: the tests are the rule's own, and the part of the unit that `plain_number` reads is the literal.
 -- Assumes nothing.
 use borrow.Author.Needs.{needs}
-use Rattle.run_items.proofs.Literals.{literal-empty, literal-long, literal-past, literal-there}
+use Rattle.unit_decode.proofs.Literals.{number-empty, number-long, number-past}
+use Rattle.run_items.proofs.Literals.{literal-none, literal-there}
 use Rattle.run_items.proofs.literal_number.Statement.{statement}
 use Rattle.run_items.proofs.literal_number.Tie as tie
 
 returns : tie.Need-returns
-returns c = search literal-empty depth 3
+returns c = search (literal-none, number-empty) depth 4
 
 returns-2 : tie.Need-returns-2
-returns-2 c = search literal-long depth 3
+returns-2 c = search (literal-none, number-long) depth 4
 
 long-requires : tie.Need-long-requires
 long-requires c κs = search needs
@@ -24,7 +25,7 @@ add-if3 : tie.Need-add-if3
 add-if3 c = search needs
 
 returns-3 : tie.Need-returns-3
-returns-3 c = search literal-past depth 3
+returns-3 c = search (literal-none, number-past) depth 4
 
 literals-offset-requires : tie.Need-literals-offset-requires
 literals-offset-requires c κs = search needs

@@ -3,20 +3,20 @@
 -- The measure: how many characters are left.
 -- Assumes nothing.
 use borrow.Author.Needs.{needs}
-use mathlib.Core.Path.{_≡_}
+use mathlib.Core.Path.{_≡_, refl}
 use Prim.Native.Nat.{ℕ, _-_, _^_, _≤_, _<_}
 use native.Mathlib.Nat.{pow-le-pow-right, lt-of-lt-of-le}
 use native.Mathlib.Omega.{arith}
 use lib.Dec.{lit<}
 use lib.ListN.{length, drop}
-use Rattle.rules_run.specs.Evaluation.{plainNumber}
-use Rattle.run_items.proofs.Literals.{plainFrom, plain-start, plain-digits, plain-low, plain-high, plain-more, plain-end}
+use Rattle.run_items.specs.Digits.{plainFrom}
+use Rattle.run_items.proofs.Literals.{plain-digits, plain-low, plain-high, plain-more, plain-end}
 use Rattle.run_items.proofs.plain_number.Statement.{statement}
 use Rattle.run_items.proofs.plain_number.Tie as tie
 
 abbrev Inv-loop : tie.InvT-loop
 Inv-loop s acc₀ i₀ acc i =
-    (i ≤ length s) × (acc < 10 ^ i) × (plainFrom acc (drop i s) ≡ plainNumber s)
+    (i ≤ length s) × (acc < 10 ^ i) × (plainFrom acc (drop i s) ≡ plainFrom 0 s)
 
 abbrev μ-loop : tie.MeasureT-loop
 μ-loop s acc₀ i₀ acc i = length s - i
@@ -26,7 +26,7 @@ digits : (k : ℕ) (c : tie.At-loop Inv-loop μ-loop) → c .loop .i ≤ k → c
 digits k c h = lt-of-lt-of-le (c .loop .inv .1) (pow-le-pow-right (lit< tt) {i = c .loop .i} {j = k} h)
 
 loop-holds : tie.Need-loop-holds Inv-loop μ-loop
-loop-holds c = (search needs, lit< tt, plain-start (c .before .args .s .now))
+loop-holds c = (search needs, lit< tt, refl)
 
 shared-slice-read-wide : tie.Need-shared-slice-read-wide Inv-loop μ-loop
 shared-slice-read-wide c = search needs
