@@ -31,7 +31,7 @@ pub enum Item {
 #[derive(Clone, Copy, Debug, PartialEq, Eq)]
 pub enum Form {
     /// 02: no bounds.
-    Field,
+    First,
     /// 03: (subscript).
     Subscript,
     /// 04: (start,end).
@@ -44,7 +44,7 @@ impl Form {
     /// The form of the reference with this code.
     pub fn of(code: u8) -> Form {
         match code {
-            0x02 => Form::Field,
+            0x02 => Form::First,
             0x03 => Form::Subscript,
             0x04 => Form::StartEnd,
             0x05 => Form::PosLength,
@@ -55,7 +55,7 @@ impl Form {
     /// The number of bounds.
     pub fn bounds(self) -> usize {
         match self {
-            Form::Field => 0,
+            Form::First => 0,
             Form::Subscript => 1,
             Form::StartEnd | Form::PosLength => 2,
         }
@@ -102,7 +102,7 @@ pub fn item_at(expressions: &[u8], at: usize) -> Option<(Item, usize)> {
             let place = number_at(operands, 0);
             Item::Number(place..place + usize::from(operands[2]))
         }
-        0x02 => reference(Form::Field, operands),
+        0x02 => reference(Form::First, operands),
         0x03 => reference(Form::Subscript, operands),
         0x04 => reference(Form::StartEnd, operands),
         0x05 => reference(Form::PosLength, operands),

@@ -25,7 +25,7 @@ impl Span {
 fn stretch(form: Form, bounds: [i64; 2], size: usize) -> Option<Range<i64>> {
     let size = size as i64;
     match (form, bounds) {
-        (Form::Field, _) => Some(0..size),
+        (Form::First, _) => Some(0..size),
         // An element too far away for 64 bits lies outside all data, and so does the outermost
         // one that stands in for it.
         (Form::Subscript, [subscript, _]) => {
@@ -104,9 +104,9 @@ mod tests {
 
     #[test]
     fn no_bounds_give_the_first_element() {
-        assert_eq!(found(num(), Form::Field, [0, 0]), Ok((26, 36)));
+        assert_eq!(found(num(), Form::First, [0, 0]), Ok((26, 36)));
         let seats = field(DECIMAL, 4, 3, 5);
-        assert_eq!(found(seats, Form::Field, [0, 0]), Ok((4, 7)));
+        assert_eq!(found(seats, Form::First, [0, 0]), Ok((4, 7)));
     }
 
     #[test]

@@ -30,7 +30,7 @@ use rules_fence::Verdict;
 use rules_run::Span;
 use rules_unit::Checked;
 use rules_unit::Field;
-use rules_unit::How;
+use rules_unit::Form;
 use rules_unit::Item;
 use rules_unit::Parts;
 use rules_unit::Refusal;
@@ -45,15 +45,15 @@ ghost use Rattle.fence_bounds.specs.Asked.{Small};
 // ---- the bytes of a reference
 
 // The span of a reference whose bounds are known; Outside where it gives 21.
-fn span_of(unit: &[u8], parts: Parts, how: How, i: u16, s: Seen) -> Span
+fn span_of(unit: &[u8], parts: Parts, form: Form, i: u16, s: Seen) -> Span
     requires { ⌜ Fills (now unit) parts ⌝ }
     requires { ⌜ Small s ⌝ }
-    requires { ⌜ boundedb how s ≡ true ⌝ }
+    requires { ⌜ boundedb form s ≡ true ⌝ }
 {
     if parts.f <= i {
         return Span::Outside; // Never so: the unit passed its check.
     }
-    fence_bounds::fixed_span(unit, parts, how, i, s)
+    fence_bounds::fixed_span(unit, parts, form, i, s)
 }
 
 // Puts ` bytes 3 to 7`, or ` byte 3`.
@@ -139,17 +139,17 @@ fn put_shared(l: Line, unit: &[u8], parts: Parts, span: Span) -> Line {
 }
 
 // Puts the bytes of the field of a reference with bounds. Without bounds a reference names its field's first element, and nothing is put.
-fn put_own(l: Line, unit: &[u8], parts: Parts, how: How, i: u16) -> Line {
-    if unit_decode::how_takes(how) == 0 {
+fn put_own(l: Line, unit: &[u8], parts: Parts, form: Form, i: u16) -> Line {
+    if unit_decode::form_takes(form) == 0 {
         return l;
     }
     put_field(l, unit, parts, i)
 }
 
 // The line of a reference whose bounds are known, begun with its text. An alpha destination names the decimal field that it is on.
-fn say_known(l: Line, unit: &[u8], parts: Parts, how: How, i: u16, span: Span, written: bool) {
+fn say_known(l: Line, unit: &[u8], parts: Parts, form: Form, i: u16, span: Span, written: bool) {
     let mut next = put_span(l, span);
-    next = put_own(next, unit, parts, how, i);
+    next = put_own(next, unit, parts, form, i);
     next = put_data(next, parts, span);
     if written {
         next = put_shared(next, unit, parts, span);
@@ -164,8 +164,8 @@ fn say_unknown(l: Line, unit: &[u8], parts: Parts, i: u16) {
 }
 
 // Whether nothing is to be told of a reference: it has no bounds and is on no decimal field.
-fn is_plain(unit: &[u8], parts: Parts, how: How, span: Span, aimed: bool) -> bool {
-    if 0 < unit_decode::how_takes(how) {
+fn is_plain(unit: &[u8], parts: Parts, form: Form, span: Span, aimed: bool) -> bool {
+    if 0 < unit_decode::form_takes(form) {
         return false;
     }
     if !aimed {
@@ -175,12 +175,12 @@ fn is_plain(unit: &[u8], parts: Parts, how: How, span: Span, aimed: bool) -> boo
 }
 
 // The line of a reference whose bounds are known, if there is something to tell of it.
-fn say_bounded(l: Line, unit: &[u8], parts: Parts, how: How, i: u16, s: Seen, written: bool)
+fn say_bounded(l: Line, unit: &[u8], parts: Parts, form: Form, i: u16, s: Seen, written: bool)
     requires { ⌜ Fills (now unit) parts ⌝ }
     requires { ⌜ Small s ⌝ }
-    requires { ⌜ boundedb how s ≡ true ⌝ }
+    requires { ⌜ boundedb form s ≡ true ⌝ }
 {
-    let span = span_of(unit, parts, how, i, s);
+    let span = span_of(unit, parts, form, i, s);
     let field = field_of(unit, parts, i);
     let kind = field.kind;
     let aimed = if unit_decode::is_decimal(kind) {
@@ -188,19 +188,19 @@ fn say_bounded(l: Line, unit: &[u8], parts: Parts, how: How, i: u16, s: Seen, wr
     } else {
         written
     };
-    if is_plain(unit, parts, how, span, aimed) {
+    if is_plain(unit, parts, form, span, aimed) {
         return;
     }
-    say_known(l, unit, parts, how, i, span, aimed);
+    say_known(l, unit, parts, form, i, span, aimed);
 }
 
 // The line of a reference, begun with its text.
-fn say_reference(l: Line, unit: &[u8], parts: Parts, how: How, i: u16, s: Seen, written: bool)
+fn say_reference(l: Line, unit: &[u8], parts: Parts, form: Form, i: u16, s: Seen, written: bool)
     requires { ⌜ Fills (now unit) parts ⌝ }
     requires { ⌜ Small s ⌝ }
 {
-    if fence_bounds::bounded(how, s) {
-        say_bounded(l, unit, parts, how, i, s, written);
+    if fence_bounds::bounded(form, s) {
+        say_bounded(l, unit, parts, form, i, s, written);
         return;
     }
     say_unknown(l, unit, parts, i);
@@ -218,10 +218,10 @@ fn say_item(h: Held, unit: &[u8], parts: Parts, item: Item, s: Seen, written: bo
         return;
     }
     match item {
-        Item::Reference { how, field } => {
+        Item::Reference { form, field } => {
             let start = put_text(new_line(), b"  ");
             let l = put_between(start, h.line, start_of(h, 1), end);
-            say_reference(l, unit, parts, how, field, s, written);
+            say_reference(l, unit, parts, form, field, s, written);
         }
         Item::Number { place: _, len: _ }
         | Item::Text { place: _, len: _ }

@@ -20,7 +20,7 @@ use crate::say::put_text;
 use crate::say::say_line;
 use crate::say::sum;
 use rules_unit::Field;
-use rules_unit::How;
+use rules_unit::Form;
 use rules_unit::Item;
 use rules_unit::Kind;
 use rules_unit::Op;
@@ -120,33 +120,33 @@ pub fn put_name(l: Line, field: Field, i: u16) -> Line {
 // ---- references
 
 // What stands between the two bounds of a reference.
-fn between(how: How) -> u8 {
-    match how {
-        How::First => b'(',
-        How::Element => b'(',
-        How::Range => b',',
-        How::Length => b':',
+fn between(form: Form) -> u8 {
+    match form {
+        Form::First => b'(',
+        Form::Subscript => b'(',
+        Form::StartEnd => b',',
+        Form::PosLength => b':',
     }
 }
 
 // Puts the last two values as the bounds of a reference.
-fn put_bounds(l: Line, h: Held, how: How) -> Line {
+fn put_bounds(l: Line, h: Held, form: Form) -> Line {
     let mut next = put(l, b'(');
     next = put_held(next, h, 2);
-    next = put(next, between(how));
+    next = put(next, between(form));
     next = put_held(next, h, 1);
     put(next, b')')
 }
 
 // A reference takes the values held last as its bounds, as many as its form has.
-fn hold_reference(h: Held, unit: &[u8], parts: Parts, how: How, i: u16) -> Held {
-    let taken = unit_decode::how_takes(how) as usize;
+fn hold_reference(h: Held, unit: &[u8], parts: Parts, form: Form, i: u16) -> Held {
+    let taken = unit_decode::form_takes(form) as usize;
     let mut l = put_name(line_before(h, taken), field_of(unit, parts, i), i);
     if taken == 1 {
         l = put_value(l, h, 1, true);
     }
     if taken == 2 {
-        l = put_bounds(l, h, how);
+        l = put_bounds(l, h, form);
     }
     hold(h, taken, l, TIGHTEST)
 }
@@ -231,7 +231,7 @@ pub fn hold_item(h: Held, unit: &[u8], parts: Parts, item: Item) -> Held {
             let l = put_text(line, literal_of(unit, parts, place, len));
             hold(h, 0, l, TIGHTEST)
         }
-        Item::Reference { how, field } => hold_reference(h, unit, parts, how, field),
+        Item::Reference { form, field } => hold_reference(h, unit, parts, form, field),
         Item::Text { place, len } => {
             let l = put_quoted(line, literal_of(unit, parts, place, len));
             hold(h, 0, l, TIGHTEST)
@@ -245,7 +245,7 @@ pub fn hold_item(h: Held, unit: &[u8], parts: Parts, item: Item) -> Held {
 pub fn is_end(item: Item) -> bool {
     match item {
         Item::Number { place: _, len: _ } | Item::Text { place: _, len: _ } => false,
-        Item::Reference { how: _, field: _ } | Item::Operator(_) => false,
+        Item::Reference { form: _, field: _ } | Item::Operator(_) => false,
         Item::End | Item::Bad => true,
     }
 }

@@ -16,7 +16,7 @@ use Rattle.rules.specs.Values.{Val}
 use Rattle.rules.proofs.Range.{InRange}
 use Rattle.rules.proofs.Signed.{back, again, abs-neg, pow-le18}
 use Rattle.rules_unit.specs.declared.Parts.{Parts}
-use Rattle.rules_unit.specs.declared.How.{How}
+use Rattle.rules_unit.specs.declared.Form.{Form}
 use Rattle.rules_unit.specs.declared.Op.{Op}
 use Rattle.rules_unit.specs.declared.Item.{Item}
 use Rattle.rules_unit.specs.declared.Item.the-variants as item
@@ -84,7 +84,7 @@ module _ (u : List ℕ) (p : Parts) (s : Seen) (i : Item) where
       → r ≡ seenAfter (codeOf u p) s i
   after-number place len n r e f q = rw e (q ∙ ap (λ (m : Num). seenNumber m s) f)
 
-  pub after-reference : (h : How) (f : ℕ) → i ≡ item.Reference h f → seen.Nothing ≡ seenAfter (codeOf u p) s i
+  pub after-reference : (h : Form) (f : ℕ) → i ≡ item.Reference h f → seen.Nothing ≡ seenAfter (codeOf u p) s i
   after-reference h f e = rw e
 
   pub after-text : (place len : ℕ) → i ≡ item.Text place len → seen.Nothing ≡ seenAfter (codeOf u p) s i
@@ -136,7 +136,7 @@ module _ (u : List ℕ) (p : Parts) (dialect : SoundDialect (p .dialect)) where
 
   small-after : (s : Seen) (i : Item) → Small s → Small (seenAfter (codeOf u p) s i)
   small-after s (item.Number place len) h = small-number (literalNumber (codeOf u p) place len) s (literal-small place len) h
-  small-after s (item.Reference how field) h = small-none
+  small-after s (item.Reference m field) h = small-none
   small-after s (item.Text place len) h = small-none
   small-after s (item.Operator o) h = small-operator (isNegate o) s h
   small-after s item.End h = small-none

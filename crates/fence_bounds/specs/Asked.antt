@@ -5,8 +5,8 @@
 use Prim.Native.Nat.{_^_}
 use lib.IntN.{ℤ, pos}
 use Rattle.rules.specs.Values.{Val}
-use Rattle.rules_unit.specs.declared.How.{How}
-use Rattle.rules_unit.specs.declared.How.the-variants as how
+use Rattle.rules_unit.specs.declared.Form.{Form}
+use Rattle.rules_unit.specs.declared.Form.the-variants as form
 use Rattle.rules_fence.specs.declared.Seen.{Seen}
 use Rattle.rules_fence.specs.declared.Seen.the-variants as seen
 
@@ -21,11 +21,11 @@ lastBound (seen.One y plain) = y
 lastBound (seen.Two x y plain) = y
 
 -- A subscript is the last bound alone; a start or a position stands before another one.
-abbrev pub startBound : How → Seen → ℤ
-startBound how.First s = firstBound s
-startBound how.Element s = lastBound s
-startBound how.Range s = firstBound s
-startBound how.Length s = firstBound s
+abbrev pub startBound : Form → Seen → ℤ
+startBound form.First s = firstBound s
+startBound form.Subscript s = lastBound s
+startBound form.StartEnd s = firstBound s
+startBound form.PosLength s = firstBound s
 
 pub record Small (s : Seen) : Type 0 where
   pub first : Val (10 ^ 18) (firstBound s)

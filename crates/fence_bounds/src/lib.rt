@@ -2,7 +2,7 @@
 use rules::Num;
 use rules_fence::Seen;
 use rules_run::Span;
-use rules_unit::How;
+use rules_unit::Form;
 use rules_unit::Item;
 use rules_unit::Op;
 use rules_unit::Parts;
@@ -10,7 +10,7 @@ ghost use mathlib.Core.Path.{_≡_};
 ghost use mathlib.Core.Bool.{true};
 ghost use Prim.Native.Nat.{_<_};
 ghost use Rattle.rules.specs.declared.Num.the-variants.{Value};
-ghost use Rattle.rules_unit.specs.declared.How.the-variants as how;
+ghost use Rattle.rules_unit.specs.declared.Form.the-variants as form;
 ghost use Rattle.rules_unit.specs.Decode.{Fills, SoundDialect, codeOf};
 ghost use Rattle.rules_fence.specs.Bounds.{isNegate, seenNumber, seenNegate, seenAfter, boundedb, fixedSpan};
 ghost use Rattle.fence_bounds.specs.Asked.{firstBound, lastBound, startBound, Small};
@@ -117,7 +117,7 @@ pub fn seen_after(unit: &[u8], parts: Parts, s: Seen, item: Item) -> Seen
         Item::Number { place, len } => {
             seen_number(run_items::literal_number(unit, parts, place, len), s)
         }
-        Item::Reference { how: _, field: _ } => Seen::Nothing,
+        Item::Reference { form: _, field: _ } => Seen::Nothing,
         Item::Text { place: _, len: _ } => Seen::Nothing,
         Item::Operator(op) => {
             if is_negate(op) {
@@ -134,7 +134,7 @@ pub fn seen_after(unit: &[u8], parts: Parts, s: Seen, item: Item) -> Seen
 
 // Whether there is a bound.
 pub fn has_one(s: Seen) -> bool
-    ensures { λ r. ⌜ r ≡ boundedb how.Element s ⌝ }
+    ensures { λ r. ⌜ r ≡ boundedb form.Subscript s ⌝ }
 {
     match s {
         Seen::Nothing => false,
@@ -149,7 +149,7 @@ pub fn has_one(s: Seen) -> bool
 
 // Whether there are two bounds.
 fn has_two(s: Seen) -> bool
-    ensures { λ r. ⌜ r ≡ boundedb how.Range s ⌝ }
+    ensures { λ r. ⌜ r ≡ boundedb form.StartEnd s ⌝ }
 {
     match s {
         Seen::Nothing => false,
@@ -163,14 +163,14 @@ fn has_two(s: Seen) -> bool
 }
 
 // Whether there are as many bounds as a reference takes.
-pub fn bounded(how: How, s: Seen) -> bool
-    ensures { λ r. ⌜ r ≡ boundedb how s ⌝ }
+pub fn bounded(form: Form, s: Seen) -> bool
+    ensures { λ r. ⌜ r ≡ boundedb form s ⌝ }
 {
-    match how {
-        How::First => true,
-        How::Element => has_one(s),
-        How::Range => has_two(s),
-        How::Length => has_two(s),
+    match form {
+        Form::First => true,
+        Form::Subscript => has_one(s),
+        Form::StartEnd => has_two(s),
+        Form::PosLength => has_two(s),
     }
 }
 
@@ -205,30 +205,30 @@ fn last_bound(s: Seen) -> i64
 }
 
 // The bound that a reference starts from.
-fn start_bound(how: How, s: Seen) -> i64
-    ensures { λ r. ⌜ r ≡ startBound how s ⌝ }
+fn start_bound(form: Form, s: Seen) -> i64
+    ensures { λ r. ⌜ r ≡ startBound form s ⌝ }
 {
-    match how {
-        How::First => first_bound(s),
-        How::Element => last_bound(s),
-        How::Range => first_bound(s),
-        How::Length => first_bound(s),
+    match form {
+        Form::First => first_bound(s),
+        Form::Subscript => last_bound(s),
+        Form::StartEnd => first_bound(s),
+        Form::PosLength => first_bound(s),
     }
 }
 
 // ---- the span
 
 // The bytes that a reference names by its bounds; Outside where 21 would be given.
-pub fn fixed_span(unit: &[u8], parts: Parts, how: How, field: u16, s: Seen) -> Span
+pub fn fixed_span(unit: &[u8], parts: Parts, form: Form, field: u16, s: Seen) -> Span
     requires { ⌜ Fills (now unit) parts ⌝ }
     requires { ⌜ field < parts .f ⌝ }
     requires { ⌜ Small s ⌝ }
-    requires { ⌜ boundedb how s ≡ true ⌝ }
-    ensures { λ r. ⌜ r ≡ fixedSpan (codeOf (now (unit .entry)) parts) how field s ⌝ }
+    requires { ⌜ boundedb form s ≡ true ⌝ }
+    ensures { λ r. ⌜ r ≡ fixedSpan (codeOf (now (unit .entry)) parts) form field s ⌝ }
 {
     let entry = unit_decode::field(unit, parts, field);
     let most = unit_decode::long(parts.d);
-    let x = start_bound(how, s);
+    let x = start_bound(form, s);
     let y = last_bound(s);
-    run_spans::span_of(most, entry, how, x, y)
+    run_spans::span_of(most, entry, form, x, y)
 }

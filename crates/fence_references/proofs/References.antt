@@ -5,7 +5,7 @@ use mathlib.Core.Bool.{Bool, true, false}
 use mathlib.Core.List.{List, []}
 use Prim.Native.Nat.{ℕ, _+_, _≤_}
 use Rattle.rules_unit.specs.declared.Parts.{Parts}
-use Rattle.rules_unit.specs.declared.How.{How}
+use Rattle.rules_unit.specs.declared.Form.{Form}
 use Rattle.rules_unit.specs.declared.Op.{Op}
 use Rattle.rules_unit.specs.declared.Item.{Item}
 use Rattle.rules_unit.specs.declared.Item.the-variants as item
@@ -23,7 +23,7 @@ use Rattle.fence_bounds.proofs.Fixed.{fixed-as}
 
 -- ---- a reference
 
-module _ (u : List ℕ) (p : Parts) (h : How) (f : ℕ) (s : Seen) (dest b : Bool) (eb : b ≡ boundedb h s) where
+module _ (u : List ℕ) (p : Parts) (h : Form) (f : ℕ) (s : Seen) (dest b : Bool) (eb : b ≡ boundedb h s) where
   pub reference-unbound : b ≡ false → breach.BoundNotLiteral ≡ referenceBreach (codeOf u p) dest h f s
   unfolding referenceBreach
   reference-unbound e = rw (sym eb ∙ e)
@@ -45,7 +45,7 @@ module _ (u : List ℕ) (p : Parts) (h : How) (f : ℕ) (s : Seen) (dest b : Boo
 -- ---- an item
 
 module _ (u : List ℕ) (p : Parts) (dest : Bool) (s : Seen) (i : Item) where
-  pub item-reference : (h : How) (f : ℕ) (r : Breach) → i ≡ item.Reference h f → r ≡ referenceBreach (codeOf u p) dest h f s
+  pub item-reference : (h : Form) (f : ℕ) (r : Breach) → i ≡ item.Reference h f → r ≡ referenceBreach (codeOf u p) dest h f s
       → r ≡ itemBreach (codeOf u p) dest s i []
   item-reference h f r e q = rw e q
 

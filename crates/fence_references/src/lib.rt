@@ -2,7 +2,7 @@
 use rules_fence::Breach;
 use rules_fence::Seen;
 use rules_run::Span;
-use rules_unit::How;
+use rules_unit::Form;
 use rules_unit::Item;
 use rules_unit::Parts;
 ghost use mathlib.Core.Path.{_≡_};
@@ -107,7 +107,7 @@ fn reference_breach(
     parts: Parts,
     ahead: &[u16],
     dest: bool,
-    how: How,
+    form: Form,
     field: u16,
     s: Seen,
 ) -> Breach
@@ -115,12 +115,12 @@ fn reference_breach(
     requires { ⌜ Ahead (codeOf (now unit) parts) (now ahead) ⌝ }
     requires { ⌜ field < parts .f ⌝ }
     requires { ⌜ Small s ⌝ }
-    ensures { λ r. ⌜ r ≡ referenceBreach (codeOf (now (unit .entry)) parts) dest how field s ⌝ }
+    ensures { λ r. ⌜ r ≡ referenceBreach (codeOf (now (unit .entry)) parts) dest form field s ⌝ }
 {
-    if fence_bounds::bounded(how, s) {} else {
+    if fence_bounds::bounded(form, s) {} else {
         return Breach::BoundNotLiteral;
     }
-    match fence_bounds::fixed_span(unit, parts, how, field, s) {
+    match fence_bounds::fixed_span(unit, parts, form, field, s) {
         Span::At { start, len } => span_breach(unit, parts, ahead, dest, field, start, len),
         Span::Outside => Breach::BoundsWrong,
     }
@@ -143,7 +143,15 @@ pub fn item_breach(
 {
     match item {
         Item::Number { place: _, len: _ } => Breach::None,
-        Item::Reference { how, field } => reference_breach(unit, parts, ahead, dest, how, field, s),
+        Item::Reference { form, field } => reference_breach(
+            unit,
+            parts,
+            ahead,
+            dest,
+            form,
+            field,
+            s,
+        ),
         Item::Text { place: _, len: _ } => Breach::None,
         Item::Operator(_) => Breach::None,
         Item::End => Breach::None,

@@ -13,7 +13,7 @@ use lib.Seq.{getD-set-other, set-out}
 use borrow.Author.Tests.{eqb-true, eqb-false, not-false}
 use Rattle.rules_unit.specs.declared.Parts.{Parts}
 use Rattle.rules_unit.specs.declared.Item.{Item}
-use Rattle.rules_unit.specs.declared.How.the-variants as how
+use Rattle.rules_unit.specs.declared.Form.the-variants as form
 use Rattle.rules_unit.specs.Codes.{Code}
 use Rattle.rules_unit.specs.Decode.{expressionsAt, literalsAt, widthOf, itemsAt, codeOf}
 use Rattle.rules_unit.proofs.Items.{width-some}
@@ -31,7 +31,7 @@ use Rattle.fence_statements.specs.Notes.{notedb, noteAt, Kept, KeptIf, B
 
 -- ---- the list, where b says whether there are bounds
 
-module _ (notes : List ℕ) (e : ℕ) (s : Seen) (b : Bool) (eb : b ≡ boundedb how.Element s) where
+module _ (notes : List ℕ) (e : ℕ) (s : Seen) (b : Bool) (eb : b ≡ boundedb form.Subscript s) where
   pub noted-bounded : b ≡ true → false ≡ notedb notes e s
   noted-bounded h = rw (sym eb ∙ h)
 

@@ -12,7 +12,7 @@ use Prim.Native.Nat.{ℕ}
 use lib.Dec.{ltb}
 use lib.ListN.{getD, set}
 use Rattle.rules_unit.specs.declared.Parts.{Parts}
-use Rattle.rules_unit.specs.declared.How.the-variants as how
+use Rattle.rules_unit.specs.declared.Form.the-variants as form
 use Rattle.rules_unit.specs.Codes.{Code}
 use Rattle.rules_unit.specs.Decode.{itemsAt, codeOf}
 use Rattle.rules_fence.specs.declared.Breach.{Breach}
@@ -23,10 +23,10 @@ use Rattle.rules_fence.specs.Breaches.{keepsb, breachFrom}
 use Rattle.unit_sorts.specs.Notes.{expressionsOf}
 
 abbrev pub notedb : List ℕ → ℕ → Seen → Bool
-notedb notes e s = cond (boundedb how.Element s) false (ltb 0 (getD notes e 0))
+notedb notes e s = cond (boundedb form.Subscript s) false (ltb 0 (getD notes e 0))
 
 abbrev pub noteAt : List ℕ → ℕ → Seen → List ℕ
-noteAt notes e s = cond (boundedb how.Element s) notes (set notes e 1)
+noteAt notes e s = cond (boundedb form.Subscript s) notes (set notes e 1)
 
 pub record Kept (c : Code) (dest : Bool) (es notes : List ℕ) : Type 0 where
   pub each : (e : ℕ) → ltb 0 (getD notes e 0) ≡ true → keepsb (breachFrom c dest seen.Nothing (itemsAt es e)) ≡ true

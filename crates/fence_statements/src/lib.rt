@@ -52,7 +52,7 @@ fn closes(item: Item) -> bool
 {
     match item {
         Item::Number { place: _, len: _ } => false,
-        Item::Reference { how: _, field: _ } => false,
+        Item::Reference { form: _, field: _ } => false,
         Item::Text { place: _, len: _ } => false,
         Item::Operator(_) => false,
         Item::End => true,

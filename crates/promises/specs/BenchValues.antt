@@ -12,7 +12,7 @@ use Rattle.rules.specs.Arithmetic.{addOf, divOf, roundOf}
 use Rattle.rules.specs.Moves.{placed, alphaFrom, alphaOf, fitted}
 use Rattle.rules_unit.specs.Table.{verbOf}
 use Rattle.rules_unit.specs.Expressions.{digitsb, numberb}
-use Rattle.rules_run.specs.Spans.{within, rangeSpan, lengthSpan, spanOf}
+use Rattle.rules_run.specs.Spans.{within, startEndSpan, posLengthSpan, spanOf}
 use Rattle.rules_run.specs.Evaluation.{digitsFrom, literalNumber, stepBy, placeBy, place, lastOf, workedFrom, workedOf, calc}
 use Rattle.rules_run.specs.Turns.{stored, applied, turnBy, turnOf}
 use Rattle.promises.specs.Rows.{number, text, stop, Row, _is_, AllHold, limit, top, sign, bytes, minus, answer, into, image, AM, NZ, NUM, unit, expression, range, back, after}
@@ -50,5 +50,5 @@ rows =
     ∷ []
 
 pub bench-values : AllHold rows
-unfolding readOf readFrom placed alphaFrom fitted digitsb numberb digitsFrom literalNumber calc stepBy within rangeSpan lengthSpan spanOf placeBy place lastOf workedFrom workedOf stored applied verbOf turnBy turnOf
+unfolding readOf readFrom placed alphaFrom fitted digitsb numberb digitsFrom literalNumber calc stepBy within startEndSpan posLengthSpan spanOf placeBy place lastOf workedFrom workedOf stored applied verbOf turnBy turnOf
 bench-values = refl

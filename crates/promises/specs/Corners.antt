@@ -18,7 +18,7 @@ use Rattle.rules.specs.declared.Num.the-variants.{Value}
 use Rattle.rules.specs.Values.{readFrom, readOf}
 use Rattle.rules.specs.Arithmetic.{addOf, subOf, mulOf, divOf, roundOf, eqOf, neOf, ltOf, gtOf, geOf, leOf, andOf}
 use Rattle.rules.specs.Moves.{placed, widthFrom, shown, alphaFrom, alphaOf, upcased, locased}
-use Rattle.rules_unit.specs.declared.How.the-variants as how
+use Rattle.rules_unit.specs.declared.Form.the-variants as form
 use Rattle.rules_unit.specs.declared.Op.the-variants as op
 use Rattle.rules_unit.specs.declared.Item.the-variants as item
 use Rattle.rules_unit.specs.Decode.{fullLength, markOf, partsOf, kindOf, fieldAt, referenceAt, numberAt, textAt, itemBy, itemAt, itemsIn, itemsAt, statementAt}
@@ -26,7 +26,7 @@ use Rattle.rules_unit.specs.Table.{verbOf}
 use Rattle.rules_unit.specs.Expressions.{digitsb, numberb, textb, sortFrom, sortAt, usesb}
 use Rattle.rules_unit.specs.Checks.{filledb, rangesb, entryb, goodFields, rowb, shapeb, foundOf, statementsFrom, partsCheck, checkOf}
 use Rattle.rules_unit.specs.Literals.{stretchOf, literalOf}
-use Rattle.rules_run.specs.Spans.{within, elementSpan, rangeSpan, lengthSpan, spanOf}
+use Rattle.rules_run.specs.Spans.{within, subscriptSpan, startEndSpan, posLengthSpan, spanOf}
 use Rattle.rules_run.specs.Evaluation.{digitsFrom, literalNumber, reference, stepBy, placeBy, place, lastOf, workedFrom, workedOf, calc}
 use Rattle.rules_run.specs.States.{returnsb, soundb}
 use Rattle.rules_run.specs.Turns as turns
@@ -187,7 +187,7 @@ references =
     ∷ []
 
 pub references-hold : AllHold references
-unfolding reference readOf readFrom digitsb numberb digitsFrom literalNumber calc stepBy within elementSpan rangeSpan lengthSpan spanOf placeBy place lastOf workedFrom workedOf
+unfolding reference readOf readFrom digitsb numberb digitsFrom literalNumber calc stepBy within subscriptSpan startEndSpan posLengthSpan spanOf placeBy place lastOf workedFrom workedOf
 references-hold = refl
 
 -- ---- items
@@ -196,10 +196,10 @@ references-hold = refl
 pub record Items : Type 0 where
   pub a-number : itemAt (1 ∷ 2 ∷ 3 ∷ 4 ∷ []) 0 ≡ item.Number 515 4
   pub number-cut : itemAt (1 ∷ 2 ∷ 3 ∷ []) 0 ≡ item.Bad
-  pub a-field : itemAt (2 ∷ 1 ∷ 4 ∷ []) 0 ≡ item.Reference how.First 260
-  pub an-element : itemAt (3 ∷ 1 ∷ 4 ∷ []) 0 ≡ item.Reference how.Element 260
-  pub a-range : itemAt (4 ∷ 1 ∷ 4 ∷ []) 0 ≡ item.Reference how.Range 260
-  pub a-length : itemAt (5 ∷ 1 ∷ 4 ∷ []) 0 ≡ item.Reference how.Length 260
+  pub a-field : itemAt (2 ∷ 1 ∷ 4 ∷ []) 0 ≡ item.Reference form.First 260
+  pub an-element : itemAt (3 ∷ 1 ∷ 4 ∷ []) 0 ≡ item.Reference form.Subscript 260
+  pub a-range : itemAt (4 ∷ 1 ∷ 4 ∷ []) 0 ≡ item.Reference form.StartEnd 260
+  pub a-length : itemAt (5 ∷ 1 ∷ 4 ∷ []) 0 ≡ item.Reference form.PosLength 260
   pub field-cut : itemAt (2 ∷ 1 ∷ []) 0 ≡ item.Bad
   pub a-text : itemAt (6 ∷ 2 ∷ 3 ∷ 4 ∷ 5 ∷ []) 0 ≡ item.Text 515 1029
   pub text-cut : itemAt (6 ∷ 2 ∷ 3 ∷ 4 ∷ []) 0 ≡ item.Bad

@@ -35,7 +35,7 @@ use Rattle.rules.specs.Values.{Valid, readOf}
 use Rattle.rules.specs.Arithmetic.{kept, divOf, roundOf}
 use Rattle.rules.proofs.Causes as causes
 use Rattle.rules_unit.specs.declared.Field.{Field}
-use Rattle.rules_unit.specs.declared.How.{How}
+use Rattle.rules_unit.specs.declared.Form.{Form}
 use Rattle.rules_unit.specs.Codes.{Code}
 use Rattle.rules_unit.specs.Decode.{partsOf}
 use Rattle.rules_unit.specs.Sound.{SoundUnit}
@@ -124,10 +124,10 @@ pub round-26 : (v k : ℤ) → (roundOf v k ≡ Failed fault.RoundCount) ↔ ((n
 round-26 = causes.round-26
 
 -- "A span may leave its field in either direction; it must stay inside the D bytes. Otherwise 21.": the size is D
-pub span-exactly : (size : ℕ) (f : Field) (a n : ℕ) (h : How) (x y : ℤ) → (spanOf size f h x y ≡ At a n) ↔ Located f h x y a n × (a + n ≤ size)
+pub span-exactly : (size : ℕ) (f : Field) (a n : ℕ) (h : Form) (x y : ℤ) → (spanOf size f h x y ≡ At a n) ↔ Located f h x y a n × (a + n ≤ size)
 span-exactly = located.span-exactly
 
-pub outside-21 : (size : ℕ) (f : Field) (h : How) (x y : ℤ) → (spanOf size f h x y ≡ Outside) ↔ ((a n : ℕ) → Located f h x y a n → a + n ≤ size → ⊥)
+pub outside-21 : (size : ℕ) (f : Field) (h : Form) (x y : ℤ) → (spanOf size f h x y ≡ Outside) ↔ ((a n : ℕ) → Located f h x y a n → a + n ≤ size → ⊥)
 outside-21 = located.outside-exactly
 
 -- ---- the open calls: the statement where the state s is, over the data d

@@ -11,7 +11,7 @@ use Rattle.rules_unit.specs.Decode.{markOf, partsOf, kindOf, fieldAt, reference
 use Rattle.rules_unit.specs.Table.{verbOf}
 use Rattle.rules_unit.specs.Expressions.{digitsb, numberb, textb, sortFrom, sortAt, usesb}
 use Rattle.rules_unit.specs.Checks.{filledb, rangesb, entryb, goodFields, rowb, shapeb, foundOf, statementsFrom, partsCheck, checkOf}
-use Rattle.rules_run.specs.Spans.{within, elementSpan, rangeSpan, lengthSpan, spanOf}
+use Rattle.rules_run.specs.Spans.{within, subscriptSpan, startEndSpan, posLengthSpan, spanOf}
 use Rattle.rules_run.specs.Evaluation.{digitsFrom, literalNumber}
 use Rattle.rules_fence.specs.declared.Verdict.the-variants.{Yes, No}
 use Rattle.rules_fence.specs.Bounds.{fixedSpan}
@@ -42,7 +42,7 @@ pub record Fences : Type 0 where
   pub back-over : fenceOf backward ≡ Yes
 
 pub fences : Fences
-unfolding markOf partsOf kindOf fieldAt referenceAt numberAt textAt itemBy itemAt itemsIn itemsAt verbOf statementAt digitsb numberb textb sortFrom sortAt usesb filledb rangesb entryb goodFields rowb shapeb foundOf statementsFrom partsCheck checkOf within elementSpan rangeSpan lengthSpan spanOf digitsFrom literalNumber fixedSpan elementBreach apartFrom alphaBreach referenceBreach breachFrom usesBreach breachOf verdictFrom fenceOf breachIn
+unfolding markOf partsOf kindOf fieldAt referenceAt numberAt textAt itemBy itemAt itemsIn itemsAt verbOf statementAt digitsb numberb textb sortFrom sortAt usesb filledb rangesb entryb goodFields rowb shapeb foundOf statementsFrom partsCheck checkOf within subscriptSpan startEndSpan posLengthSpan spanOf digitsFrom literalNumber fixedSpan elementBreach apartFrom alphaBreach referenceBreach breachFrom usesBreach breachOf verdictFrom fenceOf breachIn
 fences =
     record {
       bound-chosen = refl;
@@ -62,7 +62,7 @@ fences =
 -- ---- destinations: in `smear`, AM(2,6) from AM(1,5), byte 0 is only read and byte 1 is written
 
 pub reads-alone : Destination (decoded smear) 0 → ⊥
-unfolding markOf partsOf kindOf fieldAt referenceAt numberAt itemBy itemAt itemsIn itemsAt statementAt digitsb numberb within rangeSpan spanOf digitsFrom literalNumber fixedSpan spanFrom placeSpan
+unfolding markOf partsOf kindOf fieldAt referenceAt numberAt itemBy itemAt itemsIn itemsAt statementAt digitsb numberb within startEndSpan spanOf digitsFrom literalNumber fixedSpan spanFrom placeSpan
 reads-alone d = let a = destination-exactly (decoded smear) 0 .0 d in none (a .statement-number) (a .low) (a .span) (a .names) (a .covers)
   where
     none : (i : ℕ) → i < decoded smear .statements → (span : Span) → PlaceNames (decoded smear) (decoded smear .items (decoded smear .statement i .a)) span → Covers span 0 → ⊥
@@ -70,5 +70,5 @@ reads-alone d = let a = destination-exactly (decoded smear) 0 .0 d in none (a .s
     none (suc i) l span p v = let z : suc i < 1 = l in omega (arith, z)
 
 pub writes-there : Destination (decoded smear) 1
-unfolding markOf partsOf kindOf fieldAt referenceAt numberAt itemBy itemAt itemsIn itemsAt statementAt verbOf digitsb numberb within rangeSpan spanOf digitsFrom literalNumber fixedSpan spanFrom placeSpan
+unfolding markOf partsOf kindOf fieldAt referenceAt numberAt itemBy itemAt itemsIn itemsAt statementAt verbOf digitsb numberb within startEndSpan spanOf digitsFrom literalNumber fixedSpan spanFrom placeSpan
 writes-there = aim-destination (decoded smear) 0 (omega arith) 1 (omega arith, omega arith)

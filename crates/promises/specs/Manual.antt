@@ -16,7 +16,7 @@ use Rattle.rules_unit.specs.declared.Kind.the-variants as kind
 use Rattle.rules_unit.specs.declared.Field.{Field}
 use Rattle.rules_unit.specs.declared.Item.{Item}
 use Rattle.rules_unit.specs.Expressions.{digitsb, numberb}
-use Rattle.rules_run.specs.Spans.{within, elementSpan, rangeSpan, lengthSpan, spanOf}
+use Rattle.rules_run.specs.Spans.{within, subscriptSpan, startEndSpan, posLengthSpan, spanOf}
 use Rattle.rules_run.specs.Evaluation.{digitsFrom, literalNumber, stepBy, placeBy, place, lastOf, workedFrom, workedOf, calc}
 use Rattle.promises.specs.Rows.{Answer, number, text, stop, Row, _is_, AllHold, top, bytes, minus, into, unitOver, accessed, AM, NZ, NUM, expression, alone, element, range, forth, back}
 
@@ -47,7 +47,7 @@ examples =
     ∷ []
 
 pub manual-examples : AllHold examples
-unfolding readOf readFrom placed alphaFrom widthFrom fitted digitsb numberb digitsFrom literalNumber calc stepBy within rangeSpan lengthSpan spanOf placeBy place lastOf workedFrom workedOf
+unfolding readOf readFrom placed alphaFrom widthFrom fitted digitsb numberb digitsFrom literalNumber calc stepBy within startEndSpan posLengthSpan spanOf placeBy place lastOf workedFrom workedOf
 manual-examples = refl
 
 -- ---- 3.3
@@ -90,5 +90,5 @@ subscripts =
     ∷ []
 
 pub manual-subscripts : AllHold subscripts
-unfolding readOf readFrom digitsb numberb digitsFrom literalNumber calc stepBy within elementSpan spanOf placeBy place lastOf workedFrom workedOf
+unfolding readOf readFrom digitsb numberb digitsFrom literalNumber calc stepBy within subscriptSpan spanOf placeBy place lastOf workedFrom workedOf
 manual-subscripts = refl

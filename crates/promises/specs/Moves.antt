@@ -10,7 +10,7 @@ use Rattle.rules_unit.specs.declared.Item.the-variants as item
 use Rattle.rules_unit.specs.declared.Op.the-variants as op
 use Rattle.rules_unit.specs.Table.{verbOf}
 use Rattle.rules_unit.specs.Expressions.{digitsb, numberb, textb}
-use Rattle.rules_run.specs.Spans.{within, elementSpan, spanOf}
+use Rattle.rules_run.specs.Spans.{within, subscriptSpan, spanOf}
 use Rattle.rules_run.specs.Evaluation.{digitsFrom, literalNumber, reference, stepBy, placeBy, place, lastOf, workedFrom, workedOf, calc}
 use Rattle.rules_run.specs.Turns.{stored, applied, turnBy}
 use Rattle.promises.specs.Rows.{text, stop, number, Row, _is_, AllHold, bytes, alone, element}
@@ -45,5 +45,5 @@ moves =
     ∷ []
 
 pub moves-hold : AllHold moves
-unfolding readOf readFrom placed widthFrom alphaFrom fitted verbOf digitsb numberb textb digitsFrom literalNumber calc reference stepBy within elementSpan spanOf placeBy place lastOf workedFrom workedOf stored applied turnBy
+unfolding readOf readFrom placed widthFrom alphaFrom fitted verbOf digitsb numberb textb digitsFrom literalNumber calc reference stepBy within subscriptSpan spanOf placeBy place lastOf workedFrom workedOf stored applied turnBy
 moves-hold = refl

@@ -21,7 +21,7 @@ use Rattle.rules.specs.Moves.{written}
 use Rattle.rules_unit.specs.declared.Dialect.{Dialect}
 use Rattle.rules_unit.specs.declared.Kind.the-variants as kind
 use Rattle.rules_unit.specs.declared.Field.{Field}
-use Rattle.rules_unit.specs.declared.How.the-variants as how
+use Rattle.rules_unit.specs.declared.Form.the-variants as form
 use Rattle.rules_unit.specs.declared.Op.the-variants as op
 use Rattle.rules_unit.specs.declared.Item.{Item}
 use Rattle.rules_unit.specs.declared.Item.the-variants as item
@@ -103,19 +103,19 @@ num n = item.Number (2 * n) 2
 
 -- FIELD, FIELD(subscript), FIELD(start,end), FIELD(pos:length) and FIELD(pos:-length), in postfix order.
 abbrev pub alone : ℕ → List Item
-alone f = item.Reference how.First f ∷ []
+alone f = item.Reference form.First f ∷ []
 
 abbrev pub element : ℕ → ℕ → List Item
-element f s = num s ∷ (item.Reference how.Element f ∷ [])
+element f s = num s ∷ (item.Reference form.Subscript f ∷ [])
 
 abbrev pub range : ℕ → ℕ → ℕ → List Item
-range f from to = num from ∷ (num to ∷ (item.Reference how.Range f ∷ []))
+range f from to = num from ∷ (num to ∷ (item.Reference form.StartEnd f ∷ []))
 
 abbrev pub forth : ℕ → ℕ → ℕ → List Item
-forth f at len = num at ∷ (num len ∷ (item.Reference how.Length f ∷ []))
+forth f at len = num at ∷ (num len ∷ (item.Reference form.PosLength f ∷ []))
 
 abbrev pub back : ℕ → ℕ → ℕ → List Item
-back f at len = num at ∷ (num len ∷ (item.Operator op.Negate ∷ (item.Reference how.Length f ∷ [])))
+back f at len = num at ∷ (num len ∷ (item.Operator op.Negate ∷ (item.Reference form.PosLength f ∷ [])))
 
 -- A unit of len bytes of data and n fields, with the expressions of its one statement, a SET.
 abbrev pub unitOver : ℕ → ℕ → (ℕ → Field) → (ℕ → List Item) → Code

@@ -10,7 +10,7 @@ use Rattle.rules_unit.specs.Decode.{markOf, partsOf, kindOf, fieldAt, reference
 use Rattle.rules_unit.specs.Table.{verbOf}
 use Rattle.rules_unit.specs.Expressions.{digitsb, numberb, sortFrom, sortAt, usesb}
 use Rattle.rules_unit.specs.Checks.{filledb, rangesb, entryb, goodFields, gotosb, tableb, rowb, shapeb, foundOf, statementsFrom, partsCheck, checkOf}
-use Rattle.rules_run.specs.Spans.{within, rangeSpan, spanOf}
+use Rattle.rules_run.specs.Spans.{within, startEndSpan, spanOf}
 use Rattle.rules_run.specs.Evaluation.{calc, digitsFrom, literalNumber, reference, stepBy, placeBy, place, lastOf, workedFrom, workedOf}
 use Rattle.rules_run.specs.States.{returnsb, soundb, started}
 use Rattle.rules_run.specs.Stops.{stopNumber}
@@ -30,5 +30,5 @@ pub record Tours : Type 0 where
   pub leaves : ran .bytes ≡ bytes "04xabYCd80"
 
 pub tours : Tours
-unfolding readOf readFrom placed markOf partsOf kindOf fieldAt referenceAt numberAt itemBy itemAt itemsIn itemsAt statementAt verbOf digitsb numberb sortFrom sortAt usesb filledb rangesb entryb goodFields gotosb tableb rowb shapeb foundOf statementsFrom partsCheck checkOf within rangeSpan spanOf calc digitsFrom literalNumber reference stepBy placeBy place lastOf workedFrom workedOf returnsb soundb stored applied turnBy turnOf movedBy runFrom runChecked runOf
+unfolding readOf readFrom placed markOf partsOf kindOf fieldAt referenceAt numberAt itemBy itemAt itemsIn itemsAt statementAt verbOf digitsb numberb sortFrom sortAt usesb filledb rangesb entryb goodFields gotosb tableb rowb shapeb foundOf statementsFrom partsCheck checkOf within startEndSpan spanOf calc digitsFrom literalNumber reference stepBy placeBy place lastOf workedFrom workedOf returnsb soundb stored applied turnBy turnOf movedBy runFrom runChecked runOf
 tours = record { stops = refl; reached = refl; completed = refl; no-call-open = refl; leaves = refl }

@@ -11,8 +11,8 @@ use mathlib.Core.Logic.{inl, inr}
 use lib.IntN.{ℤ, pos, negℤ}
 use Rattle.rules.specs.declared.Num.{Num}
 use Rattle.rules.specs.declared.Num.the-variants.{Value, Failed}
-use Rattle.rules_unit.specs.declared.How.{How}
-use Rattle.rules_unit.specs.declared.How.the-variants as how
+use Rattle.rules_unit.specs.declared.Form.{Form}
+use Rattle.rules_unit.specs.declared.Form.the-variants as form
 use Rattle.rules_unit.specs.declared.Op.{Op}
 use Rattle.rules_unit.specs.declared.Op.the-variants as op
 use Rattle.rules_unit.specs.declared.Item.{Item}
@@ -103,35 +103,35 @@ module _ (c : Code) where
       (bound-both (seenIn c (seenIn c seen.Nothing (b .rest)) (b .first)) (b .last) x y (bound-last (seenIn c seen.Nothing (b .rest)) (b .first) x (b .is-first)) (b .is-last))
 
   -- The reference has its bounds, and its fixed span is the one that they name.
-  pub record Fixed (h : How) (f : ℕ) (s : Seen) (x y : ℤ) : Type 0 where
+  pub record Fixed (h : Form) (f : ℕ) (s : Seen) (x y : ℤ) : Type 0 where
     pub bounded : boundedb h s ≡ true
     pub span : fixedSpan c h f s ≡ spanOf (c .size) (c .field f) h x y
 
   module _ (f : ℕ) where
-    fixed-one : (s : Seen) (x y : ℤ) → LastIs s x → y ≡ pos 0 → Fixed how.Element f s x y
+    fixed-one : (s : Seen) (x y : ℤ) → LastIs s x → y ≡ pos 0 → Fixed form.Subscript f s x y
     unfolding fixedSpan
     fixed-one seen.Nothing x y h e = absurd h
     fixed-one (seen.One z plain) x y h e = record { bounded = refl; span = rw (h, e) }
     fixed-one (seen.Two w z plain) x y h e = record { bounded = refl; span = rw (h, e) }
 
-    fixed-range : (s : Seen) (x y : ℤ) → BothAre s x y → Fixed how.Range f s x y
+    fixed-range : (s : Seen) (x y : ℤ) → BothAre s x y → Fixed form.StartEnd f s x y
     unfolding fixedSpan
     fixed-range seen.Nothing x y h = absurd h
     fixed-range (seen.One z plain) x y h = absurd h
     fixed-range (seen.Two w z plain) x y h = record { bounded = refl; span = rw (h .0, h .1) }
 
-    fixed-length : (s : Seen) (x y : ℤ) → BothAre s x y → Fixed how.Length f s x y
+    fixed-length : (s : Seen) (x y : ℤ) → BothAre s x y → Fixed form.PosLength f s x y
     unfolding fixedSpan
     fixed-length seen.Nothing x y h = absurd h
     fixed-length (seen.One z plain) x y h = absurd h
     fixed-length (seen.Two w z plain) x y h = record { bounded = refl; span = rw (h .0, h .1) }
 
-    pub bounds-seen : (h : How) (before : List Item) (x y : ℤ) → Bounds c h before x y → Fixed h f (seenIn c seen.Nothing before) x y
+    pub bounds-seen : (h : Form) (before : List Item) (x y : ℤ) → Bounds c h before x y → Fixed h f (seenIn c seen.Nothing before) x y
     unfolding fixedSpan
-    bounds-seen how.First before x y b = record { bounded = refl; span = rw (b .0, b .1) }
-    bounds-seen how.Element before x y b = fixed-one (seenIn c seen.Nothing before) x y (one-last before x (b .0)) (b .1)
-    bounds-seen how.Range before x y b = fixed-range (seenIn c seen.Nothing before) x y (two-both before x y b)
-    bounds-seen how.Length before x y b = fixed-length (seenIn c seen.Nothing before) x y (two-both before x y b)
+    bounds-seen form.First before x y b = record { bounded = refl; span = rw (b .0, b .1) }
+    bounds-seen form.Subscript before x y b = fixed-one (seenIn c seen.Nothing before) x y (one-last before x (b .0)) (b .1)
+    bounds-seen form.StartEnd before x y b = fixed-range (seenIn c seen.Nothing before) x y (two-both before x y b)
+    bounds-seen form.PosLength before x y b = fixed-length (seenIn c seen.Nothing before) x y (two-both before x y b)
 
   -- ---- what is held stands directly before
 
@@ -235,7 +235,7 @@ module _ (c : Code) where
   shown-in s done [] h = rw (append-nil done) h
   shown-in s done (i ∷ is) h = rw (← append-assoc done (i ∷ []) is) (shown-in (seenAfter c s i) (done ++ (i ∷ [])) is (shown-after done s i h))
 
-  pub record Seeing (h : How) (f : ℕ) (before : List Item) (s : Seen) : Type 0 where
+  pub record Seeing (h : Form) (f : ℕ) (before : List Item) (s : Seen) : Type 0 where
     pub x : ℤ
     pub y : ℤ
     pub bounds : Bounds c h before x y
@@ -259,38 +259,38 @@ module _ (c : Code) where
     two-shown x y plain h =
         record { rest = h .rest; first = h .first; last = h .last; items = h .items; is-first = h .is-first; is-last = plain-bound plain (h .last) y (h .is-last) }
 
-    by-seen : (h : How) (s : Seen) → Shown s before → boundedb h s ≡ true → Seeing h f before s
+    by-seen : (h : Form) (s : Seen) → Shown s before → boundedb h s ≡ true → Seeing h f before s
     unfolding fixedSpan
-    by-seen how.First s w e = record { x = pos 0; y = pos 0; bounds = (refl, refl); span = refl }
-    by-seen how.Element seen.Nothing w e = absurd (false≢true e)
-    by-seen how.Element (seen.One y plain) w e = record { x = y; y = pos 0; bounds = (one-shown y plain w, refl); span = refl }
-    by-seen how.Element (seen.Two x y plain) w e = record { x = y; y = pos 0; bounds = (last-shown x y plain w, refl); span = refl }
-    by-seen how.Range seen.Nothing w e = absurd (false≢true e)
-    by-seen how.Range (seen.One y plain) w e = absurd (false≢true e)
-    by-seen how.Range (seen.Two x y plain) w e = record { x = x; y = y; bounds = two-shown x y plain w; span = refl }
-    by-seen how.Length seen.Nothing w e = absurd (false≢true e)
-    by-seen how.Length (seen.One y plain) w e = absurd (false≢true e)
-    by-seen how.Length (seen.Two x y plain) w e = record { x = x; y = y; bounds = two-shown x y plain w; span = refl }
+    by-seen form.First s w e = record { x = pos 0; y = pos 0; bounds = (refl, refl); span = refl }
+    by-seen form.Subscript seen.Nothing w e = absurd (false≢true e)
+    by-seen form.Subscript (seen.One y plain) w e = record { x = y; y = pos 0; bounds = (one-shown y plain w, refl); span = refl }
+    by-seen form.Subscript (seen.Two x y plain) w e = record { x = y; y = pos 0; bounds = (last-shown x y plain w, refl); span = refl }
+    by-seen form.StartEnd seen.Nothing w e = absurd (false≢true e)
+    by-seen form.StartEnd (seen.One y plain) w e = absurd (false≢true e)
+    by-seen form.StartEnd (seen.Two x y plain) w e = record { x = x; y = y; bounds = two-shown x y plain w; span = refl }
+    by-seen form.PosLength seen.Nothing w e = absurd (false≢true e)
+    by-seen form.PosLength (seen.One y plain) w e = absurd (false≢true e)
+    by-seen form.PosLength (seen.Two x y plain) w e = record { x = x; y = y; bounds = two-shown x y plain w; span = refl }
 
-    pub seen-bounds : (h : How) → boundedb h (seenIn c seen.Nothing before) ≡ true → Seeing h f before (seenIn c seen.Nothing before)
+    pub seen-bounds : (h : Form) → boundedb h (seenIn c seen.Nothing before) ≡ true → Seeing h f before (seenIn c seen.Nothing before)
     seen-bounds h e = by-seen h (seenIn c seen.Nothing before) (shown-in seen.Nothing [] before tt) e
 
   -- ---- a reference
 
-  pub unbounded : (f : ℕ) (h : How) (s : Seen) → boundedb h s ≡ false → fixedSpan c h f s ≡ Outside
+  pub unbounded : (f : ℕ) (h : Form) (s : Seen) → boundedb h s ≡ false → fixedSpan c h f s ≡ Outside
   unfolding fixedSpan
-  unbounded f how.First s e = absurd (true≢false e)
-  unbounded f how.Element seen.Nothing e = refl
-  unbounded f how.Element (seen.One y plain) e = absurd (true≢false e)
-  unbounded f how.Element (seen.Two x y plain) e = absurd (true≢false e)
-  unbounded f how.Range seen.Nothing e = refl
-  unbounded f how.Range (seen.One y plain) e = refl
-  unbounded f how.Range (seen.Two x y plain) e = absurd (true≢false e)
-  unbounded f how.Length seen.Nothing e = refl
-  unbounded f how.Length (seen.One y plain) e = refl
-  unbounded f how.Length (seen.Two x y plain) e = absurd (true≢false e)
+  unbounded f form.First s e = absurd (true≢false e)
+  unbounded f form.Subscript seen.Nothing e = refl
+  unbounded f form.Subscript (seen.One y plain) e = absurd (true≢false e)
+  unbounded f form.Subscript (seen.Two x y plain) e = absurd (true≢false e)
+  unbounded f form.StartEnd seen.Nothing e = refl
+  unbounded f form.StartEnd (seen.One y plain) e = refl
+  unbounded f form.StartEnd (seen.Two x y plain) e = absurd (true≢false e)
+  unbounded f form.PosLength seen.Nothing e = refl
+  unbounded f form.PosLength (seen.One y plain) e = refl
+  unbounded f form.PosLength (seen.Two x y plain) e = absurd (true≢false e)
 
-  module _ (dest : Bool) (h : How) (f : ℕ) (before : List Item) where
+  module _ (dest : Bool) (h : Form) (f : ℕ) (before : List Item) where
     pub fenced-fixed : RefFenced c dest h f before → SpanKept c dest f (fixedSpan c h f (seenIn c seen.Nothing before))
     fenced-fixed r = rw (bounds-seen f h before (r .x) (r .y) (r .bounds) .span) (r .kept)
 

@@ -6,7 +6,7 @@ use Prim.Native.Nat.{ℕ}
 use mathlib.Core.Path.{_≡_, refl, ap, subst}
 use mathlib.Core.Bool.{Bool}
 use mathlib.Core.List.{List, [], _∷_, _++_}
-use Rattle.rules_unit.specs.declared.How.{How}
+use Rattle.rules_unit.specs.declared.Form.{Form}
 use Rattle.rules_unit.specs.declared.Item.{Item}
 use Rattle.rules_unit.specs.declared.Item.the-variants as item
 use Rattle.rules_unit.specs.Codes.{Code}
@@ -31,7 +31,7 @@ module _ (c : Code) (dest : Bool) where
 
   -- Each reference of the items, where the bounds s stand before them.
   abbrev Refs : Seen → List Item → Type 0
-  Refs s is = (before after : List Item) (h : How) (f : ℕ) → is ≡ before ++ (item.Reference h f ∷ after) → SpanKept c (destb dest after) f (fixedSpan c h f (seenIn c s before))
+  Refs s is = (before after : List Item) (h : Form) (f : ℕ) → is ≡ before ++ (item.Reference h f ∷ after) → SpanKept c (destb dest after) f (fixedSpan c h f (seenIn c s before))
 
   one-to : (s : Seen) (i : Item) (is : List Item) → Refs s (i ∷ is) → ItemFenced s i is
   unfolding seenIn

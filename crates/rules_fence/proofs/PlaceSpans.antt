@@ -7,7 +7,7 @@ use Prim.Native.Nat.{ℕ}
 use mathlib.Core.Path.{_≡_, refl, sym, _∙_, subst}
 use mathlib.Core.Bool.{Bool, true, false, cond}
 use mathlib.Core.List.{List, [], _∷_, _++_, append-assoc}
-use Rattle.rules_unit.specs.declared.How.{How}
+use Rattle.rules_unit.specs.declared.Form.{Form}
 use Rattle.rules_unit.specs.declared.Item.{Item}
 use Rattle.rules_unit.specs.declared.Item.the-variants as item
 use Rattle.rules_unit.specs.declared.Use.{Use}
@@ -47,7 +47,7 @@ useSpan c (use-of.Of w at written) = cond written (placeSpan c (c .items at)) Ou
 module _ (c : Code) where
   -- ---- the span named is that of the place
 
-  module _ (h : How) (f : ℕ) where
+  module _ (h : Form) (f : ℕ) where
     from-last : (s : Seen) (i : Item) (b : List Item) → spanFrom c s i (b ++ (item.Reference h f ∷ [])) ≡ fixedSpan c h f (seenIn c (seenAfter c s i) b)
     unfolding spanFrom seenIn
     from-last s i [] = refl
@@ -67,7 +67,7 @@ module _ (c : Code) where
   -- ---- and back
 
   module _ (b : ℕ) where
-    last-names : (h : How) (f : ℕ) (done : List Item) → Covers (fixedSpan c h f (seenIn c seen.Nothing done)) b
+    last-names : (h : Form) (f : ℕ) (done : List Item) → Covers (fixedSpan c h f (seenIn c seen.Nothing done)) b
         → PlaceNames c (done ++ (item.Reference h f ∷ [])) (fixedSpan c h f (seenIn c seen.Nothing done))
     last-names h f done v = by (boundedb h (seenIn c seen.Nothing done)) refl
       where

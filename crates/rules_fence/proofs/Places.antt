@@ -12,8 +12,8 @@ use lib.IntN.{ℤ, pos}
 use lib.ListN.{length}
 use borrow.Author.Tests.{ltb-true}
 use Rattle.rules.specs.declared.Fault.the-variants as fault
-use Rattle.rules_unit.specs.declared.How.{How}
-use Rattle.rules_unit.specs.declared.How.the-variants as how
+use Rattle.rules_unit.specs.declared.Form.{Form}
+use Rattle.rules_unit.specs.declared.Form.the-variants as form
 use Rattle.rules_unit.specs.Codes.{Code, decimalb}
 use Rattle.rules_unit.specs.Sound.{SoundCode}
 use Rattle.rules_run.specs.declared.Span.{Span}
@@ -54,28 +54,28 @@ WorkedOk c dest span (worked.Failed e) = mildb false e ≡ true
 module _ (c : Code) (s : SoundCode c) (d : List ℕ) (e : length d ≡ c .size) where
   -- ---- the span that the values held give is the fixed one
 
-  pub fixed-whole : (f : ℕ) (b : Seen) → fixedSpan c how.First f b ≡ spanOf (length d) (c .field f) how.First (pos 0) (pos 0)
+  pub fixed-whole : (f : ℕ) (b : Seen) → fixedSpan c form.First f b ≡ spanOf (length d) (c .field f) form.First (pos 0) (pos 0)
   unfolding fixedSpan
   fixed-whole f b = rw e
 
   module _ (dest : Bool) (f : ℕ) where
-    pub fixed-element : (b : Seen) (x : ℤ) (st : List ℤ) → SpanKept c dest f (fixedSpan c how.Element f b) → Held b (x ∷ st)
-        → fixedSpan c how.Element f b ≡ spanOf (length d) (c .field f) how.Element x (pos 0)
+    pub fixed-element : (b : Seen) (x : ℤ) (st : List ℤ) → SpanKept c dest f (fixedSpan c form.Subscript f b) → Held b (x ∷ st)
+        → fixedSpan c form.Subscript f b ≡ spanOf (length d) (c .field f) form.Subscript x (pos 0)
     unfolding fixedSpan
     fixed-element seen.Nothing x st r q = absurd r
     fixed-element (seen.One y plain) x st r q = rw (e, q)
     fixed-element (seen.Two w y plain) x [] r q = absurd q
     fixed-element (seen.Two w y plain) x (z ∷ st) r q = rw (e, q .0)
 
-    pub fixed-range : (b : Seen) (y x : ℤ) (st : List ℤ) → SpanKept c dest f (fixedSpan c how.Range f b) → Held b (y ∷ (x ∷ st))
-        → fixedSpan c how.Range f b ≡ spanOf (length d) (c .field f) how.Range x y
+    pub fixed-range : (b : Seen) (y x : ℤ) (st : List ℤ) → SpanKept c dest f (fixedSpan c form.StartEnd f b) → Held b (y ∷ (x ∷ st))
+        → fixedSpan c form.StartEnd f b ≡ spanOf (length d) (c .field f) form.StartEnd x y
     unfolding fixedSpan
     fixed-range seen.Nothing y x st r q = absurd r
     fixed-range (seen.One z plain) y x st r q = absurd r
     fixed-range (seen.Two w z plain) y x st r q = rw (e, q .0, q .1)
 
-    pub fixed-length : (b : Seen) (y x : ℤ) (st : List ℤ) → SpanKept c dest f (fixedSpan c how.Length f b) → Held b (y ∷ (x ∷ st))
-        → fixedSpan c how.Length f b ≡ spanOf (length d) (c .field f) how.Length x y
+    pub fixed-length : (b : Seen) (y x : ℤ) (st : List ℤ) → SpanKept c dest f (fixedSpan c form.PosLength f b) → Held b (y ∷ (x ∷ st))
+        → fixedSpan c form.PosLength f b ≡ spanOf (length d) (c .field f) form.PosLength x y
     unfolding fixedSpan
     fixed-length seen.Nothing y x st r q = absurd r
     fixed-length (seen.One z plain) y x st r q = absurd r
@@ -83,7 +83,7 @@ module _ (c : Code) (s : SoundCode c) (d : List ℕ) (e : length d ≡ c .size) 
 
     -- ---- a last reference
 
-    module _ (h : How) (x y : ℤ) where
+    module _ (h : Form) (x y : ℤ) where
       as-place : (span : Span) → f < c .fields → span ≡ spanOf (length d) (c .field f) h x y → SpanKept c dest f span → WorkedOk c dest span (asPlace c f span)
       as-place Outside k q r = absurd r
       as-place (At a n) k q r = by (decimalb c f) refl (ltb (c .dialect .limit) n)
@@ -104,18 +104,18 @@ module _ (c : Code) (s : SoundCode c) (d : List ℕ) (e : length d ≡ c .size) 
           by true p = rw (← q) (as-place span (ltb-true f (c .fields) p) q r)
           by false p = refl
 
-    pub place-ok : (h : How) (b : Seen) (st : List ℤ) → SpanKept c dest f (fixedSpan c h f b) → Held b st → WorkedOk c dest (fixedSpan c h f b) (place c d h f st)
+    pub place-ok : (h : Form) (b : Seen) (st : List ℤ) → SpanKept c dest f (fixedSpan c h f b) → Held b st → WorkedOk c dest (fixedSpan c h f b) (place c d h f st)
     unfolding place
-    place-ok how.First b [] r t = place-by how.First (pos 0) (pos 0) (fixedSpan c how.First f b) (fixed-whole f b) r
-    place-ok how.First b (x ∷ st) r t = refl
-    place-ok how.Element b [] r t = refl
-    place-ok how.Element b (x ∷ []) r t = place-by how.Element x (pos 0) (fixedSpan c how.Element f b) (fixed-element b x [] r t) r
-    place-ok how.Element b (y ∷ (x ∷ st)) r t = refl
-    place-ok how.Range b [] r t = refl
-    place-ok how.Range b (x ∷ []) r t = refl
-    place-ok how.Range b (y ∷ (x ∷ [])) r t = place-by how.Range x y (fixedSpan c how.Range f b) (fixed-range b y x [] r t) r
-    place-ok how.Range b (y ∷ (x ∷ (z ∷ st))) r t = refl
-    place-ok how.Length b [] r t = refl
-    place-ok how.Length b (x ∷ []) r t = refl
-    place-ok how.Length b (y ∷ (x ∷ [])) r t = place-by how.Length x y (fixedSpan c how.Length f b) (fixed-length b y x [] r t) r
-    place-ok how.Length b (y ∷ (x ∷ (z ∷ st))) r t = refl
+    place-ok form.First b [] r t = place-by form.First (pos 0) (pos 0) (fixedSpan c form.First f b) (fixed-whole f b) r
+    place-ok form.First b (x ∷ st) r t = refl
+    place-ok form.Subscript b [] r t = refl
+    place-ok form.Subscript b (x ∷ []) r t = place-by form.Subscript x (pos 0) (fixedSpan c form.Subscript f b) (fixed-element b x [] r t) r
+    place-ok form.Subscript b (y ∷ (x ∷ st)) r t = refl
+    place-ok form.StartEnd b [] r t = refl
+    place-ok form.StartEnd b (x ∷ []) r t = refl
+    place-ok form.StartEnd b (y ∷ (x ∷ [])) r t = place-by form.StartEnd x y (fixedSpan c form.StartEnd f b) (fixed-range b y x [] r t) r
+    place-ok form.StartEnd b (y ∷ (x ∷ (z ∷ st))) r t = refl
+    place-ok form.PosLength b [] r t = refl
+    place-ok form.PosLength b (x ∷ []) r t = refl
+    place-ok form.PosLength b (y ∷ (x ∷ [])) r t = place-by form.PosLength x y (fixedSpan c form.PosLength f b) (fixed-length b y x [] r t) r
+    place-ok form.PosLength b (y ∷ (x ∷ (z ∷ st))) r t = refl

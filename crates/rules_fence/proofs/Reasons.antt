@@ -10,7 +10,7 @@ use mathlib.Core.List.{List}
 use lib.Dec.{leb, eqb}
 use lib.IntN.{ℤ}
 use borrow.Author.Tests.{leb-true, leb-false, eqb-false, le-leb, ne-eqb}
-use Rattle.rules_unit.specs.declared.How.{How}
+use Rattle.rules_unit.specs.declared.Form.{Form}
 use Rattle.rules_unit.specs.declared.Item.{Item}
 use Rattle.rules_unit.specs.Codes.{Code, decimalb, offsetOf, sizeOf, elementAt, endOf}
 use Rattle.rules_unit.specs.Sound.{SoundCode}
@@ -151,7 +151,7 @@ module _ (c : Code) (s : SoundCode c) (a n : ℕ) (o : 1 ≤ n) where
 
 -- ---- a reference
 
-module _ (c : Code) (s : SoundCode c) (dest : Bool) (f : ℕ) (l : f < c .fields) (h : How) (before : List Item) where
+module _ (c : Code) (s : SoundCode c) (dest : Bool) (f : ℕ) (l : f < c .fields) (h : Form) (before : List Item) where
   some : (x y : ℤ) (a n : ℕ) → spanOf (c .size) (c .field f) h x y ≡ At a n → 1 ≤ n
   some x y a n e = span-some (c .size) (c .field f) h x y (s .entries f l .own .some) e
 

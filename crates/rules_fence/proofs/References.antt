@@ -10,11 +10,11 @@ use lib.ListN.{length}
 use borrow.Author.Tests.{ltb-true}
 use Rattle.rules.specs.declared.Fault.the-variants as fault
 use Rattle.rules.specs.declared.Num.the-variants.{Failed}
-use Rattle.rules_unit.specs.declared.How.{How}
-use Rattle.rules_unit.specs.declared.How.the-variants as how
+use Rattle.rules_unit.specs.declared.Form.{Form}
+use Rattle.rules_unit.specs.declared.Form.the-variants as form
 use Rattle.rules_unit.specs.declared.Item.the-variants as item
 use Rattle.rules_unit.specs.Codes.{Code, decimalb}
-use Rattle.rules_unit.specs.Expressions.{howTakes}
+use Rattle.rules_unit.specs.Expressions.{formTakes}
 use Rattle.rules_unit.specs.Sound.{SoundCode}
 use Rattle.rules_run.specs.declared.Span.{Span}
 use Rattle.rules_run.specs.declared.Span.the-variants.{At, Outside}
@@ -32,7 +32,7 @@ use Rattle.rules_fence.proofs.Mild.{mildb, mildNum, mild-value, Mild}
 use Rattle.rules_fence.proofs.Places.{Held, fixed-whole, fixed-element, fixed-range, fixed-length}
 
 module _ (c : Code) (s : SoundCode c) (d : List ℕ) (e : length d ≡ c .size) (v : AllValid c d) (f : ℕ) where
-  ref-mild : (h : How) (x y : ℤ) (span : Span) → span ≡ spanOf (length d) (c .field f) h x y → SpanKept c false f span → mildNum false (reference c d h f x y) ≡ true
+  ref-mild : (h : Form) (x y : ℤ) (span : Span) → span ≡ spanOf (length d) (c .field f) h x y → SpanKept c false f span → mildNum false (reference c d h f x y) ≡ true
   unfolding reference
   ref-mild h x y span q r = by (ltb f (c .fields)) (decimalb c f) refl refl
     where
@@ -46,19 +46,19 @@ module _ (c : Code) (s : SoundCode c) (d : List ℕ) (e : length d ≡ c .size) 
       by true false p o = refl
       by false u p o = refl
 
-  pub ref-step : (P : Worked → Type 0) → Mild P → (h : How) (b : Seen) (st : List ℤ) (k : List ℤ → Worked) → SpanKept c false f (fixedSpan c h f b) → Held b st
-      → ((st′ : List ℤ) → P (k st′)) → P (onHeld (stepBy (howTakes h) (apply c d (item.Reference h f)) st) k)
+  pub ref-step : (P : Worked → Type 0) → Mild P → (h : Form) (b : Seen) (st : List ℤ) (k : List ℤ → Worked) → SpanKept c false f (fixedSpan c h f b) → Held b st
+      → ((st′ : List ℤ) → P (k st′)) → P (onHeld (stepBy (formTakes h) (apply c d (item.Reference h f)) st) k)
   unfolding stepBy
-  ref-step P w how.First b st k r t g =
-      on-room (mildb false) refl P w st (reference c d how.First f (pos 0) (pos 0)) k (ref-mild how.First (pos 0) (pos 0) (fixedSpan c how.First f b) (fixed-whole c s d e f b) r) (λ z q. g (z ∷ st))
-  ref-step P w how.Element b [] k r t g = w fault.Malformed refl
-  ref-step P w how.Element b (x ∷ st) k r t g =
-      on-room (mildb false) refl P w st (reference c d how.Element f x (pos 0)) k (ref-mild how.Element x (pos 0) (fixedSpan c how.Element f b) (fixed-element c s d e false f b x st r t) r) (λ z q. g (z ∷ st))
-  ref-step P w how.Range b [] k r t g = w fault.Malformed refl
-  ref-step P w how.Range b (y ∷ []) k r t g = w fault.Malformed refl
-  ref-step P w how.Range b (y ∷ (x ∷ st)) k r t g =
-      on-room (mildb false) refl P w st (reference c d how.Range f x y) k (ref-mild how.Range x y (fixedSpan c how.Range f b) (fixed-range c s d e false f b y x st r t) r) (λ z q. g (z ∷ st))
-  ref-step P w how.Length b [] k r t g = w fault.Malformed refl
-  ref-step P w how.Length b (y ∷ []) k r t g = w fault.Malformed refl
-  ref-step P w how.Length b (y ∷ (x ∷ st)) k r t g =
-      on-room (mildb false) refl P w st (reference c d how.Length f x y) k (ref-mild how.Length x y (fixedSpan c how.Length f b) (fixed-length c s d e false f b y x st r t) r) (λ z q. g (z ∷ st))
+  ref-step P w form.First b st k r t g =
+      on-room (mildb false) refl P w st (reference c d form.First f (pos 0) (pos 0)) k (ref-mild form.First (pos 0) (pos 0) (fixedSpan c form.First f b) (fixed-whole c s d e f b) r) (λ z q. g (z ∷ st))
+  ref-step P w form.Subscript b [] k r t g = w fault.Malformed refl
+  ref-step P w form.Subscript b (x ∷ st) k r t g =
+      on-room (mildb false) refl P w st (reference c d form.Subscript f x (pos 0)) k (ref-mild form.Subscript x (pos 0) (fixedSpan c form.Subscript f b) (fixed-element c s d e false f b x st r t) r) (λ z q. g (z ∷ st))
+  ref-step P w form.StartEnd b [] k r t g = w fault.Malformed refl
+  ref-step P w form.StartEnd b (y ∷ []) k r t g = w fault.Malformed refl
+  ref-step P w form.StartEnd b (y ∷ (x ∷ st)) k r t g =
+      on-room (mildb false) refl P w st (reference c d form.StartEnd f x y) k (ref-mild form.StartEnd x y (fixedSpan c form.StartEnd f b) (fixed-range c s d e false f b y x st r t) r) (λ z q. g (z ∷ st))
+  ref-step P w form.PosLength b [] k r t g = w fault.Malformed refl
+  ref-step P w form.PosLength b (y ∷ []) k r t g = w fault.Malformed refl
+  ref-step P w form.PosLength b (y ∷ (x ∷ st)) k r t g =
+      on-room (mildb false) refl P w st (reference c d form.PosLength f x y) k (ref-mild form.PosLength x y (fixedSpan c form.PosLength f b) (fixed-length c s d e false f b y x st r t) r) (λ z q. g (z ∷ st))

@@ -8,8 +8,8 @@ use mathlib.Core.List.{List, [], _∷_}
 use lib.IntN.{ℤ, pos}
 use lib.ListN.{length, getD}
 use borrow.Author.Tests.{ltb-true}
-use Rattle.rules_unit.specs.declared.How.{How}
-use Rattle.rules_unit.specs.declared.How.the-variants as how
+use Rattle.rules_unit.specs.declared.Form.{Form}
+use Rattle.rules_unit.specs.declared.Form.the-variants as form
 use Rattle.rules_unit.specs.declared.Item.{Item}
 use Rattle.rules_unit.specs.declared.Item.the-variants as item
 use Rattle.rules_unit.specs.declared.Use.{Use}
@@ -37,25 +37,25 @@ module _ (c : Code) (s : SoundCode c) where
   -- ---- references
 
   module _ (dest : Bool) (f : ℕ) (k : f < c .fields) where
-    by-span : (h : How) (x y : ℤ) (span : Span) → span ≡ spanOf (c .size) (c .field f) h x y → Kept (spanBreach c dest f span) (SpanKept c dest f span)
+    by-span : (h : Form) (x y : ℤ) (span : Span) → span ≡ spanOf (c .size) (c .field f) h x y → Kept (spanBreach c dest f span) (SpanKept c dest f span)
     by-span h x y (At a n) q = span-tells c s a n (span-some (c .size) (c .field f) h x y (s .entries f k .own .some) (sym q)) dest f k
     by-span h x y Outside q = kept-never _ refl
 
-    found : (h : How) (x y : ℤ) → Kept (spanBreach c dest f (spanOf (c .size) (c .field f) h x y)) (SpanKept c dest f (spanOf (c .size) (c .field f) h x y))
+    found : (h : Form) (x y : ℤ) → Kept (spanBreach c dest f (spanOf (c .size) (c .field f) h x y)) (SpanKept c dest f (spanOf (c .size) (c .field f) h x y))
     found h x y = by-span h x y (spanOf (c .size) (c .field f) h x y) refl
 
-    reference-tells : (h : How) (b : Seen) → Kept (referenceBreach c dest h f b) (SpanKept c dest f (fixedSpan c h f b))
+    reference-tells : (h : Form) (b : Seen) → Kept (referenceBreach c dest h f b) (SpanKept c dest f (fixedSpan c h f b))
     unfolding referenceBreach fixedSpan
-    reference-tells how.First b = found how.First (pos 0) (pos 0)
-    reference-tells how.Element seen.Nothing = kept-never _ refl
-    reference-tells how.Element (seen.One y plain) = found how.Element y (pos 0)
-    reference-tells how.Element (seen.Two x y plain) = found how.Element y (pos 0)
-    reference-tells how.Range seen.Nothing = kept-never _ refl
-    reference-tells how.Range (seen.One y plain) = kept-never _ refl
-    reference-tells how.Range (seen.Two x y plain) = found how.Range x y
-    reference-tells how.Length seen.Nothing = kept-never _ refl
-    reference-tells how.Length (seen.One y plain) = kept-never _ refl
-    reference-tells how.Length (seen.Two x y plain) = found how.Length x y
+    reference-tells form.First b = found form.First (pos 0) (pos 0)
+    reference-tells form.Subscript seen.Nothing = kept-never _ refl
+    reference-tells form.Subscript (seen.One y plain) = found form.Subscript y (pos 0)
+    reference-tells form.Subscript (seen.Two x y plain) = found form.Subscript y (pos 0)
+    reference-tells form.StartEnd seen.Nothing = kept-never _ refl
+    reference-tells form.StartEnd (seen.One y plain) = kept-never _ refl
+    reference-tells form.StartEnd (seen.Two x y plain) = found form.StartEnd x y
+    reference-tells form.PosLength seen.Nothing = kept-never _ refl
+    reference-tells form.PosLength (seen.One y plain) = kept-never _ refl
+    reference-tells form.PosLength (seen.Two x y plain) = found form.PosLength x y
 
   -- ---- expressions
 

@@ -11,8 +11,8 @@ use mathlib.Core.List.{List, [], _∷_}
 use lib.IntN.{pos, negℤ}
 use Rattle.rules.specs.declared.Num.{Num}
 use Rattle.rules.specs.declared.Num.the-variants.{Value, Failed}
-use Rattle.rules_unit.specs.declared.How.{How}
-use Rattle.rules_unit.specs.declared.How.the-variants as how
+use Rattle.rules_unit.specs.declared.Form.{Form}
+use Rattle.rules_unit.specs.declared.Form.the-variants as form
 use Rattle.rules_unit.specs.declared.Op.{Op}
 use Rattle.rules_unit.specs.declared.Op.the-variants as op
 use Rattle.rules_unit.specs.declared.Item.{Item}
@@ -73,27 +73,27 @@ seenIn c s (i ∷ is) = seenIn c (seenAfter c s i) is
 
 -- ---- "Each bound of 03, 04 and 05"
 
-abbrev pub boundedb : How → Seen → Bool
-boundedb how.First s = true
-boundedb how.Element seen.Nothing = false
-boundedb how.Element (seen.One y plain) = true
-boundedb how.Element (seen.Two x y plain) = true
-boundedb how.Range seen.Nothing = false
-boundedb how.Range (seen.One y plain) = false
-boundedb how.Range (seen.Two x y plain) = true
-boundedb how.Length seen.Nothing = false
-boundedb how.Length (seen.One y plain) = false
-boundedb how.Length (seen.Two x y plain) = true
+abbrev pub boundedb : Form → Seen → Bool
+boundedb form.First s = true
+boundedb form.Subscript seen.Nothing = false
+boundedb form.Subscript (seen.One y plain) = true
+boundedb form.Subscript (seen.Two x y plain) = true
+boundedb form.StartEnd seen.Nothing = false
+boundedb form.StartEnd (seen.One y plain) = false
+boundedb form.StartEnd (seen.Two x y plain) = true
+boundedb form.PosLength seen.Nothing = false
+boundedb form.PosLength (seen.One y plain) = false
+boundedb form.PosLength (seen.Two x y plain) = true
 
 -- The span by the rules of a run: Outside where 21 would be given, and where a bound is not written so.
-unfoldable pub fixedSpan : Code → How → ℕ → Seen → Span
-fixedSpan c how.First f s = spanOf (c .size) (c .field f) how.First (pos 0) (pos 0)
-fixedSpan c how.Element f seen.Nothing = Outside
-fixedSpan c how.Element f (seen.One y plain) = spanOf (c .size) (c .field f) how.Element y (pos 0)
-fixedSpan c how.Element f (seen.Two x y plain) = spanOf (c .size) (c .field f) how.Element y (pos 0)
-fixedSpan c how.Range f seen.Nothing = Outside
-fixedSpan c how.Range f (seen.One y plain) = Outside
-fixedSpan c how.Range f (seen.Two x y plain) = spanOf (c .size) (c .field f) how.Range x y
-fixedSpan c how.Length f seen.Nothing = Outside
-fixedSpan c how.Length f (seen.One y plain) = Outside
-fixedSpan c how.Length f (seen.Two x y plain) = spanOf (c .size) (c .field f) how.Length x y
+unfoldable pub fixedSpan : Code → Form → ℕ → Seen → Span
+fixedSpan c form.First f s = spanOf (c .size) (c .field f) form.First (pos 0) (pos 0)
+fixedSpan c form.Subscript f seen.Nothing = Outside
+fixedSpan c form.Subscript f (seen.One y plain) = spanOf (c .size) (c .field f) form.Subscript y (pos 0)
+fixedSpan c form.Subscript f (seen.Two x y plain) = spanOf (c .size) (c .field f) form.Subscript y (pos 0)
+fixedSpan c form.StartEnd f seen.Nothing = Outside
+fixedSpan c form.StartEnd f (seen.One y plain) = Outside
+fixedSpan c form.StartEnd f (seen.Two x y plain) = spanOf (c .size) (c .field f) form.StartEnd x y
+fixedSpan c form.PosLength f seen.Nothing = Outside
+fixedSpan c form.PosLength f (seen.One y plain) = Outside
+fixedSpan c form.PosLength f (seen.Two x y plain) = spanOf (c .size) (c .field f) form.PosLength x y

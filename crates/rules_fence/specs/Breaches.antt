@@ -12,7 +12,7 @@ use mathlib.Core.List.{List, [], _∷_}
 use lib.Dec.{ltb, leb, eqb}
 use Rattle.rules.specs.Tests.{_&&_}
 use Rattle.rules_unit.specs.declared.Field.{Field}
-use Rattle.rules_unit.specs.declared.How.{How}
+use Rattle.rules_unit.specs.declared.Form.{Form}
 use Rattle.rules_unit.specs.declared.Item.{Item}
 use Rattle.rules_unit.specs.declared.Item.the-variants as item
 use Rattle.rules_unit.specs.declared.Use.{Use}
@@ -92,7 +92,7 @@ spanBreach c dest f Outside = breach.BoundsWrong
 -- ---- references, expressions, statements
 
 -- "Each bound of 03, 04 and 05 is a number literal, or one followed by negate, standing directly before"
-unfoldable pub referenceBreach : Code → Bool → How → ℕ → Seen → Breach
+unfoldable pub referenceBreach : Code → Bool → Form → ℕ → Seen → Breach
 referenceBreach c dest h f s = cond (boundedb h s) (spanBreach c dest f (fixedSpan c h f s)) breach.BoundNotLiteral
 
 -- The item i, before the items is.

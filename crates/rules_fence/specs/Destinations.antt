@@ -16,7 +16,7 @@ use Rattle.rules.specs.declared.Fault.the-variants as fault
 use Rattle.rules.specs.declared.Num.the-variants.{Failed}
 use Rattle.rules.specs.Values.{Valid}
 use Rattle.rules.specs.Moves.{alphaOf}
-use Rattle.rules_unit.specs.declared.How.{How}
+use Rattle.rules_unit.specs.declared.Form.{Form}
 use Rattle.rules_unit.specs.declared.Item.{Item}
 use Rattle.rules_unit.specs.declared.Item.the-variants as item
 use Rattle.rules_unit.specs.declared.Statement.{Statement}
@@ -38,7 +38,7 @@ use Rattle.rules_fence.specs.Fence.{Names}
 -- "A *place* ends with a reference (02 to 05)": the span that it names.
 pub record PlaceNames (c : Code) (is : List Item) (span : Span) : Type 0 where
   pub before : List Item
-  pub h : How
+  pub h : Form
   pub f : ℕ
   pub items : is ≡ before ++ (item.Reference h f ∷ [])
   pub names : Names c h f before span

@@ -19,8 +19,8 @@ use mathlib.Core.Logic.{_⊎_}
 use lib.IntN.{ℤ, pos, negℤ}
 use lib.ListN.{length, getD}
 use Rattle.rules.specs.declared.Num.the-variants.{Value}
-use Rattle.rules_unit.specs.declared.How.{How}
-use Rattle.rules_unit.specs.declared.How.the-variants as how
+use Rattle.rules_unit.specs.declared.Form.{Form}
+use Rattle.rules_unit.specs.declared.Form.the-variants as form
 use Rattle.rules_unit.specs.declared.Op.the-variants as op
 use Rattle.rules_unit.specs.declared.Item.{Item}
 use Rattle.rules_unit.specs.declared.Item.the-variants as item
@@ -69,14 +69,14 @@ pub record TwoBounds (c : Code) (before : List Item) (x y : ℤ) : Type 0 where
   pub is-last : Bound c last y
 
 -- 02 takes no bound, 03 one, 04 and 05 two. What is not taken is 0.
-abbrev pub Bounds : Code → How → List Item → ℤ → ℤ → Type 0
-Bounds c how.First before x y = (x ≡ pos 0) × (y ≡ pos 0)
-Bounds c how.Element before x y = OneBound c before x × (y ≡ pos 0)
-Bounds c how.Range before x y = TwoBounds c before x y
-Bounds c how.Length before x y = TwoBounds c before x y
+abbrev pub Bounds : Code → Form → List Item → ℤ → ℤ → Type 0
+Bounds c form.First before x y = (x ≡ pos 0) × (y ≡ pos 0)
+Bounds c form.Subscript before x y = OneBound c before x × (y ≡ pos 0)
+Bounds c form.StartEnd before x y = TwoBounds c before x y
+Bounds c form.PosLength before x y = TwoBounds c before x y
 
 -- The span that a reference names by its bounds.
-pub record Names (c : Code) (h : How) (f : ℕ) (before : List Item) (span : Span) : Type 0 where
+pub record Names (c : Code) (h : Form) (f : ℕ) (before : List Item) (span : Span) : Type 0 where
   pub x : ℤ
   pub y : ℤ
   pub bounds : Bounds c h before x y
@@ -108,7 +108,7 @@ SpanKept c dest f Outside = ⊥
 -- ---- references, expressions and statements
 
 -- The span by the rules of a run. Bounds that are written in the unit are the same in every run, so the span is fixed.
-pub record RefFenced (c : Code) (dest : Bool) (h : How) (f : ℕ) (before : List Item) : Type 0 where
+pub record RefFenced (c : Code) (dest : Bool) (h : Form) (f : ℕ) (before : List Item) : Type 0 where
   pub x : ℤ
   pub y : ℤ
   pub bounds : Bounds c h before x y
@@ -121,7 +121,7 @@ destb dest (i ∷ is) = false
 
 -- Every reference, wherever it stands between the items before it and those after it.
 pub record ExprFenced (c : Code) (dest : Bool) (is : List Item) : Type 0 where
-  pub refs : (before after : List Item) (h : How) (f : ℕ) → is ≡ before ++ (item.Reference h f ∷ after)
+  pub refs : (before after : List Item) (h : Form) (f : ℕ) → is ≡ before ++ (item.Reference h f ∷ after)
       → RefFenced c (destb dest after) h f before
 
 -- "A destination is the span named by place a of codes 1 to 6": the uses that are written.

@@ -10,7 +10,7 @@ use mathlib.Core.Bool.{Bool, true, false}
 use mathlib.Core.List.{List, _∷_, _++_}
 use lib.IntN.{ℤ}
 use lib.ListN.{length, getD}
-use Rattle.rules_unit.specs.declared.How.{How}
+use Rattle.rules_unit.specs.declared.Form.{Form}
 use Rattle.rules_unit.specs.declared.Item.{Item}
 use Rattle.rules_unit.specs.declared.Item.the-variants as item
 use Rattle.rules_unit.specs.declared.Statement.{Statement}
@@ -56,13 +56,13 @@ SpanBreaks c dest f a n breach.OnDecimal = Inside c f a n × (decimalb c f ≡ f
 -- ---- references
 
 -- The span that it names breaks a rule.
-pub record NamedBreaks (c : Code) (dest : Bool) (h : How) (f : ℕ) (before : List Item) (b : Breach) : Type 0 where
+pub record NamedBreaks (c : Code) (dest : Bool) (h : Form) (f : ℕ) (before : List Item) (b : Breach) : Type 0 where
   pub a : ℕ
   pub n : ℕ
   pub names : Names c h f before (At a n)
   pub breaks : SpanBreaks c dest f a n b
 
-abbrev pub RefBreaks : Code → Bool → How → ℕ → List Item → Breach → Type 0
+abbrev pub RefBreaks : Code → Bool → Form → ℕ → List Item → Breach → Type 0
 RefBreaks c dest h f before breach.None = ⊥
 -- "Each bound of 03, 04 and 05 is a number literal, or one followed by negate, standing directly before": there are none such.
 RefBreaks c dest h f before breach.BoundNotLiteral = (x y : ℤ) → Bounds c h before x y → ⊥
@@ -79,7 +79,7 @@ RefBreaks c dest h f before breach.OnDecimal = NamedBreaks c dest h f before bre
 pub record ExprBreaks (c : Code) (dest : Bool) (is : List Item) (b : Breach) : Type 0 where
   pub before : List Item
   pub after : List Item
-  pub h : How
+  pub h : Form
   pub f : ℕ
   pub items : is ≡ before ++ (item.Reference h f ∷ after)
   pub earlier : ExprFenced c false before

@@ -19,8 +19,8 @@ use Rattle.rules.proofs.Signed.{pow-le18}
 use Rattle.rules.proofs.Range.{InRange}
 use Rattle.rules.proofs.Walk.{cond-case}
 use Rattle.rules.proofs.Tests.{both}
-use Rattle.rules_unit.specs.declared.How.{How}
-use Rattle.rules_unit.specs.declared.How.the-variants as how
+use Rattle.rules_unit.specs.declared.Form.{Form}
+use Rattle.rules_unit.specs.declared.Form.the-variants as form
 use Rattle.rules_unit.specs.declared.Item.{Item}
 use Rattle.rules_unit.specs.declared.Item.the-variants as item
 use Rattle.rules_unit.specs.Codes.{Code, decimalb}
@@ -51,28 +51,28 @@ module _ (c : Code) (d : List ℕ) (bound : ℕ) (truths : 1 < bound) (sums : c 
       (λ _. (h a n refl, λ e. let z : _≡_ {A = ℕ} 0 1 = cc in absurd (omega arith)))
   found-bounded f Outside h = tt
 
-  by-bounded : (h : How) (f : ℕ) (x y : ℤ) → Bounded bound c (length d) (placeBy c d h f x y)
+  by-bounded : (h : Form) (f : ℕ) (x y : ℤ) → Bounded bound c (length d) (placeBy c d h f x y)
   unfolding placeBy
   by-bounded h f x y =
       cond-case (Bounded bound c (length d)) (ltb f (c .fields)) (asPlace c f (spanOf (length d) (c .field f) h x y)) (worked.Failed fault.Malformed)
       (λ _. found-bounded f (spanOf (length d) (c .field f) h x y) (λ a n e. found-inside (length d) (c .field f) h x y e))
       (λ _. tt)
 
-  place-bounded : (h : How) (f : ℕ) (st : List ℤ) → Bounded bound c (length d) (place c d h f st)
+  place-bounded : (h : Form) (f : ℕ) (st : List ℤ) → Bounded bound c (length d) (place c d h f st)
   unfolding place
-  place-bounded how.First f [] = by-bounded how.First f (pos 0) (pos 0)
-  place-bounded how.First f (x ∷ st) = tt
-  place-bounded how.Element f [] = tt
-  place-bounded how.Element f (x ∷ []) = by-bounded how.Element f x (pos 0)
-  place-bounded how.Element f (y ∷ (x ∷ st)) = tt
-  place-bounded how.Range f [] = tt
-  place-bounded how.Range f (x ∷ []) = tt
-  place-bounded how.Range f (y ∷ (x ∷ [])) = by-bounded how.Range f x y
-  place-bounded how.Range f (y ∷ (x ∷ (z ∷ st))) = tt
-  place-bounded how.Length f [] = tt
-  place-bounded how.Length f (x ∷ []) = tt
-  place-bounded how.Length f (y ∷ (x ∷ [])) = by-bounded how.Length f x y
-  place-bounded how.Length f (y ∷ (x ∷ (z ∷ st))) = tt
+  place-bounded form.First f [] = by-bounded form.First f (pos 0) (pos 0)
+  place-bounded form.First f (x ∷ st) = tt
+  place-bounded form.Subscript f [] = tt
+  place-bounded form.Subscript f (x ∷ []) = by-bounded form.Subscript f x (pos 0)
+  place-bounded form.Subscript f (y ∷ (x ∷ st)) = tt
+  place-bounded form.StartEnd f [] = tt
+  place-bounded form.StartEnd f (x ∷ []) = tt
+  place-bounded form.StartEnd f (y ∷ (x ∷ [])) = by-bounded form.StartEnd f x y
+  place-bounded form.StartEnd f (y ∷ (x ∷ (z ∷ st))) = tt
+  place-bounded form.PosLength f [] = tt
+  place-bounded form.PosLength f (x ∷ []) = tt
+  place-bounded form.PosLength f (y ∷ (x ∷ [])) = by-bounded form.PosLength f x y
+  place-bounded form.PosLength f (y ∷ (x ∷ (z ∷ st))) = tt
 
   text-inside : (p l : ℕ) → textb c p l ≡ true → p + l ≤ length (c .literals)
   unfolding textb

@@ -11,14 +11,14 @@ use lib.Dec.{ltb}
 use lib.IntN.{ℤ, pos}
 use lib.ListN.{length}
 use Rattle.rules.specs.declared.Fault.the-variants as fault
-use Rattle.rules_unit.specs.declared.How.{How}
-use Rattle.rules_unit.specs.declared.How.the-variants as how
+use Rattle.rules_unit.specs.declared.Form.{Form}
+use Rattle.rules_unit.specs.declared.Form.the-variants as form
 use Rattle.rules_unit.specs.declared.Item.{Item}
 use Rattle.rules_unit.specs.declared.Item.the-variants as item
 use Rattle.rules_unit.specs.declared.Sort.{Sort}
 use Rattle.rules_unit.specs.declared.Sort.the-variants as sort
 use Rattle.rules_unit.specs.Codes.{Code, decimalb}
-use Rattle.rules_unit.specs.Expressions.{opTakes, howTakes, takes, itemb, placeSort, sortOf}
+use Rattle.rules_unit.specs.Expressions.{opTakes, formTakes, takes, itemb, placeSort, sortOf}
 use Rattle.rules_unit.proofs.Items.{op-two}
 use Rattle.rules_run.specs.declared.Span.{Span}
 use Rattle.rules_run.specs.declared.Span.the-variants.{At, Outside}
@@ -50,32 +50,32 @@ module _ (c : Code) (d : List ℕ) where
       by false u = refl
   span-comes f Outside = refl
 
-  by-comes : (h : How) (f : ℕ) (x y : ℤ) → ltb f (c .fields) ≡ true → Comes (placeSort (decimalb c f)) (placeBy c d h f x y)
+  by-comes : (h : Form) (f : ℕ) (x y : ℤ) → ltb f (c .fields) ≡ true → Comes (placeSort (decimalb c f)) (placeBy c d h f x y)
   unfolding placeBy
   by-comes h f x y e = rw e (span-comes f (spanOf (length d) (c .field f) h x y))
 
-  place-comes : (h : How) (f : ℕ) (st : List ℤ) → ltb f (c .fields) ≡ true → length st ≡ howTakes h → Comes (placeSort (decimalb c f)) (place c d h f st)
+  place-comes : (h : Form) (f : ℕ) (st : List ℤ) → ltb f (c .fields) ≡ true → length st ≡ formTakes h → Comes (placeSort (decimalb c f)) (place c d h f st)
   unfolding place
-  place-comes how.First f [] e l = by-comes how.First f (pos 0) (pos 0) e
-  place-comes how.First f (x ∷ st) e l = absurd (omega arith)
-  place-comes how.Element f [] e l = absurd (omega arith)
-  place-comes how.Element f (x ∷ []) e l = by-comes how.Element f x (pos 0) e
-  place-comes how.Element f (y ∷ (x ∷ st)) e l = absurd (omega arith)
-  place-comes how.Range f [] e l = absurd (omega arith)
-  place-comes how.Range f (x ∷ []) e l = absurd (omega arith)
-  place-comes how.Range f (y ∷ (x ∷ [])) e l = by-comes how.Range f x y e
-  place-comes how.Range f (y ∷ (x ∷ (z ∷ st))) e l = absurd (omega arith)
-  place-comes how.Length f [] e l = absurd (omega arith)
-  place-comes how.Length f (x ∷ []) e l = absurd (omega arith)
-  place-comes how.Length f (y ∷ (x ∷ [])) e l = by-comes how.Length f x y e
-  place-comes how.Length f (y ∷ (x ∷ (z ∷ st))) e l = absurd (omega arith)
+  place-comes form.First f [] e l = by-comes form.First f (pos 0) (pos 0) e
+  place-comes form.First f (x ∷ st) e l = absurd (omega arith)
+  place-comes form.Subscript f [] e l = absurd (omega arith)
+  place-comes form.Subscript f (x ∷ []) e l = by-comes form.Subscript f x (pos 0) e
+  place-comes form.Subscript f (y ∷ (x ∷ st)) e l = absurd (omega arith)
+  place-comes form.StartEnd f [] e l = absurd (omega arith)
+  place-comes form.StartEnd f (x ∷ []) e l = absurd (omega arith)
+  place-comes form.StartEnd f (y ∷ (x ∷ [])) e l = by-comes form.StartEnd f x y e
+  place-comes form.StartEnd f (y ∷ (x ∷ (z ∷ st))) e l = absurd (omega arith)
+  place-comes form.PosLength f [] e l = absurd (omega arith)
+  place-comes form.PosLength f (x ∷ []) e l = absurd (omega arith)
+  place-comes form.PosLength f (y ∷ (x ∷ [])) e l = by-comes form.PosLength f x y e
+  place-comes form.PosLength f (y ∷ (x ∷ (z ∷ st))) e l = absurd (omega arith)
 
   pub last-comes : (i : Item) (st : List ℤ) → itemb c i ≡ true → length st ≡ takes i → Comes (sortOf c i) (lastOf c d i st)
   unfolding lastOf
   last-comes (item.Number p l) st o h =
       step-formed (Comes sort.Number) (λ e m. m) 0 (apply c d (item.Number p l)) st left (omega arith) (omega arith) (omega arith)
       (λ x y. literal-formed c p l o) (λ st′ g. left-comes st′ (omega arith))
-  last-comes (item.Reference how f) st o h = place-comes how f st o h
+  last-comes (item.Reference m f) st o h = place-comes m f st o h
   last-comes (item.Text p l) [] o h = rw o refl
   last-comes (item.Text p l) (x ∷ st) o h = absurd (omega arith)
   last-comes (item.Operator q) st o h =

@@ -16,11 +16,11 @@ use lib.Signed.{leZ}
 use borrow.Author.Tests.{ltb-true, ltb-false, leb-true, leb-false, le-leb, lt-leb, le-ltb, lt-ltb}
 use Rattle.rules.proofs.Walk.{cond-same}
 use Rattle.rules_unit.specs.declared.Field.{Field}
-use Rattle.rules_unit.specs.declared.How.{How}
-use Rattle.rules_unit.specs.declared.How.the-variants as how
+use Rattle.rules_unit.specs.declared.Form.{Form}
+use Rattle.rules_unit.specs.declared.Form.the-variants as form
 use Rattle.rules_run.specs.declared.Span.{Span}
 use Rattle.rules_run.specs.declared.Span.the-variants.{At, Outside}
-use Rattle.rules_run.specs.Spans.{within, elementSpan, rangeSpan, lengthSpan, spanOf, Located}
+use Rattle.rules_run.specs.Spans.{within, subscriptSpan, startEndSpan, posLengthSpan, spanOf, Located}
 
 -- ---- differences
 
@@ -55,70 +55,70 @@ module _ (size a n : ℕ) where
 
 module _ (size o : ℕ) where
   -- elements of no bytes
-  pub element-none : (n : ℕ) (s : ℤ) → n ≡ 0 → within size (pos o) n ≡ elementSpan size o n s
-  unfolding elementSpan
+  pub element-none : (n : ℕ) (s : ℤ) → n ≡ 0 → within size (pos o) n ≡ subscriptSpan size o n s
+  unfolding subscriptSpan
   element-none n s h = rw (h, *ℤ-zero (s -ℤ pos 1), add-zero o)
 
-  pub element-up : (n : ℕ) {k : ℕ} {s : ℤ} → s ≡ pos k → 1 ≤ k → within size (pos (o + (k - 1) * n)) n ≡ elementSpan size o n s
-  unfolding elementSpan
+  pub element-up : (n : ℕ) {k : ℕ} {s : ℤ} → s ≡ pos k → 1 ≤ k → within size (pos (o + (k - 1) * n)) n ≡ subscriptSpan size o n s
+  unfolding subscriptSpan
   element-up n {k} e h = rw (e, over k 1 h)
 
-  pub element-down : (n k : ℕ) {s : ℤ} → s ≡ negℤ (pos k) → within size (pos o -ℤ pos ((k + 1) * n)) n ≡ elementSpan size o n s
-  unfolding elementSpan
+  pub element-down : (n k : ℕ) {s : ℤ} → s ≡ negℤ (pos k) → within size (pos o -ℤ pos ((k + 1) * n)) n ≡ subscriptSpan size o n s
+  unfolding subscriptSpan
   element-down n k e = rw e (by k)
     where
-      by : (k : ℕ) → within size (pos o -ℤ pos ((k + 1) * n)) n ≡ elementSpan size o n (negℤ (pos k))
+      by : (k : ℕ) → within size (pos o -ℤ pos ((k + 1) * n)) n ≡ subscriptSpan size o n (negℤ (pos k))
       by zero = refl
       by (suc k) =
           let m : suc k + 1 ≡ suc (suc (k + 0)) = omega arith in
           ap (λ (j : ℕ). within size (pos o -ℤ pos (j * n)) n) m
 
-  pub range-low : (s e : ℤ) → leZ (pos 1) s ≡ false → Outside ≡ rangeSpan size o s e
-  unfolding rangeSpan
+  pub range-low : (s e : ℤ) → leZ (pos 1) s ≡ false → Outside ≡ startEndSpan size o s e
+  unfolding startEndSpan
   range-low s e h = rw h
 
-  turned : (a b : ℕ) → b < a → Outside ≡ rangeSpan size o (pos a) (pos b)
-  unfolding rangeSpan
+  turned : (a b : ℕ) → b < a → Outside ≡ startEndSpan size o (pos a) (pos b)
+  unfolding startEndSpan
   turned a b h = rw (lt-leb a b h) (sym (cond-same (leb 1 a) Outside))
 
-  pub range-turned : {a b : ℕ} {s e : ℤ} → s ≡ pos a → e ≡ pos b → b < a → Outside ≡ rangeSpan size o s e
+  pub range-turned : {a b : ℕ} {s e : ℤ} → s ≡ pos a → e ≡ pos b → b < a → Outside ≡ startEndSpan size o s e
   range-turned {a} {b} p q h = rw (p, q) (turned a b h)
 
-  pub range-end : (s e : ℤ) → leZ (pos 1) e ≡ false → Outside ≡ rangeSpan size o s e
-  unfolding rangeSpan
+  pub range-end : (s e : ℤ) → leZ (pos 1) e ≡ false → Outside ≡ startEndSpan size o s e
+  unfolding startEndSpan
   range-end (pos zero) e h = refl
   range-end (pos (suc a)) (pos b) h = turned (suc a) b (omega (arith, leb-false 1 b h))
   range-end (pos (suc a)) (negsuc b) h = sym (cond-same (leb 1 (suc a)) Outside)
   range-end (negsuc a) e h = refl
 
   pub range-is : {a b : ℕ} {s e : ℤ} → s ≡ pos a → e ≡ pos b → 1 ≤ a → a ≤ b
-      → within size (pos (o + (a - 1))) (b - a + 1) ≡ rangeSpan size o s e
-  unfolding rangeSpan
+      → within size (pos (o + (a - 1))) (b - a + 1) ≡ startEndSpan size o s e
+  unfolding startEndSpan
   range-is {a} {b} p q h l = rw (p, q, le-leb 1 a h, le-leb a b l, over a 1 h, over b a l)
 
-  pub length-low : (p n : ℤ) → leZ (pos 1) p ≡ false → Outside ≡ lengthSpan size o p n
-  unfolding lengthSpan
+  pub length-low : (p n : ℤ) → leZ (pos 1) p ≡ false → Outside ≡ posLengthSpan size o p n
+  unfolding posLengthSpan
   length-low p (pos zero) h = refl
   length-low p (pos (suc n)) h = rw h
   length-low p (negsuc n) h = rw h
 
-  pub length-none : (p : ℤ) {n : ℤ} → n ≡ pos 0 → Outside ≡ lengthSpan size o p n
-  unfolding lengthSpan
+  pub length-none : (p : ℤ) {n : ℤ} → n ≡ pos 0 → Outside ≡ posLengthSpan size o p n
+  unfolding posLengthSpan
   length-none p e = rw e
 
-  pub length-up : {a k : ℕ} {p n : ℤ} → p ≡ pos a → n ≡ pos k → 1 ≤ a → 1 ≤ k → within size (pos (o + (a - 1))) k ≡ lengthSpan size o p n
-  unfolding lengthSpan
+  pub length-up : {a k : ℕ} {p n : ℤ} → p ≡ pos a → n ≡ pos k → 1 ≤ a → 1 ≤ k → within size (pos (o + (a - 1))) k ≡ posLengthSpan size o p n
+  unfolding posLengthSpan
   length-up {a} {k} e q h l = rw (e, q) (by k l)
     where
-      by : (k : ℕ) → 1 ≤ k → within size (pos (o + (a - 1))) k ≡ lengthSpan size o (pos a) (pos k)
+      by : (k : ℕ) → 1 ≤ k → within size (pos (o + (a - 1))) k ≡ posLengthSpan size o (pos a) (pos k)
       by zero l = absurd (omega arith)
       by (suc k) l = rw (le-leb 1 a h, over a 1 h)
 
-  pub length-down : (k : ℕ) {a : ℕ} {p n : ℤ} → p ≡ pos a → n ≡ negℤ (pos k) → 1 ≤ a → 1 ≤ k → within size (pos (o + a) -ℤ pos k) k ≡ lengthSpan size o p n
-  unfolding lengthSpan
+  pub length-down : (k : ℕ) {a : ℕ} {p n : ℤ} → p ≡ pos a → n ≡ negℤ (pos k) → 1 ≤ a → 1 ≤ k → within size (pos (o + a) -ℤ pos k) k ≡ posLengthSpan size o p n
+  unfolding posLengthSpan
   length-down k {a} e q h l = rw (e, q) (by k l)
     where
-      by : (k : ℕ) → 1 ≤ k → within size (pos (o + a) -ℤ pos k) k ≡ lengthSpan size o (pos a) (negℤ (pos k))
+      by : (k : ℕ) → 1 ≤ k → within size (pos (o + a) -ℤ pos k) k ≡ posLengthSpan size o (pos a) (negℤ (pos k))
       by zero l = absurd (omega arith)
       by (suc k) l = rw (le-leb 1 a h) (ap (λ (z : ℤ). within size z (suc k)) (+ℤ-assoc (pos o) (pos a) (negsuc k)))
 
@@ -165,7 +165,7 @@ module _ (size : ℕ) where
 -- ---- references
 
 module _ (size : ℕ) (f : Field) (a n : ℕ) where
-  element-at : (x y : ℤ) → (elementSpan size (f .offset) (f .size) x ≡ At a n) ↔ Located f how.Element x y a n × (a + n ≤ size)
+  element-at : (x y : ℤ) → (subscriptSpan size (f .offset) (f .size) x ≡ At a n) ↔ Located f form.Subscript x y a n × (a + n ≤ size)
   element-at (pos zero) y =
       let w = before-at size (f .offset) ((0 + 1) * f .size) (f .size) a n in
       let d = element-down size (f .offset) (f .size) 0 {s = pos 0} refl in
@@ -186,10 +186,10 @@ module _ (size : ℕ) (f : Field) (a n : ℕ) where
   none : {P : Type 0} {s : Span} → Outside ≡ s → (P → ⊥) → (s ≡ At a n) ↔ P × (a + n ≤ size)
   none e f = (λ q. absurd (not-at a n (e ∙ q)), λ r. absurd (f (r .0)))
 
-  range-at : (x y : ℤ) → (rangeSpan size (f .offset) x y ≡ At a n) ↔ Located f how.Range x y a n × (a + n ≤ size)
+  range-at : (x y : ℤ) → (startEndSpan size (f .offset) x y ≡ At a n) ↔ Located f form.StartEnd x y a n × (a + n ≤ size)
   range-at (pos s) (pos e) = by (leb 1 s) (leb s e) refl refl
     where
-      by : (t v : Bool) → leb 1 s ≡ t → leb s e ≡ v → (rangeSpan size (f .offset) (pos s) (pos e) ≡ At a n) ↔ Located f how.Range (pos s) (pos e) a n × (a + n ≤ size)
+      by : (t v : Bool) → leb 1 s ≡ t → leb s e ≡ v → (startEndSpan size (f .offset) (pos s) (pos e) ≡ At a n) ↔ Located f form.StartEnd (pos s) (pos e) a n × (a + n ≤ size)
       by true true p q =
           let l = leb-true 1 s p in
           let m = leb-true s e q in
@@ -201,11 +201,11 @@ module _ (size : ℕ) (f : Field) (a n : ℕ) where
   range-at (pos s) (negsuc e) = none (range-end size (f .offset) (pos s) (negsuc e) refl) (λ r. r)
   range-at (negsuc s) y = none (range-low size (f .offset) (negsuc s) y refl) (λ r. r)
 
-  length-at : (x y : ℤ) → (lengthSpan size (f .offset) x y ≡ At a n) ↔ Located f how.Length x y a n × (a + n ≤ size)
+  length-at : (x y : ℤ) → (posLengthSpan size (f .offset) x y ≡ At a n) ↔ Located f form.PosLength x y a n × (a + n ≤ size)
   length-at (pos p) (pos zero) = none (length-none size (f .offset) (pos p) {n = pos 0} refl) (λ r. omega (arith, r .1))
   length-at (pos p) (pos (suc k)) = by (leb 1 p) refl
     where
-      by : (t : Bool) → leb 1 p ≡ t → (lengthSpan size (f .offset) (pos p) (pos (suc k)) ≡ At a n) ↔ Located f how.Length (pos p) (pos (suc k)) a n × (a + n ≤ size)
+      by : (t : Bool) → leb 1 p ≡ t → (posLengthSpan size (f .offset) (pos p) (pos (suc k)) ≡ At a n) ↔ Located f form.PosLength (pos p) (pos (suc k)) a n × (a + n ≤ size)
       by true q =
           let l = leb-true 1 p q in
           let w = within-at size (f .offset + (p - 1)) (suc k) a n in
@@ -214,7 +214,7 @@ module _ (size : ℕ) (f : Field) (a n : ℕ) where
       by false q = none (length-low size (f .offset) (pos p) (pos (suc k)) q) (λ r. omega (arith, leb-false 1 p q, r .0))
   length-at (pos p) (negsuc k) = by (leb 1 p) refl
     where
-      by : (t : Bool) → leb 1 p ≡ t → (lengthSpan size (f .offset) (pos p) (negsuc k) ≡ At a n) ↔ Located f how.Length (pos p) (negsuc k) a n × (a + n ≤ size)
+      by : (t : Bool) → leb 1 p ≡ t → (posLengthSpan size (f .offset) (pos p) (negsuc k) ≡ At a n) ↔ Located f form.PosLength (pos p) (negsuc k) a n × (a + n ≤ size)
       by true q =
           let l = leb-true 1 p q in
           let w = before-at size (f .offset + p) (suc k) (suc k) a n in
@@ -223,29 +223,29 @@ module _ (size : ℕ) (f : Field) (a n : ℕ) where
       by false q = none (length-low size (f .offset) (pos p) (negsuc k) q) (λ r. omega (arith, leb-false 1 p q, r .0))
   length-at (negsuc p) y = none (length-low size (f .offset) (negsuc p) y refl) (λ r. r)
 
-  pub span-exactly : (h : How) (x y : ℤ) → (spanOf size f h x y ≡ At a n) ↔ Located f h x y a n × (a + n ≤ size)
+  pub span-exactly : (h : Form) (x y : ℤ) → (spanOf size f h x y ≡ At a n) ↔ Located f h x y a n × (a + n ≤ size)
   unfolding spanOf
-  span-exactly how.First x y =
+  span-exactly form.First x y =
       let w = within-at size (f .offset) (f .size) a n in
       (λ q. let r = w .0 q in ((r .0, r .1), r .2), λ r. w .1 (r .0 .0, r .0 .1, r .1))
-  span-exactly how.Element x y = element-at x y
-  span-exactly how.Range x y = range-at x y
-  span-exactly how.Length x y = length-at x y
+  span-exactly form.Subscript x y = element-at x y
+  span-exactly form.StartEnd x y = range-at x y
+  span-exactly form.PosLength x y = length-at x y
 
 -- elements that have some bytes
 module _ (f : Field) (a n : ℕ) (some : 1 ≤ f .size) where
-  located-some : (h : How) (x y : ℤ) → Located f h x y a n → 1 ≤ n
-  located-some how.First x y l = omega (arith, l .1)
-  located-some how.Element (pos s) y l = omega (arith, l .1)
-  located-some how.Element (negsuc s) y l = omega (arith, l .1)
-  located-some how.Range (pos s) (pos e) l = omega (arith, l .1, l .2, l .3)
-  located-some how.Range (pos s) (negsuc e) l = absurd l
-  located-some how.Range (negsuc s) y l = absurd l
-  located-some how.Length (pos p) (pos k) l = omega (arith, l .1, l .3)
-  located-some how.Length (pos p) (negsuc k) l = omega (arith, l .2)
-  located-some how.Length (negsuc p) y l = absurd l
+  located-some : (h : Form) (x y : ℤ) → Located f h x y a n → 1 ≤ n
+  located-some form.First x y l = omega (arith, l .1)
+  located-some form.Subscript (pos s) y l = omega (arith, l .1)
+  located-some form.Subscript (negsuc s) y l = omega (arith, l .1)
+  located-some form.StartEnd (pos s) (pos e) l = omega (arith, l .1, l .2, l .3)
+  located-some form.StartEnd (pos s) (negsuc e) l = absurd l
+  located-some form.StartEnd (negsuc s) y l = absurd l
+  located-some form.PosLength (pos p) (pos k) l = omega (arith, l .1, l .3)
+  located-some form.PosLength (pos p) (negsuc k) l = omega (arith, l .2)
+  located-some form.PosLength (negsuc p) y l = absurd l
 
-module _ (size : ℕ) (f : Field) (h : How) (x y : ℤ) where
+module _ (size : ℕ) (f : Field) (h : Form) (x y : ℤ) where
   pub outside-exactly : (spanOf size f h x y ≡ Outside) ↔ ((a n : ℕ) → Located f h x y a n → a + n ≤ size → ⊥)
   outside-exactly = (λ q a n l u. not-at a n (sym q ∙ span-exactly size f a n h x y .1 (l, u)), λ none. of (spanOf size f h x y) refl none)
     where

@@ -23,7 +23,7 @@ use Rattle.rules.proofs.Tests.{both}
 use Rattle.rules.proofs.Walk.{cond-case}
 use Rattle.rules.proofs.Answers.{range-read}
 use Rattle.rules.proofs.Decimals.{from-digit, more-digits}
-use Rattle.rules_unit.specs.declared.How.{How}
+use Rattle.rules_unit.specs.declared.Form.{Form}
 use Rattle.rules_unit.specs.declared.Op.{Op}
 use Rattle.rules_unit.specs.declared.Op.the-variants as op
 use Rattle.rules_unit.specs.declared.Item.{Item}
@@ -93,7 +93,7 @@ module _ (c : Code) (d : List ℕ) (bound : ℕ) (truths : 1 < bound) (sums : c 
   span-range (At a n) = read-range a n
   span-range Outside = tt
 
-  reference-range : (h : How) (f : ℕ) (x y : ℤ) → InRange bound (reference c d h f x y)
+  reference-range : (h : Form) (f : ℕ) (x y : ℤ) → InRange bound (reference c d h f x y)
   unfolding reference
   reference-range h f x y =
       cond-case (InRange bound) (ltb f (c .fields)) _ (Failed fault.Malformed)

@@ -16,8 +16,8 @@ use Rattle.rules.specs.declared.Num.{Num}
 use Rattle.rules.specs.declared.Num.the-variants.{Value, Failed}
 use Rattle.rules.specs.Moves.{alphaOf}
 use Rattle.rules.proofs.Walk.{cond-either}
-use Rattle.rules_unit.specs.declared.How.{How}
-use Rattle.rules_unit.specs.declared.How.the-variants as how
+use Rattle.rules_unit.specs.declared.Form.{Form}
+use Rattle.rules_unit.specs.declared.Form.the-variants as form
 use Rattle.rules_unit.specs.declared.Item.{Item}
 use Rattle.rules_unit.specs.declared.Item.the-variants as item
 use Rattle.rules_unit.specs.Codes.{Code, decimalb}
@@ -88,25 +88,25 @@ module _ (c : Code) (d : List ℕ) where
       (cond-either Works (ltb (c .dialect .limit) n) (worked.Failed fault.TooLong) (worked.Place true a n) refl tt) tt
   as-works f Outside = refl
 
-  by-works : (h : How) (f : ℕ) (x y : ℤ) → Works (placeBy c d h f x y)
+  by-works : (h : Form) (f : ℕ) (x y : ℤ) → Works (placeBy c d h f x y)
   unfolding placeBy
   by-works h f x y = cond-either Works (ltb f (c .fields)) _ (worked.Failed fault.Malformed) (as-works f (spanOf (length d) (c .field f) h x y)) refl
 
-  place-works : (h : How) (f : ℕ) (st : List ℤ) → Works (place c d h f st)
+  place-works : (h : Form) (f : ℕ) (st : List ℤ) → Works (place c d h f st)
   unfolding place
-  place-works how.First f [] = by-works how.First f (pos 0) (pos 0)
-  place-works how.First f (x ∷ st) = refl
-  place-works how.Element f [] = refl
-  place-works how.Element f (x ∷ []) = by-works how.Element f x (pos 0)
-  place-works how.Element f (y ∷ (x ∷ st)) = refl
-  place-works how.Range f [] = refl
-  place-works how.Range f (x ∷ []) = refl
-  place-works how.Range f (y ∷ (x ∷ [])) = by-works how.Range f x y
-  place-works how.Range f (y ∷ (x ∷ (z ∷ st))) = refl
-  place-works how.Length f [] = refl
-  place-works how.Length f (x ∷ []) = refl
-  place-works how.Length f (y ∷ (x ∷ [])) = by-works how.Length f x y
-  place-works how.Length f (y ∷ (x ∷ (z ∷ st))) = refl
+  place-works form.First f [] = by-works form.First f (pos 0) (pos 0)
+  place-works form.First f (x ∷ st) = refl
+  place-works form.Subscript f [] = refl
+  place-works form.Subscript f (x ∷ []) = by-works form.Subscript f x (pos 0)
+  place-works form.Subscript f (y ∷ (x ∷ st)) = refl
+  place-works form.StartEnd f [] = refl
+  place-works form.StartEnd f (x ∷ []) = refl
+  place-works form.StartEnd f (y ∷ (x ∷ [])) = by-works form.StartEnd f x y
+  place-works form.StartEnd f (y ∷ (x ∷ (z ∷ st))) = refl
+  place-works form.PosLength f [] = refl
+  place-works form.PosLength f (x ∷ []) = refl
+  place-works form.PosLength f (y ∷ (x ∷ [])) = by-works form.PosLength f x y
+  place-works form.PosLength f (y ∷ (x ∷ (z ∷ st))) = refl
 
   last-works : (i : Item) (st : List ℤ) → Works (lastOf c d i st)
   unfolding lastOf

@@ -22,8 +22,8 @@ use Rattle.rules.specs.declared.Num.{Num}
 use Rattle.rules.specs.declared.Num.the-variants.{Value, Failed}
 use Rattle.rules.specs.Values.{Val, readOf}
 use Rattle.rules.specs.Arithmetic.{addOf, subOf, mulOf, divOf, roundOf, eqOf, neOf, gtOf, ltOf, geOf, leOf, notOf, andOf, orOf, xorOf}
-use Rattle.rules_unit.specs.declared.How.{How}
-use Rattle.rules_unit.specs.declared.How.the-variants as how
+use Rattle.rules_unit.specs.declared.Form.{Form}
+use Rattle.rules_unit.specs.declared.Form.the-variants as form
 use Rattle.rules_unit.specs.declared.Op.{Op}
 use Rattle.rules_unit.specs.declared.Op.the-variants as op
 use Rattle.rules_unit.specs.declared.Item.{Item}
@@ -75,7 +75,7 @@ readSpan c d (At a n) = readAt c d a n
 readSpan c d Outside = Failed fault.Outside
 
 -- "02 field; 03 field(subscript); 04 field(start,end); 05 field(pos:length)", read where it stands: 21, then 20, then 22
-unfoldable pub reference : Code → List ℕ → How → ℕ → ℤ → ℤ → Num
+unfoldable pub reference : Code → List ℕ → Form → ℕ → ℤ → ℤ → Num
 reference c d h f x y =
     cond (ltb f (c .fields))
     (cond (decimalb c f) (readSpan c d (spanOf (length d) (c .field f) h x y)) (Failed fault.Malformed))
@@ -130,25 +130,25 @@ asPlace c f (At a n) =
     cond (decimalb c f) (cond (ltb (c .dialect .limit) n) (worked.Failed fault.TooLong) (worked.Place true a n)) (worked.Place false a n)
 asPlace c f Outside = worked.Failed fault.Outside
 
-unfoldable pub placeBy : Code → List ℕ → How → ℕ → ℤ → ℤ → Worked
+unfoldable pub placeBy : Code → List ℕ → Form → ℕ → ℤ → ℤ → Worked
 placeBy c d h f x y =
     cond (ltb f (c .fields)) (asPlace c f (spanOf (length d) (c .field f) h x y)) (worked.Failed fault.Malformed)
 
 -- A last reference takes all that is held as its bounds.
-unfoldable pub place : Code → List ℕ → How → ℕ → List ℤ → Worked
-place c d how.First f [] = placeBy c d how.First f (pos 0) (pos 0)
-place c d how.First f (x ∷ st) = worked.Failed fault.Malformed
-place c d how.Element f [] = worked.Failed fault.Malformed
-place c d how.Element f (x ∷ []) = placeBy c d how.Element f x (pos 0)
-place c d how.Element f (y ∷ (x ∷ st)) = worked.Failed fault.Malformed
-place c d how.Range f [] = worked.Failed fault.Malformed
-place c d how.Range f (x ∷ []) = worked.Failed fault.Malformed
-place c d how.Range f (y ∷ (x ∷ [])) = placeBy c d how.Range f x y
-place c d how.Range f (y ∷ (x ∷ (z ∷ st))) = worked.Failed fault.Malformed
-place c d how.Length f [] = worked.Failed fault.Malformed
-place c d how.Length f (x ∷ []) = worked.Failed fault.Malformed
-place c d how.Length f (y ∷ (x ∷ [])) = placeBy c d how.Length f x y
-place c d how.Length f (y ∷ (x ∷ (z ∷ st))) = worked.Failed fault.Malformed
+unfoldable pub place : Code → List ℕ → Form → ℕ → List ℤ → Worked
+place c d form.First f [] = placeBy c d form.First f (pos 0) (pos 0)
+place c d form.First f (x ∷ st) = worked.Failed fault.Malformed
+place c d form.Subscript f [] = worked.Failed fault.Malformed
+place c d form.Subscript f (x ∷ []) = placeBy c d form.Subscript f x (pos 0)
+place c d form.Subscript f (y ∷ (x ∷ st)) = worked.Failed fault.Malformed
+place c d form.StartEnd f [] = worked.Failed fault.Malformed
+place c d form.StartEnd f (x ∷ []) = worked.Failed fault.Malformed
+place c d form.StartEnd f (y ∷ (x ∷ [])) = placeBy c d form.StartEnd f x y
+place c d form.StartEnd f (y ∷ (x ∷ (z ∷ st))) = worked.Failed fault.Malformed
+place c d form.PosLength f [] = worked.Failed fault.Malformed
+place c d form.PosLength f (x ∷ []) = worked.Failed fault.Malformed
+place c d form.PosLength f (y ∷ (x ∷ [])) = placeBy c d form.PosLength f x y
+place c d form.PosLength f (y ∷ (x ∷ (z ∷ st))) = worked.Failed fault.Malformed
 
 -- "06 alpha literal", which stands alone
 abbrev pub textBy : Code → ℕ → ℕ → List ℤ → Worked

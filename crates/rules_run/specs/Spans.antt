@@ -11,8 +11,8 @@ use lib.Dec.{leb}
 use lib.IntN.{ℤ, pos, negsuc, natAbs, _+ℤ_, _-ℤ_, _*ℤ_}
 use lib.Signed.{leZ}
 use Rattle.rules_unit.specs.declared.Field.{Field}
-use Rattle.rules_unit.specs.declared.How.{How}
-use Rattle.rules_unit.specs.declared.How.the-variants as how
+use Rattle.rules_unit.specs.declared.Form.{Form}
+use Rattle.rules_unit.specs.declared.Form.the-variants as form
 use Rattle.rules_run.specs.declared.Span.{Span}
 use Rattle.rules_run.specs.declared.Span.the-variants.{At, Outside}
 
@@ -22,43 +22,43 @@ within size (pos a) n = cond (leb (a + n) size) (At a n) Outside
 within size (negsuc a) n = Outside
 
 -- "subscript s gives element s (0 or less lies before the field)"
-unfoldable pub elementSpan : ℕ → ℕ → ℕ → ℤ → Span
-elementSpan size offset n s = within size (pos offset +ℤ (s -ℤ pos 1) *ℤ pos n) n
+unfoldable pub subscriptSpan : ℕ → ℕ → ℕ → ℤ → Span
+subscriptSpan size offset n s = within size (pos offset +ℤ (s -ℤ pos 1) *ℤ pos n) n
 
 -- "(start,end) needs 1 <= start <= end"
-unfoldable pub rangeSpan : ℕ → ℕ → ℤ → ℤ → Span
-rangeSpan size offset s e =
+unfoldable pub startEndSpan : ℕ → ℕ → ℤ → ℤ → Span
+startEndSpan size offset s e =
     cond (leZ (pos 1) s)
     (cond (leZ s e) (within size (pos offset +ℤ (s -ℤ pos 1)) (natAbs (e -ℤ s) + 1)) Outside)
     Outside
 
 -- "(pos:length) needs pos >= 1 and length not 0, a negative length ending at pos"
-unfoldable pub lengthSpan : ℕ → ℕ → ℤ → ℤ → Span
-lengthSpan size offset p (pos zero) = Outside
-lengthSpan size offset p (pos (suc k)) =
+unfoldable pub posLengthSpan : ℕ → ℕ → ℤ → ℤ → Span
+posLengthSpan size offset p (pos zero) = Outside
+posLengthSpan size offset p (pos (suc k)) =
     cond (leZ (pos 1) p) (within size (pos offset +ℤ (p -ℤ pos 1)) (suc k)) Outside
-lengthSpan size offset p (negsuc k) =
+posLengthSpan size offset p (negsuc k) =
     cond (leZ (pos 1) p) (within size (pos offset +ℤ (p -ℤ pos (suc k))) (suc k)) Outside
 
 -- "References .., counted from the field's first byte: no bounds gives the first element"
-unfoldable pub spanOf : ℕ → Field → How → ℤ → ℤ → Span
-spanOf size f how.First x y = within size (pos (f .offset)) (f .size)
-spanOf size f how.Element x y = elementSpan size (f .offset) (f .size) x
-spanOf size f how.Range x y = rangeSpan size (f .offset) x y
-spanOf size f how.Length x y = lengthSpan size (f .offset) x y
+unfoldable pub spanOf : ℕ → Field → Form → ℤ → ℤ → Span
+spanOf size f form.First x y = within size (pos (f .offset)) (f .size)
+spanOf size f form.Subscript x y = subscriptSpan size (f .offset) (f .size) x
+spanOf size f form.StartEnd x y = startEndSpan size (f .offset) x y
+spanOf size f form.PosLength x y = posLengthSpan size (f .offset) x y
 
 -- The same sentences by natural numbers: the n bytes from a on are those of a reference with the bounds x and y, wherever they lie.
-abbrev pub Located : Field → How → ℤ → ℤ → ℕ → ℕ → Type 0
+abbrev pub Located : Field → Form → ℤ → ℤ → ℕ → ℕ → Type 0
 -- "no bounds gives the first element"
-Located f how.First x y a n = (a ≡ f .offset) × (n ≡ f .size)
+Located f form.First x y a n = (a ≡ f .offset) × (n ≡ f .size)
 -- "subscript s gives element s (0 or less lies before the field)"
-Located f how.Element (pos s) y a n = (a + f .size ≡ f .offset + s * f .size) × (n ≡ f .size)
-Located f how.Element (negsuc j) y a n = (a + (j + 2) * f .size ≡ f .offset) × (n ≡ f .size)
+Located f form.Subscript (pos s) y a n = (a + f .size ≡ f .offset + s * f .size) × (n ≡ f .size)
+Located f form.Subscript (negsuc j) y a n = (a + (j + 2) * f .size ≡ f .offset) × (n ≡ f .size)
 -- "(start,end) needs 1 <= start <= end"
-Located f how.Range (pos s) (pos e) a n = (1 ≤ s) × (s ≤ e) × (a + 1 ≡ f .offset + s) × (a + n ≡ f .offset + e)
-Located f how.Range (pos s) (negsuc e) a n = ⊥
-Located f how.Range (negsuc s) y a n = ⊥
+Located f form.StartEnd (pos s) (pos e) a n = (1 ≤ s) × (s ≤ e) × (a + 1 ≡ f .offset + s) × (a + n ≡ f .offset + e)
+Located f form.StartEnd (pos s) (negsuc e) a n = ⊥
+Located f form.StartEnd (negsuc s) y a n = ⊥
 -- "(pos:length) needs pos >= 1 and length not 0, a negative length ending at pos"
-Located f how.Length (pos p) (pos k) a n = (1 ≤ p) × (1 ≤ k) × (a + 1 ≡ f .offset + p) × (n ≡ k)
-Located f how.Length (pos p) (negsuc k) a n = (1 ≤ p) × (a + n ≡ f .offset + p) × (n ≡ suc k)
-Located f how.Length (negsuc p) y a n = ⊥
+Located f form.PosLength (pos p) (pos k) a n = (1 ≤ p) × (1 ≤ k) × (a + 1 ≡ f .offset + p) × (n ≡ k)
+Located f form.PosLength (pos p) (negsuc k) a n = (1 ≤ p) × (a + n ≡ f .offset + p) × (n ≡ suc k)
+Located f form.PosLength (negsuc p) y a n = ⊥

@@ -14,14 +14,14 @@ use native.Mathlib.Omega.{arith}
 use lib.ListN.{length}
 use borrow.Author.Tests.{le-ltb, ltb-true}
 use Rattle.rules_unit.specs.declared.Parts.{Parts}
-use Rattle.rules_unit.specs.declared.How.{How}
-use Rattle.rules_unit.specs.declared.How.the-variants as how
+use Rattle.rules_unit.specs.declared.Form.{Form}
+use Rattle.rules_unit.specs.declared.Form.the-variants as form
 use Rattle.rules_unit.specs.declared.Op.{Op}
 use Rattle.rules_unit.specs.declared.Op.the-variants as op
 use Rattle.rules_unit.specs.declared.Item.{Item}
 use Rattle.rules_unit.specs.declared.Item.the-variants as item
 use Rattle.rules_unit.specs.Decode.{itemAt, widthOf, follow, itemsIn, itemsAt, codeOf}
-use Rattle.rules_unit.specs.Expressions.{opTakes, howTakes, takes, itemb}
+use Rattle.rules_unit.specs.Expressions.{opTakes, formTakes, takes, itemb}
 
 pub width-some : (i : Item) → 1 ≤ widthOf i
 width-some (item.Number place len) = omega arith
@@ -57,15 +57,15 @@ op-two op.And = omega arith
 op-two op.Or = omega arith
 op-two op.Xor = omega arith
 
-how-two : (h : How) → howTakes h ≤ 2
-how-two how.First = omega arith
-how-two how.Element = omega arith
-how-two how.Range = omega arith
-how-two how.Length = omega arith
+form-two : (h : Form) → formTakes h ≤ 2
+form-two form.First = omega arith
+form-two form.Subscript = omega arith
+form-two form.StartEnd = omega arith
+form-two form.PosLength = omega arith
 
 pub takes-two : (i : Item) → takes i ≤ 2
 takes-two (item.Number place len) = omega arith
-takes-two (item.Reference h field) = how-two h
+takes-two (item.Reference h field) = form-two h
 takes-two (item.Text place len) = omega arith
 takes-two (item.Operator o) = op-two o
 takes-two item.End = omega arith
@@ -80,7 +80,7 @@ isEnd item.End = true
 isEnd item.Bad = false
 
 -- "field numbers .. lie inside their parts"
-pub known-field : (u : List ℕ) (p : Parts) (i : Item) (h : How) (f : ℕ) → i ≡ item.Reference h f → itemb (codeOf u p) i ≡ true → f < p .f
+pub known-field : (u : List ℕ) (p : Parts) (i : Item) (h : Form) (f : ℕ) → i ≡ item.Reference h f → itemb (codeOf u p) i ≡ true → f < p .f
 known-field u p i h f e g = ltb-true f (p .f) (rw e at g)
 
 pub beyond : (s : List ℕ) (at : ℕ) → length s ≤ at → itemAt s at ≡ item.Bad

@@ -21,8 +21,8 @@ use Rattle.rules_unit.specs.declared.Parts.{Parts}
 use Rattle.rules_unit.specs.declared.Kind.{Kind}
 use Rattle.rules_unit.specs.declared.Kind.the-variants as kind
 use Rattle.rules_unit.specs.declared.Field.{Field}
-use Rattle.rules_unit.specs.declared.How.{How}
-use Rattle.rules_unit.specs.declared.How.the-variants as how
+use Rattle.rules_unit.specs.declared.Form.{Form}
+use Rattle.rules_unit.specs.declared.Form.the-variants as form
 use Rattle.rules_unit.specs.declared.Op.the-variants as op
 use Rattle.rules_unit.specs.declared.Item.{Item}
 use Rattle.rules_unit.specs.declared.Item.the-variants as item
@@ -111,7 +111,7 @@ fieldAt u at =
 -- ---- expressions
 
 -- "02 field; 03 field(subscript); 04 field(start,end); 05 field(pos:length); each followed by a field number (2 bytes)"
-unfoldable pub referenceAt : List ℕ → ℕ → How → Item
+unfoldable pub referenceAt : List ℕ → ℕ → Form → Item
 referenceAt s at h = cond (ltb 2 (length s - at)) (item.Reference h (wordAt s (at + 1))) item.Bad
 
 -- "01 number literal: place in literals (2 bytes), length (1 byte ..)"
@@ -127,10 +127,10 @@ unfoldable pub itemBy : List ℕ → ℕ → ℕ → Item
 itemBy s at code =
     cond (eqb code 0x00) item.End
     (cond (eqb code 0x01) (numberAt s at)
-    (cond (eqb code 0x02) (referenceAt s at how.First)
-    (cond (eqb code 0x03) (referenceAt s at how.Element)
-    (cond (eqb code 0x04) (referenceAt s at how.Range)
-    (cond (eqb code 0x05) (referenceAt s at how.Length)
+    (cond (eqb code 0x02) (referenceAt s at form.First)
+    (cond (eqb code 0x03) (referenceAt s at form.Subscript)
+    (cond (eqb code 0x04) (referenceAt s at form.StartEnd)
+    (cond (eqb code 0x05) (referenceAt s at form.PosLength)
     (cond (eqb code 0x06) (textAt s at)
     (cond (eqb code 0x10) (item.Operator op.Add)
     (cond (eqb code 0x11) (item.Operator op.Subtract)

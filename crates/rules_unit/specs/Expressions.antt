@@ -14,8 +14,8 @@ use lib.Dec.{ltb, leb, eqb}
 use lib.ListN.{length, take, drop}
 use Rattle.rules.specs.Tests.{_&&_}
 use Rattle.rules.specs.Values.{isFrom}
-use Rattle.rules_unit.specs.declared.How.{How}
-use Rattle.rules_unit.specs.declared.How.the-variants as how
+use Rattle.rules_unit.specs.declared.Form.{Form}
+use Rattle.rules_unit.specs.declared.Form.the-variants as form
 use Rattle.rules_unit.specs.declared.Op.{Op}
 use Rattle.rules_unit.specs.declared.Op.the-variants as op
 use Rattle.rules_unit.specs.declared.Item.{Item}
@@ -55,15 +55,15 @@ opTakes op.Or = 2
 opTakes op.Xor = 2
 
 -- "its bounds being the values before it"
-abbrev pub howTakes : How → ℕ
-howTakes how.First = 0
-howTakes how.Element = 1
-howTakes how.Range = 2
-howTakes how.Length = 2
+abbrev pub formTakes : Form → ℕ
+formTakes form.First = 0
+formTakes form.Subscript = 1
+formTakes form.StartEnd = 2
+formTakes form.PosLength = 2
 
 abbrev pub takes : Item → ℕ
 takes (item.Number place len) = 0
-takes (item.Reference h field) = howTakes h
+takes (item.Reference h field) = formTakes h
 takes (item.Text place len) = 0
 takes (item.Operator o) = opTakes o
 takes item.End = 0

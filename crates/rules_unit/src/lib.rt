@@ -50,12 +50,12 @@ pub struct Field {
     pub count: u16,
 }
 
-// How a reference is bound: 02, which has no bounds and names the first element, 03, 04, 05.
-pub enum How {
+// The form of a reference: 02, which has no bounds and names the first element, 03, 04, 05.
+pub enum Form {
     First,
-    Element,
-    Range,
-    Length,
+    Subscript,
+    StartEnd,
+    PosLength,
 }
 
 // The operators, 10 to 1F.
@@ -81,7 +81,7 @@ pub enum Op {
 // An item of an expression. Bad is a code that is none, or an item that the end of the expressions cuts.
 pub enum Item {
     Number { place: u16, len: u16 },
-    Reference { how: How, field: u16 },
+    Reference { form: Form, field: u16 },
     Text { place: u16, len: u16 },
     Operator(Op),
     End,

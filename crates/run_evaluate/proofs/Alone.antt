@@ -10,7 +10,7 @@ use lib.IntN.{pos}
 use lib.ListN.{length, getD}
 use borrow.Author.Tests.{ltb-true, eqb-true}
 use Rattle.rules_unit.specs.declared.Parts.{Parts}
-use Rattle.rules_unit.specs.declared.How.the-variants as how
+use Rattle.rules_unit.specs.declared.Form.the-variants as form
 use Rattle.rules_unit.specs.Decode.{Fills, SoundDialect, wordAt, itemsAt, codeOf}
 use Rattle.rules_run.specs.declared.Worked.{Worked}
 use Rattle.rules_run.specs.Evaluation.{placeBy, workedOf}
@@ -48,7 +48,7 @@ module _ (es : List ℕ) (i : ℕ) (t : Bool) (et : t ≡ loneb es i) (o : t ≡
 
   -- w is what the field comes to
   pub lone-place : (u : List ℕ) (p : Parts) (d : List ℕ) (f : ℕ) (w : Worked) → Fills u p → SoundDialect (p .dialect) → length d < 65536
-      → f ≡ wordAt es (i + 1) → w ≡ placeBy (codeOf u p) d how.First f (pos 0) (pos 0) → w ≡ workedOf (codeOf u p) d (itemsAt es i)
+      → f ≡ wordAt es (i + 1) → w ≡ placeBy (codeOf u p) d form.First f (pos 0) (pos 0) → w ≡ workedOf (codeOf u p) d (itemsAt es i)
   lone-place u p d f w fills dialect size ef q =
       field-place u p d es i 0 [] (record { fills = fills; dialect = dialect; size = size; there = lone-tells .there; vals = vals-zero 0 })
       (code-field es i (lone-tells .there) (lone-tells .field)) (omega (arith, lone-tells .room)) f ef true (sym (lone-tells .closes)) w refl refl q .same

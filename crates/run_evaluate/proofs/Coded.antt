@@ -10,14 +10,14 @@ use lib.ListN.{length, getD}
 use borrow.Author.Tests.{lt-ltb, le-ltb, ne-eqb}
 use denote.Enum.Declared.{tagOf}
 use types.Run.{OneOf, miss}
-use Rattle.rules_unit.specs.declared.How.{How}
-use Rattle.rules_unit.specs.declared.How.the-variants as how
+use Rattle.rules_unit.specs.declared.Form.{Form}
+use Rattle.rules_unit.specs.declared.Form.the-variants as form
 use Rattle.rules_unit.specs.declared.Op.{Op}
 use Rattle.rules_unit.specs.declared.Item.{Item}
 use Rattle.rules_unit.specs.declared.Item.the-variants as item
 use Rattle.rules_unit.specs.Decode.{wordAt, referenceAt, numberAt, textAt, itemBy, itemAt}
 use Rattle.rules_unit.proofs.Item.{the-type}
-use Rattle.run_evaluate.specs.Steps.{howOf}
+use Rattle.run_evaluate.specs.Steps.{formOf}
 
 module _ (s : List ℕ) (i : ℕ) (there : i < length s) where
   pub code-item : itemAt s i ≡ itemBy s i (getD s i 0)
@@ -32,7 +32,7 @@ module _ (s : List ℕ) (i : ℕ) (there : i < length s) where
   unfolding itemBy
   code-number e = code-item ∙ rw e
 
-  pub code-field : getD s i 0 ≡ 2 → itemAt s i ≡ referenceAt s i how.First
+  pub code-field : getD s i 0 ≡ 2 → itemAt s i ≡ referenceAt s i form.First
   unfolding itemBy
   code-field e = code-item ∙ rw e
 
@@ -41,7 +41,7 @@ module _ (s : List ℕ) (i : ℕ) (there : i < length s) where
   code-text e = code-item ∙ rw e
 
 -- A code from 3 to 5 is that of a reference with bounds.
-pub code-bounds : (s : List ℕ) (i code : ℕ) → 2 < code → code < 6 → itemBy s i code ≡ referenceAt s i (howOf code)
+pub code-bounds : (s : List ℕ) (i code : ℕ) → 2 < code → code < 6 → itemBy s i code ≡ referenceAt s i (formOf code)
 unfolding itemBy
 code-bounds s i zero l h = absurd (omega arith)
 code-bounds s i (suc zero) l h = absurd (omega arith)
@@ -51,7 +51,7 @@ code-bounds s i (suc (suc (suc (suc zero)))) l h = refl
 code-bounds s i (suc (suc (suc (suc (suc zero))))) l h = refl
 code-bounds s i (suc (suc (suc (suc (suc (suc code)))))) l h = absurd (omega arith)
 
-pub bounds-item : (s : List ℕ) (i code : ℕ) (h : How) → itemAt s i ≡ itemBy s i code → 2 < code → code < 6 → h ≡ howOf code → itemAt s i ≡ referenceAt s i h
+pub bounds-item : (s : List ℕ) (i code : ℕ) (h : Form) → itemAt s i ≡ itemBy s i code → 2 < code → code < 6 → h ≡ formOf code → itemAt s i ≡ referenceAt s i h
 bounds-item s i code h e l k q = e ∙ code-bounds s i code l k ∙ ap (referenceAt s i) (sym q)
 
 -- ---- a code above 6 is that of an operator, or none
@@ -85,10 +85,10 @@ unfolding itemBy
 upper-code s i code h =
     otherwise (eqb code 0) item.End _ (ne-eqb code 0 (λ e. omega arith))
     (otherwise (eqb code 1) (numberAt s i) _ (ne-eqb code 1 (λ e. omega arith))
-    (otherwise (eqb code 2) (referenceAt s i how.First) _ (ne-eqb code 2 (λ e. omega arith))
-    (otherwise (eqb code 3) (referenceAt s i how.Element) _ (ne-eqb code 3 (λ e. omega arith))
-    (otherwise (eqb code 4) (referenceAt s i how.Range) _ (ne-eqb code 4 (λ e. omega arith))
-    (otherwise (eqb code 5) (referenceAt s i how.Length) _ (ne-eqb code 5 (λ e. omega arith))
+    (otherwise (eqb code 2) (referenceAt s i form.First) _ (ne-eqb code 2 (λ e. omega arith))
+    (otherwise (eqb code 3) (referenceAt s i form.Subscript) _ (ne-eqb code 3 (λ e. omega arith))
+    (otherwise (eqb code 4) (referenceAt s i form.StartEnd) _ (ne-eqb code 4 (λ e. omega arith))
+    (otherwise (eqb code 5) (referenceAt s i form.PosLength) _ (ne-eqb code 5 (λ e. omega arith))
     (otherwise (eqb code 6) (textAt s i) _ (ne-eqb code 6 (λ e. omega arith))
     (search (either, operator, bad) depth 40)))))))
 
@@ -117,7 +117,7 @@ module _ (s : List ℕ) (i : ℕ) where
     unfolding numberAt
     number-whole h = sym (e ∙ rw (lt-ltb 3 (length s - i) h))
 
-  module _ (h : How) (e : itemAt s i ≡ referenceAt s i h) where
+  module _ (h : Form) (e : itemAt s i ≡ referenceAt s i h) where
     pub reference-cut : length s - i ≤ 2 → itemAt s i ≡ item.Bad
     unfolding referenceAt
     reference-cut k = e ∙ rw (le-ltb 2 (length s - i) k)

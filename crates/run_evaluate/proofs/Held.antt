@@ -20,13 +20,13 @@ use borrow.Author.Tests.{lt-ltb, le-ltb, ne-eqb}
 use Rattle.rules.specs.declared.Num.{Num}
 use Rattle.rules.specs.declared.Fault.the-variants as fault
 use Rattle.rules.specs.Values.{Val}
-use Rattle.rules_unit.specs.declared.How.{How}
-use Rattle.rules_unit.specs.declared.How.the-variants as how
+use Rattle.rules_unit.specs.declared.Form.{Form}
+use Rattle.rules_unit.specs.declared.Form.the-variants as form
 use Rattle.rules_unit.specs.declared.Op.the-variants as op
 use Rattle.rules_unit.specs.declared.Item.{Item}
 use Rattle.rules_unit.specs.declared.Item.the-variants as item
 use Rattle.rules_unit.specs.Codes.{Code}
-use Rattle.rules_unit.specs.Expressions.{howTakes, takes, textb}
+use Rattle.rules_unit.specs.Expressions.{formTakes, takes, textb}
 use Rattle.rules_unit.proofs.Items.{takes-two}
 use Rattle.rules_run.specs.declared.Worked.the-variants as worked
 use Rattle.rules_run.specs.Spans.{spanOf}
@@ -78,10 +78,10 @@ module _ (c : Code) (d : List ℕ) (held : List ℤ) where
   taken : (i : Item) (m : ℕ) → stepBy (takes i) (apply c d i) (topDown held (m + takes i)) ≡ room (topDown held m) (apply c d i (getD held m (pos 0)) (getD held (m + 1) (pos 0)))
   unfolding stepBy topDown reference spanOf calc
   taken (item.Number place len) m = rw (add-zero m)
-  taken (item.Reference how.First f) m = rw (add-zero m)
-  taken (item.Reference how.Element f) m = rw (add-one m)
-  taken (item.Reference how.Range f) m = rw (add-two m, add-one m)
-  taken (item.Reference how.Length f) m = rw (add-two m, add-one m)
+  taken (item.Reference form.First f) m = rw (add-zero m)
+  taken (item.Reference form.Subscript f) m = rw (add-one m)
+  taken (item.Reference form.StartEnd f) m = rw (add-two m, add-one m)
+  taken (item.Reference form.PosLength f) m = rw (add-two m, add-one m)
   taken (item.Text place len) m = rw (add-zero m)
   taken (item.Operator op.Add) m = rw (add-two m, add-one m)
   taken (item.Operator op.Subtract) m = rw (add-two m, add-one m)
@@ -115,22 +115,22 @@ room-for held m g h = rw (top-length held m, lt-ltb m 16 h)
 -- ---- a last item
 
 module _ (c : Code) (d : List ℕ) (held : List ℤ) where
-  pub place-held : (h : How) (f n : ℕ)
-      → place c d h f (topDown held n) ≡ cond (eqb n (howTakes h)) (placeBy c d h f (getD held 0 (pos 0)) (getD held 1 (pos 0))) (worked.Failed fault.Malformed)
+  pub place-held : (h : Form) (f n : ℕ)
+      → place c d h f (topDown held n) ≡ cond (eqb n (formTakes h)) (placeBy c d h f (getD held 0 (pos 0)) (getD held 1 (pos 0))) (worked.Failed fault.Malformed)
   unfolding place placeBy spanOf topDown
-  place-held how.First f zero = refl
-  place-held how.First f (suc n) = rw (ne-eqb (suc n) 0 (λ e. omega arith))
-  place-held how.Element f zero = refl
-  place-held how.Element f (suc zero) = refl
-  place-held how.Element f (suc (suc n)) = rw (ne-eqb (suc (suc n)) 1 (λ e. omega arith))
-  place-held how.Range f zero = refl
-  place-held how.Range f (suc zero) = refl
-  place-held how.Range f (suc (suc zero)) = refl
-  place-held how.Range f (suc (suc (suc n))) = rw (ne-eqb (suc (suc (suc n))) 2 (λ e. omega arith))
-  place-held how.Length f zero = refl
-  place-held how.Length f (suc zero) = refl
-  place-held how.Length f (suc (suc zero)) = refl
-  place-held how.Length f (suc (suc (suc n))) = rw (ne-eqb (suc (suc (suc n))) 2 (λ e. omega arith))
+  place-held form.First f zero = refl
+  place-held form.First f (suc n) = rw (ne-eqb (suc n) 0 (λ e. omega arith))
+  place-held form.Subscript f zero = refl
+  place-held form.Subscript f (suc zero) = refl
+  place-held form.Subscript f (suc (suc n)) = rw (ne-eqb (suc (suc n)) 1 (λ e. omega arith))
+  place-held form.StartEnd f zero = refl
+  place-held form.StartEnd f (suc zero) = refl
+  place-held form.StartEnd f (suc (suc zero)) = refl
+  place-held form.StartEnd f (suc (suc (suc n))) = rw (ne-eqb (suc (suc (suc n))) 2 (λ e. omega arith))
+  place-held form.PosLength f zero = refl
+  place-held form.PosLength f (suc zero) = refl
+  place-held form.PosLength f (suc (suc zero)) = refl
+  place-held form.PosLength f (suc (suc (suc n))) = rw (ne-eqb (suc (suc (suc n))) 2 (λ e. omega arith))
 
   pub text-held : (p l n : ℕ)
       → textBy c p l (topDown held n) ≡ cond (eqb n 0) (cond (textb c p l) (worked.Text p l) (worked.Failed fault.Malformed)) (worked.Failed fault.Malformed)

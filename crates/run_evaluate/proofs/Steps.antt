@@ -22,14 +22,14 @@ use Rattle.rules.proofs.Range.{of-range}
 use Rattle.rules.proofs.Signed.{back, again, val-fits, op-plain, pow-le18}
 use Rattle.rules.proofs.Walk.{cond-same}
 use Rattle.rules_unit.specs.declared.Parts.{Parts}
-use Rattle.rules_unit.specs.declared.How.{How}
-use Rattle.rules_unit.specs.declared.How.the-variants as how
+use Rattle.rules_unit.specs.declared.Form.{Form}
+use Rattle.rules_unit.specs.declared.Form.the-variants as form
 use Rattle.rules_unit.specs.declared.Op.{Op}
 use Rattle.rules_unit.specs.declared.Item.{Item}
 use Rattle.rules_unit.specs.declared.Item.the-variants as item
 use Rattle.rules_unit.specs.Codes.{Code}
 use Rattle.rules_unit.specs.Decode.{wordAt, referenceAt, numberAt, textAt, itemAt, widthOf, follow, itemsAt, codeOf}
-use Rattle.rules_unit.specs.Expressions.{howTakes, opTakes, takes, textb}
+use Rattle.rules_unit.specs.Expressions.{formTakes, opTakes, takes, textb}
 use Rattle.rules_unit.proofs.Items.{items-as, beyond}
 use Rattle.rules_run.specs.declared.Worked.{Worked}
 use Rattle.rules_run.specs.declared.Worked.the-variants as worked
@@ -61,8 +61,8 @@ module _ (c : Code) (d : List ℕ) (st : List ℤ) where
   rest-operator o [] = refl
   rest-operator o (j ∷ is) = refl
 
-  rest-reference : (h : How) (f : ℕ) (is : List Item) → (is ≡ [] → ⊥)
-      → restOf c d (item.Reference h f ∷ is) st ≡ onHeld (stepBy (howTakes h) (apply c d (item.Reference h f)) st) (restOf c d is)
+  rest-reference : (h : Form) (f : ℕ) (is : List Item) → (is ≡ [] → ⊥)
+      → restOf c d (item.Reference h f ∷ is) st ≡ onHeld (stepBy (formTakes h) (apply c d (item.Reference h f)) st) (restOf c d is)
   unfolding restOf workedFrom
   rest-reference h f [] o = absurd (o refl)
   rest-reference h f (j ∷ is) o = refl
@@ -166,23 +166,23 @@ module _ (u : List ℕ) (p : Parts) (d es : List ℕ) (i n : ℕ) (held : List �
 
   -- ---- a reference; f is the field that it names, and t says whether 00 stands after it
 
-  pub reference-short : (h : How) (r : Step) → itemAt es i ≡ referenceAt es i h → length es - i ≤ 2 → r ≡ Done (worked.Failed fault.Malformed)
+  pub reference-short : (h : Form) (r : Step) → itemAt es i ≡ referenceAt es i h → length es - i ≤ 2 → r ≡ Done (worked.Failed fault.Malformed)
       → Leads (codeOf u p) d es i n held r
   reference-short h r e k q = bad-leads r (reference-cut es i h e k) q
 
-  module _ (h : How) (e : itemAt es i ≡ referenceAt es i h) (k : 2 < length es - i) (f : ℕ) (ef : f ≡ wordAt es (i + 1)) (t : Bool) (et : t ≡ cond (ltb (i + 3) (length es)) (eqb (getD es (i + 3) 0) 0) false) where
+  module _ (h : Form) (e : itemAt es i ≡ referenceAt es i h) (k : 2 < length es - i) (f : ℕ) (ef : f ≡ wordAt es (i + 1)) (t : Bool) (et : t ≡ cond (ltb (i + 3) (length es)) (eqb (getD es (i + 3) 0) 0) false) where
     named : item.Reference h f ≡ itemAt es i
     named = ap (item.Reference h) ef ∙ reference-whole es i h e k
 
     reference-going : t ≡ false
         → restOf (codeOf u p) d (itemsAt es i) (topDown held n)
-        ≡ onHeld (stepBy (howTakes h) (apply (codeOf u p) d (item.Reference h f)) (topDown held n)) (restOf (codeOf u p) d (itemsAt es (i + 3)))
+        ≡ onHeld (stepBy (formTakes h) (apply (codeOf u p) d (item.Reference h f)) (topDown held n)) (restOf (codeOf u p) d (itemsAt es (i + 3)))
     reference-going o =
         at-item (item.Reference h f) named ∙ rest-reference (codeOf u p) d (topDown held n) h f (itemsAt es (i + 3)) (unclosed es (i + 3) t et o)
 
     at-last : t ≡ true
         → restOf (codeOf u p) d (itemsAt es i) (topDown held n)
-        ≡ cond (eqb n (howTakes h)) (placeBy (codeOf u p) d h f (getD held 0 (pos 0)) (getD held 1 (pos 0))) (worked.Failed fault.Malformed)
+        ≡ cond (eqb n (formTakes h)) (placeBy (codeOf u p) d h f (getD held 0 (pos 0)) (getD held 1 (pos 0))) (worked.Failed fault.Malformed)
     unfolding restOf workedFrom lastOf
     at-last o =
         at-item (item.Reference h f) named
@@ -190,13 +190,13 @@ module _ (u : List ℕ) (p : Parts) (d es : List ℕ) (i n : ℕ) (held : List �
         ∙ place-held (codeOf u p) d held h f n
 
     pub reference-place : (w : Worked) → t ≡ true
-        → w ≡ cond (eqb n (howTakes h)) (placeBy (codeOf u p) d h f (toZ w64 (ofZ w64 (getD held 0 (pos 0)))) (toZ w64 (ofZ w64 (getD held 1 (pos 0))))) (worked.Failed fault.Malformed)
+        → w ≡ cond (eqb n (formTakes h)) (placeBy (codeOf u p) d h f (toZ w64 (ofZ w64 (getD held 0 (pos 0)))) (toZ w64 (ofZ w64 (getD held 1 (pos 0))))) (worked.Failed fault.Malformed)
         → Leads (codeOf u p) d es i n held (Done w)
     reference-place w o q =
         leads-done (Done w) w refl (at-last o ∙ sym (rw (back (val-fits (ready .vals 0)), back (val-fits (ready .vals 1))) at q))
 
     -- taken is the code's own copy of how many values it takes
-    module _ (o : t ≡ false) (x taken : ℕ) (ex : x ≡ howTakes h) (em : taken ≡ x) where
+    module _ (o : t ≡ false) (x taken : ℕ) (ex : x ≡ formTakes h) (em : taken ≡ x) where
       pub reference-few : (r : Step) → n < taken → r ≡ Done (worked.Failed fault.Malformed) → Leads (codeOf u p) d es i n held r
       reference-few r l q = few (item.Reference h f) (i + 3) (reference-going o) r (omega arith) q
 
@@ -211,21 +211,21 @@ module _ (u : List ℕ) (p : Parts) (d es : List ℕ) (i n : ℕ) (held : List �
           (ev ∙ op-plain (reference (codeOf u p) d h f) (val-fits (ready .vals (n - taken))) (val-fits (ready .vals (n - taken + 1)))) r q
 
   -- without bounds
-  module _ (e : itemAt es i ≡ referenceAt es i how.First) (k : 2 < length es - i) (f : ℕ) (ef : f ≡ wordAt es (i + 1)) (t : Bool) (et : t ≡ cond (ltb (i + 3) (length es)) (eqb (getD es (i + 3) 0) 0) false) where
-    pub field-place : (w : Worked) → t ≡ true → n ≡ 0 → w ≡ placeBy (codeOf u p) d how.First f (pos 0) (pos 0) → Leads (codeOf u p) d es i n held (Done w)
+  module _ (e : itemAt es i ≡ referenceAt es i form.First) (k : 2 < length es - i) (f : ℕ) (ef : f ≡ wordAt es (i + 1)) (t : Bool) (et : t ≡ cond (ltb (i + 3) (length es)) (eqb (getD es (i + 3) 0) 0) false) where
+    pub field-place : (w : Worked) → t ≡ true → n ≡ 0 → w ≡ placeBy (codeOf u p) d form.First f (pos 0) (pos 0) → Leads (codeOf u p) d es i n held (Done w)
     unfolding placeBy spanOf
-    field-place w o z q = leads-done (Done w) w refl (at-last how.First e k f ef t et o ∙ rw (eq-eqb n 0 z) (sym q))
+    field-place w o z q = leads-done (Done w) w refl (at-last form.First e k f ef t et o ∙ rw (eq-eqb n 0 z) (sym q))
 
     pub field-bound : (r : Step) → t ≡ true → (n ≡ 0 → ⊥) → r ≡ Done (worked.Failed fault.Malformed) → Leads (codeOf u p) d es i n held r
-    field-bound r o z q = leads-done r (worked.Failed fault.Malformed) q (at-last how.First e k f ef t et o ∙ rw (ne-eqb n 0 z))
+    field-bound r o z q = leads-done r (worked.Failed fault.Malformed) q (at-last form.First e k f ef t et o ∙ rw (ne-eqb n 0 z))
 
     pub field-over : (r : Step) (most : ℕ) → t ≡ false → 16 ≤ most → most ≤ n → r ≡ Done (worked.Failed fault.Malformed) → Leads (codeOf u p) d es i n held r
-    field-over r most o b m q = over (item.Reference how.First f) (i + 3) (reference-going how.First e k f ef t et o) n (add-zero n) r (omega arith) q
+    field-over r most o b m q = over (item.Reference form.First f) (i + 3) (reference-going form.First e k f ef t et o) n (add-zero n) r (omega arith) q
 
-    pub field-held : (v : Num) (r : Step) → t ≡ false → n < 16 → v ≡ reference (codeOf u p) d how.First f (pos 0) (pos 0) → r ≡ heldOn n (i + 3) v
+    pub field-held : (v : Num) (r : Step) → t ≡ false → n < 16 → v ≡ reference (codeOf u p) d form.First f (pos 0) (pos 0) → r ≡ heldOn n (i + 3) v
         → Leads (codeOf u p) d es i n held r
     unfolding reference spanOf
-    field-held v r o m ev q = works (item.Reference how.First f) (i + 3) (reference-going how.First e k f ef t et o) n (add-zero n) m (omega arith) v ev r q
+    field-held v r o m ev q = works (item.Reference form.First f) (i + 3) (reference-going form.First e k f ef t et o) n (add-zero n) m (omega arith) v ev r q
 
   -- ---- an alpha literal
 

@@ -2,7 +2,7 @@
 --   topDown held n       the first n of the code's array of values, as the rules' list: the last held first
 --   restOf c d is st     what the items that are left come to, with the values st held
 --   heldOn kept next v   what an item comes to that makes v of the values that it takes
---   howOf code           the bounds of a reference by its code, 03 to 05
+--   formOf code           the bounds of a reference by its code, 03 to 05
 --   loneb es i           the expression at i is a reference without bounds alone: 02, the field, 00
 --   Ready                what every step asks
 --   Leads                what every step keeps: what is left, with the values held, comes to the same
@@ -20,8 +20,8 @@ use Rattle.rules.specs.declared.Num.{Num}
 use Rattle.rules.specs.declared.Num.the-variants.{Value, Failed}
 use Rattle.rules.specs.Values.{Val}
 use Rattle.rules_unit.specs.declared.Parts.{Parts}
-use Rattle.rules_unit.specs.declared.How.{How}
-use Rattle.rules_unit.specs.declared.How.the-variants as how
+use Rattle.rules_unit.specs.declared.Form.{Form}
+use Rattle.rules_unit.specs.declared.Form.the-variants as form
 use Rattle.rules_unit.specs.declared.Item.{Item}
 use Rattle.rules_unit.specs.Codes.{Code}
 use Rattle.rules_unit.specs.Decode.{Fills, SoundDialect, itemsAt}
@@ -43,8 +43,8 @@ abbrev pub heldOn : ℕ → ℕ → Num → Step
 heldOn kept next (Value v) = Hold kept next v
 heldOn kept next (Failed e) = Done (worked.Failed e)
 
-abbrev pub howOf : ℕ → How
-howOf code = cond (eqb code 0x03) how.Element (cond (eqb code 0x04) how.Range how.Length)
+abbrev pub formOf : ℕ → Form
+formOf code = cond (eqb code 0x03) form.Subscript (cond (eqb code 0x04) form.StartEnd form.PosLength)
 
 abbrev pub loneb : List ℕ → ℕ → Bool
 loneb es i =

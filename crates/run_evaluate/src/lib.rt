@@ -2,7 +2,7 @@
 use rules::Fault;
 use rules::Num;
 use rules_run::Worked;
-use rules_unit::How;
+use rules_unit::Form;
 use rules_unit::Item;
 use rules_unit::Op;
 use rules_unit::Parts;
@@ -10,13 +10,13 @@ ghost use mathlib.Core.Path.{_≡_};
 ghost use Prim.Native.Nat.{_<_};
 ghost use lib.ListN.{length};
 ghost use Rattle.rules.specs.declared.Fault.the-variants as fault;
-ghost use Rattle.rules_unit.specs.declared.How.the-variants as how;
+ghost use Rattle.rules_unit.specs.declared.Form.the-variants as form;
 ghost use Rattle.rules_unit.specs.declared.Item.the-variants as item;
 ghost use Rattle.rules_unit.specs.Decode.{Fills, SoundDialect, referenceAt, numberAt, textAt, itemBy, itemAt, itemsAt, codeOf};
 ghost use Rattle.rules_run.specs.declared.Worked.the-variants as worked;
 ghost use Rattle.rules_run.specs.Evaluation.{workedOf, numberOf, Within};
 ghost use Rattle.run_evaluate.specs.declared.Step.the-variants as step;
-ghost use Rattle.run_evaluate.specs.Steps.{heldOn, howOf, loneb, Ready, Leads};
+ghost use Rattle.run_evaluate.specs.Steps.{heldOn, formOf, loneb, Ready, Leads};
 
 // ---- one item
 
@@ -113,7 +113,7 @@ fn field_step(
     held: &[i64; 17],
 ) -> Step
     requires { ⌜ Ready (now unit) parts (now bytes) (now es) i (now held) ⌝ }
-    requires { ⌜ itemAt (now es) i ≡ referenceAt (now es) i how.First ⌝ }
+    requires { ⌜ itemAt (now es) i ≡ referenceAt (now es) i form.First ⌝ }
     ensures { λ r. ⌜ Leads (codeOf (now (unit .entry)) parts) (now (bytes .entry)) (now (es .entry)) i n (now (held .entry)) r ⌝ }
 {
     if es.len() - i <= 2 {
@@ -141,10 +141,10 @@ fn reference_step(
     i: usize,
     n: usize,
     held: &[i64; 17],
-    how: How,
+    form: Form,
 ) -> Step
     requires { ⌜ Ready (now unit) parts (now bytes) (now es) i (now held) ⌝ }
-    requires { ⌜ itemAt (now es) i ≡ referenceAt (now es) i how ⌝ }
+    requires { ⌜ itemAt (now es) i ≡ referenceAt (now es) i form ⌝ }
     ensures { λ r. ⌜ Leads (codeOf (now (unit .entry)) parts) (now (bytes .entry)) (now (es .entry)) i n (now (held .entry)) r ⌝ }
 {
     if es.len() - i <= 2 {
@@ -154,9 +154,9 @@ fn reference_step(
     if run_items::ends(es, i + 3) {
         let x = held[0];
         let y = held[1];
-        return Step::Done(run_items::place_of(unit, parts, bytes, how, field, n, x, y));
+        return Step::Done(run_items::place_of(unit, parts, bytes, form, field, n, x, y));
     }
-    let taken = unit_decode::long(unit_decode::how_takes(how));
+    let taken = unit_decode::long(unit_decode::form_takes(form));
     if n < taken {
         return malformed();
     }
@@ -169,7 +169,7 @@ fn reference_step(
     held_on(
         m,
         i + 3,
-        run_items::read_reference(unit, parts, bytes, how, field, x, y),
+        run_items::read_reference(unit, parts, bytes, form, field, x, y),
     )
 }
 
@@ -227,13 +227,13 @@ fn operator_step(
 }
 
 // The bounds of a reference by its code, 03 to 05.
-fn how_of(code: u8) -> How
-    ensures { λ r. ⌜ r ≡ howOf code ⌝ }
+fn form_of(code: u8) -> Form
+    ensures { λ r. ⌜ r ≡ formOf code ⌝ }
 {
     match code {
-        0x03 => How::Element,
-        0x04 => How::Range,
-        _ => How::Length,
+        0x03 => Form::Subscript,
+        0x04 => Form::StartEnd,
+        _ => Form::PosLength,
     }
 }
 
@@ -254,7 +254,7 @@ fn other_step(
     ensures { λ r. ⌜ Leads (codeOf (now (unit .entry)) parts) (now (bytes .entry)) (now (es .entry)) i n (now (held .entry)) r ⌝ }
 {
     if code < 6 {
-        return reference_step(unit, parts, bytes, es, i, n, held, how_of(code));
+        return reference_step(unit, parts, bytes, es, i, n, held, form_of(code));
     }
     let item = unit_decode::operator_at(es, i, code);
     if let Item::Operator(op) = item {

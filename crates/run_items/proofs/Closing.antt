@@ -7,7 +7,7 @@ use Prim.Native.Nat.{ℕ, _+_, _-_}
 use native.Mathlib.Omega.{arith}
 use lib.Dec.{ltb, eqb}
 use lib.ListN.{length, getD}
-use Rattle.rules_unit.specs.declared.How.{How}
+use Rattle.rules_unit.specs.declared.Form.{Form}
 use Rattle.rules_unit.specs.declared.Op.{Op}
 use Rattle.rules_unit.specs.declared.Item.{Item}
 use Rattle.rules_unit.specs.declared.Item.the-variants as item
@@ -31,7 +31,7 @@ operator o = record { other = refl }
 bad : Other item.Bad
 bad = record { other = refl }
 
-reference : (s : List ℕ) (at : ℕ) (h : How) → Other (referenceAt s at h)
+reference : (s : List ℕ) (at : ℕ) (h : Form) → Other (referenceAt s at h)
 unfolding referenceAt
 reference s at h = either (ltb 2 (length s - at)) _ item.Bad (record { other = refl }) bad
 

@@ -18,10 +18,10 @@ use Rattle.rules.specs.Values.{readOf}
 use Rattle.rules.proofs.Signed.{op-plain}
 use Rattle.rules_unit.specs.declared.Parts.{Parts}
 use Rattle.rules_unit.specs.declared.Field.{Field}
-use Rattle.rules_unit.specs.declared.How.{How}
+use Rattle.rules_unit.specs.declared.Form.{Form}
 use Rattle.rules_unit.specs.Codes.{isDecimal}
 use Rattle.rules_unit.specs.Decode.{codeOf}
-use Rattle.rules_unit.specs.Expressions.{howTakes}
+use Rattle.rules_unit.specs.Expressions.{formTakes}
 use Rattle.rules_run.specs.declared.Span.{Span}
 use Rattle.rules_run.specs.declared.Span.the-variants.{At, Outside}
 use Rattle.rules_run.specs.declared.Worked.{Worked}
@@ -35,10 +35,10 @@ pub read-part : (limit sign l b a n : ℕ) (d : List ℕ) (r : Num) → l ≡ li
 read-part limit sign l b a n d r e f q = rw (e, f, add-sub-cancel-left a n) at q
 
 -- "it must stay inside the D bytes"
-pub found-inside : (size : ℕ) (entry : Field) (h : How) (x y : ℤ) (s : Span) (a n : ℕ) → s ≡ spanOf size entry h x y → s ≡ At a n → a + n ≤ size
+pub found-inside : (size : ℕ) (entry : Field) (h : Form) (x y : ℤ) (s : Span) (a n : ℕ) → s ≡ spanOf size entry h x y → s ≡ At a n → a + n ≤ size
 found-inside size entry h x y s a n e t = located.found-inside size entry h x y (sym e ∙ t)
 
-module _ (u : List ℕ) (p : Parts) (d : List ℕ) (h : How) (f : ℕ) (x y : ℤ) where
+module _ (u : List ℕ) (p : Parts) (d : List ℕ) (h : Form) (f : ℕ) (x y : ℤ) where
   pub reference-none : p .f ≤ f → Failed fault.Malformed ≡ reference (codeOf u p) d h f x y
   unfolding reference
   reference-none l = sym (rw (le-ltb f (p .f) l))
@@ -83,10 +83,10 @@ module _ (u : List ℕ) (p : Parts) (d : List ℕ) (h : How) (f : ℕ) (x y : �
       place-outside t = sym (place-as ∙ ap (asPlace (codeOf u p) f) t)
 
   -- n values are held, and the reference takes t
-  module _ (n k t : ℕ) (ek : k ≡ howTakes h) (et : t ≡ k) where
+  module _ (n k t : ℕ) (ek : k ≡ formTakes h) (et : t ≡ k) where
     pub place-bounds : (r : Worked) → SFits w64 x → SFits w64 y → n ≡ t → r ≡ placeBy (codeOf u p) d h f (toZ w64 (ofZ w64 x)) (toZ w64 (ofZ w64 y))
-        → r ≡ cond (eqb n (howTakes h)) (placeBy (codeOf u p) d h f x y) (worked.Failed fault.Malformed)
-    place-bounds r fx fy e q = rw (eq-eqb n (howTakes h) (e ∙ et ∙ ek)) (q ∙ op-plain (placeBy (codeOf u p) d h f) fx fy)
+        → r ≡ cond (eqb n (formTakes h)) (placeBy (codeOf u p) d h f x y) (worked.Failed fault.Malformed)
+    place-bounds r fx fy e q = rw (eq-eqb n (formTakes h) (e ∙ et ∙ ek)) (q ∙ op-plain (placeBy (codeOf u p) d h f) fx fy)
 
-    pub place-unbound : (n ≡ t → ⊥) → worked.Failed fault.Malformed ≡ cond (eqb n (howTakes h)) (placeBy (codeOf u p) d h f x y) (worked.Failed fault.Malformed)
-    place-unbound e = rw (ne-eqb n (howTakes h) (λ q. e (q ∙ sym (et ∙ ek))))
+    pub place-unbound : (n ≡ t → ⊥) → worked.Failed fault.Malformed ≡ cond (eqb n (formTakes h)) (placeBy (codeOf u p) d h f x y) (worked.Failed fault.Malformed)
+    place-unbound e = rw (ne-eqb n (formTakes h) (λ q. e (q ∙ sym (et ∙ ek))))

@@ -4,7 +4,7 @@ use rules::Fault;
 use rules::Num;
 use rules_run::Span;
 use rules_run::Worked;
-use rules_unit::How;
+use rules_unit::Form;
 use rules_unit::Op;
 use rules_unit::Parts;
 ghost use mathlib.Core.Path.{_≡_};
@@ -15,9 +15,9 @@ ghost use lib.IntN.{pos};
 ghost use lib.ListN.{length, getD, take, drop};
 ghost use Rattle.rules.specs.declared.Fault.the-variants as fault;
 ghost use Rattle.rules.specs.Values.{Val, Top, readOf};
-ghost use Rattle.rules_unit.specs.declared.How.the-variants as how;
+ghost use Rattle.rules_unit.specs.declared.Form.the-variants as form;
 ghost use Rattle.rules_unit.specs.Decode.{Fills, SoundDialect, codeOf};
-ghost use Rattle.rules_unit.specs.Expressions.{howTakes, textb};
+ghost use Rattle.rules_unit.specs.Expressions.{formTakes, textb};
 ghost use Rattle.rules_run.specs.declared.Worked.the-variants as worked;
 ghost use Rattle.rules_run.specs.Evaluation.{calc, literalNumber, reference, placeBy};
 ghost use Rattle.run_items.specs.Digits.{plainFrom};
@@ -92,7 +92,7 @@ pub fn read_reference(
     unit: &[u8],
     parts: Parts,
     bytes: &[u8],
-    how: How,
+    form: Form,
     field: u16,
     x: i64,
     y: i64,
@@ -102,7 +102,7 @@ pub fn read_reference(
     requires { ⌜ length (now bytes) < 65536 ⌝ }
     requires { ⌜ Val (10 ^ 18) x ⌝ }
     requires { ⌜ Val (10 ^ 18) y ⌝ }
-    ensures { λ r. ⌜ r ≡ reference (codeOf (now (unit .entry)) parts) (now (bytes .entry)) how field x y ⌝ }
+    ensures { λ r. ⌜ r ≡ reference (codeOf (now (unit .entry)) parts) (now (bytes .entry)) form field x y ⌝ }
 {
     if parts.f <= field {
         return Num::Failed(Fault::Malformed);
@@ -112,7 +112,7 @@ pub fn read_reference(
     if unit_decode::is_decimal(kind) {} else {
         return Num::Failed(Fault::Malformed);
     }
-    match run_spans::span_of(bytes.len(), entry, how, x, y) {
+    match run_spans::span_of(bytes.len(), entry, form, x, y) {
         Span::At { start, len } => read_at(parts, bytes, start, len),
         Span::Outside => Num::Failed(Fault::Outside),
     }
@@ -122,7 +122,7 @@ pub fn read_reference(
 pub fn read_first(unit: &[u8], parts: Parts, bytes: &[u8], field: u16) -> Num
     requires { ⌜ Fills (now unit) parts ⌝ }
     requires { ⌜ SoundDialect (parts .dialect) ⌝ }
-    ensures { λ r. ⌜ r ≡ reference (codeOf (now (unit .entry)) parts) (now (bytes .entry)) how.First field (pos 0) (pos 0) ⌝ }
+    ensures { λ r. ⌜ r ≡ reference (codeOf (now (unit .entry)) parts) (now (bytes .entry)) form.First field (pos 0) (pos 0) ⌝ }
 {
     if parts.f <= field {
         return Num::Failed(Fault::Malformed);
@@ -187,12 +187,20 @@ fn place_at(most: usize, decimal: bool, start: usize, len: usize) -> Worked
 }
 
 // A last reference: found, and not read. A decimal span over the digit limit is 20 all the same.
-fn place_by(unit: &[u8], parts: Parts, bytes: &[u8], how: How, field: u16, x: i64, y: i64) -> Worked
+fn place_by(
+    unit: &[u8],
+    parts: Parts,
+    bytes: &[u8],
+    form: Form,
+    field: u16,
+    x: i64,
+    y: i64,
+) -> Worked
     requires { ⌜ Fills (now unit) parts ⌝ }
     requires { ⌜ length (now bytes) < 65536 ⌝ }
     requires { ⌜ Val (10 ^ 18) x ⌝ }
     requires { ⌜ Val (10 ^ 18) y ⌝ }
-    ensures { λ r. ⌜ r ≡ placeBy (codeOf (now (unit .entry)) parts) (now (bytes .entry)) how field x y ⌝ }
+    ensures { λ r. ⌜ r ≡ placeBy (codeOf (now (unit .entry)) parts) (now (bytes .entry)) form field x y ⌝ }
 {
     if parts.f <= field {
         return Worked::Failed(Fault::Malformed);
@@ -201,7 +209,7 @@ fn place_by(unit: &[u8], parts: Parts, bytes: &[u8], how: How, field: u16, x: i6
     let kind = entry.kind;
     let decimal = unit_decode::is_decimal(kind);
     let most = unit_decode::long(parts.dialect.limit);
-    match run_spans::span_of(bytes.len(), entry, how, x, y) {
+    match run_spans::span_of(bytes.len(), entry, form, x, y) {
         Span::At { start, len } => place_at(most, decimal, start, len),
         Span::Outside => Worked::Failed(Fault::Outside),
     }
@@ -210,7 +218,7 @@ fn place_by(unit: &[u8], parts: Parts, bytes: &[u8], how: How, field: u16, x: i6
 // A last reference without bounds.
 pub fn place_first(unit: &[u8], parts: Parts, bytes: &[u8], field: u16) -> Worked
     requires { ⌜ Fills (now unit) parts ⌝ }
-    ensures { λ r. ⌜ r ≡ placeBy (codeOf (now (unit .entry)) parts) (now (bytes .entry)) how.First field (pos 0) (pos 0) ⌝ }
+    ensures { λ r. ⌜ r ≡ placeBy (codeOf (now (unit .entry)) parts) (now (bytes .entry)) form.First field (pos 0) (pos 0) ⌝ }
 {
     if parts.f <= field {
         return Worked::Failed(Fault::Malformed);
@@ -230,7 +238,7 @@ pub fn place_of(
     unit: &[u8],
     parts: Parts,
     bytes: &[u8],
-    how: How,
+    form: Form,
     field: u16,
     n: usize,
     x: i64,
@@ -240,11 +248,11 @@ pub fn place_of(
     requires { ⌜ length (now bytes) < 65536 ⌝ }
     requires { ⌜ Val (10 ^ 18) x ⌝ }
     requires { ⌜ Val (10 ^ 18) y ⌝ }
-    ensures { λ r. ⌜ r ≡ cond (eqb n (howTakes how)) (placeBy (codeOf (now (unit .entry)) parts) (now (bytes .entry)) how field x y) (worked.Failed fault.Malformed) ⌝ }
+    ensures { λ r. ⌜ r ≡ cond (eqb n (formTakes form)) (placeBy (codeOf (now (unit .entry)) parts) (now (bytes .entry)) form field x y) (worked.Failed fault.Malformed) ⌝ }
 {
-    let taken = unit_decode::long(unit_decode::how_takes(how));
+    let taken = unit_decode::long(unit_decode::form_takes(form));
     if n == taken {
-        return place_by(unit, parts, bytes, how, field, x, y);
+        return place_by(unit, parts, bytes, form, field, x, y);
     }
     Worked::Failed(Fault::Malformed)
 }

@@ -12,9 +12,9 @@ use mir.Val.{SFits, toZ, ofZ}
 use Rattle.rules.specs.Values.{Val, signed, isNeg}
 use Rattle.rules.proofs.Signed.{back, again, signed-abs, abs-zero}
 use Rattle.rules_unit.specs.declared.Field.{Field}
-use Rattle.rules_unit.specs.declared.How.{How}
-use Rattle.rules_unit.specs.declared.How.the-variants as how
-use Rattle.rules_run.specs.Spans.{within, elementSpan, rangeSpan, lengthSpan, spanOf}
+use Rattle.rules_unit.specs.declared.Form.{Form}
+use Rattle.rules_unit.specs.declared.Form.the-variants as form
+use Rattle.rules_run.specs.Spans.{within, subscriptSpan, startEndSpan, posLengthSpan, spanOf}
 
 -- ---- numbers
 
@@ -41,19 +41,19 @@ told-below v ek = omega (arith, again v .small)
 
 -- ---- a reference, by its bounds as a call gets them
 
-module _ (size : ℕ) (f : Field) (x y : ℤ) {h : How} where
-  pub span-whole : h ≡ how.First → within size (pos (f .offset)) (f .size) ≡ spanOf size f h x y
+module _ (size : ℕ) (f : Field) (x y : ℤ) {h : Form} where
+  pub span-whole : h ≡ form.First → within size (pos (f .offset)) (f .size) ≡ spanOf size f h x y
   unfolding spanOf
   span-whole e = rw e
 
-  pub span-element : h ≡ how.Element → SFits w64 x → elementSpan size (f .offset) (f .size) (toZ w64 (ofZ w64 x)) ≡ spanOf size f h x y
+  pub span-element : h ≡ form.Subscript → SFits w64 x → subscriptSpan size (f .offset) (f .size) (toZ w64 (ofZ w64 x)) ≡ spanOf size f h x y
   unfolding spanOf
   span-element e p = rw (e, back p)
 
-  pub span-range : h ≡ how.Range → SFits w64 x → SFits w64 y → rangeSpan size (f .offset) (toZ w64 (ofZ w64 x)) (toZ w64 (ofZ w64 y)) ≡ spanOf size f h x y
+  pub span-range : h ≡ form.StartEnd → SFits w64 x → SFits w64 y → startEndSpan size (f .offset) (toZ w64 (ofZ w64 x)) (toZ w64 (ofZ w64 y)) ≡ spanOf size f h x y
   unfolding spanOf
   span-range e p q = rw (e, back p, back q)
 
-  pub span-length : h ≡ how.Length → SFits w64 x → SFits w64 y → lengthSpan size (f .offset) (toZ w64 (ofZ w64 x)) (toZ w64 (ofZ w64 y)) ≡ spanOf size f h x y
+  pub span-length : h ≡ form.PosLength → SFits w64 x → SFits w64 y → posLengthSpan size (f .offset) (toZ w64 (ofZ w64 x)) (toZ w64 (ofZ w64 y)) ≡ spanOf size f h x y
   unfolding spanOf
   span-length e p q = rw (e, back p, back q)

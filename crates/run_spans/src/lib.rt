@@ -1,13 +1,13 @@
 // Finding the bytes that a reference names.
 use rules_run::Span;
 use rules_unit::Field;
-use rules_unit::How;
+use rules_unit::Form;
 ghost use mathlib.Core.Path.{_≡_};
 ghost use Prim.Native.Nat.{_+_, _*_, _^_, _<_, _≤_};
 ghost use lib.IntN.{pos, _-ℤ_};
 ghost use Rattle.rules.specs.Values.{Val};
-ghost use Rattle.rules_unit.specs.declared.How.the-variants as how;
-ghost use Rattle.rules_run.specs.Spans.{within, elementSpan, rangeSpan, lengthSpan, spanOf};
+ghost use Rattle.rules_unit.specs.declared.Form.the-variants as form;
+ghost use Rattle.rules_run.specs.Spans.{within, subscriptSpan, startEndSpan, posLengthSpan, spanOf};
 
 // The n bytes from a, where they lie inside size bytes, and Outside otherwise.
 fn inside(size: usize, a: usize, n: usize) -> Span
@@ -49,10 +49,10 @@ fn backward(size: usize, offset: usize, n: usize, k: usize) -> Span
 }
 
 // The element s, of n bytes. One of no bytes is where the field starts, whatever s is.
-fn element_span(size: usize, offset: usize, n: usize, s: i64) -> Span
+fn subscript_span(size: usize, offset: usize, n: usize, s: i64) -> Span
     requires { ⌜ (size < 65536) × (offset < 65536) × (n < 65536) ⌝ }
     requires { ⌜ Val (10 ^ 18) s ⌝ }
-    ensures { λ r. ⌜ r ≡ elementSpan size offset n s ⌝ }
+    ensures { λ r. ⌜ r ≡ subscriptSpan size offset n s ⌝ }
 {
     if n == 0 {
         return inside(size, offset, n);
@@ -68,11 +68,11 @@ fn element_span(size: usize, offset: usize, n: usize, s: i64) -> Span
 }
 
 // The bytes from s to e.
-fn range_span(size: usize, offset: usize, s: i64, e: i64) -> Span
+fn start_end_span(size: usize, offset: usize, s: i64, e: i64) -> Span
     requires { ⌜ offset < 65536 ⌝ }
     requires { ⌜ Val (10 ^ 18) s ⌝ }
     requires { ⌜ Val (10 ^ 18) e ⌝ }
-    ensures { λ r. ⌜ r ≡ rangeSpan size offset s e ⌝ }
+    ensures { λ r. ⌜ r ≡ startEndSpan size offset s e ⌝ }
 {
     if number::is_neg(s) {
         return Span::Outside;
@@ -92,11 +92,11 @@ fn range_span(size: usize, offset: usize, s: i64, e: i64) -> Span
 }
 
 // The n bytes from p on, or those that end at p where n is negative.
-fn length_span(size: usize, offset: usize, p: i64, n: i64) -> Span
+fn pos_length_span(size: usize, offset: usize, p: i64, n: i64) -> Span
     requires { ⌜ offset < 65536 ⌝ }
     requires { ⌜ Val (10 ^ 18) p ⌝ }
     requires { ⌜ Val (10 ^ 18) n ⌝ }
-    ensures { λ r. ⌜ r ≡ lengthSpan size offset p n ⌝ }
+    ensures { λ r. ⌜ r ≡ posLengthSpan size offset p n ⌝ }
 {
     if number::is_neg(p) {
         return Span::Outside;
@@ -120,24 +120,24 @@ fn length_span(size: usize, offset: usize, p: i64, n: i64) -> Span
 
 // The span of a reference without bounds, the field's first element, inside size bytes.
 pub fn first_span(size: usize, field: Field) -> Span
-    ensures { λ r. ⌜ r ≡ spanOf size field how.First (pos 0) (pos 0) ⌝ }
+    ensures { λ r. ⌜ r ≡ spanOf size field form.First (pos 0) (pos 0) ⌝ }
 {
     inside(size, field.offset as usize, field.size as usize)
 }
 
 // The span of a reference to a field with the bounds x and y, inside size bytes.
-pub fn span_of(size: usize, field: Field, how: How, x: i64, y: i64) -> Span
+pub fn span_of(size: usize, field: Field, form: Form, x: i64, y: i64) -> Span
     requires { ⌜ size < 65536 ⌝ }
     requires { ⌜ Val (10 ^ 18) x ⌝ }
     requires { ⌜ Val (10 ^ 18) y ⌝ }
-    ensures { λ r. ⌜ r ≡ spanOf size field how x y ⌝ }
+    ensures { λ r. ⌜ r ≡ spanOf size field form x y ⌝ }
 {
     let offset = field.offset as usize;
     let n = field.size as usize;
-    match how {
-        How::First => inside(size, offset, n),
-        How::Element => element_span(size, offset, n, x),
-        How::Range => range_span(size, offset, x, y),
-        How::Length => length_span(size, offset, x, y),
+    match form {
+        Form::First => inside(size, offset, n),
+        Form::Subscript => subscript_span(size, offset, n, x),
+        Form::StartEnd => start_end_span(size, offset, x, y),
+        Form::PosLength => pos_length_span(size, offset, x, y),
     }
 }

@@ -11,7 +11,7 @@ use Rattle.rules_unit.specs.declared.Dialect.{Dialect}
 use Rattle.rules_unit.specs.declared.Mark.the-variants as mark
 use Rattle.rules_unit.specs.declared.Parts.{Parts}
 use Rattle.rules_unit.specs.declared.Field.{Field}
-use Rattle.rules_unit.specs.declared.How.{How}
+use Rattle.rules_unit.specs.declared.Form.{Form}
 use Rattle.rules_unit.specs.declared.Item.the-variants as item
 use Rattle.rules_unit.specs.declared.Statement.{Statement}
 use Rattle.rules_unit.specs.declared.Act.{Act}
@@ -30,7 +30,7 @@ number-eq p p′ n n′ e f = cc
 pub text-eq : (p p′ n n′ : ℕ) → p ≡ p′ → n ≡ n′ → item.Text p n ≡ item.Text p′ n′
 text-eq p p′ n n′ e f = cc
 
-pub reference-eq : (h : How) (f f′ : ℕ) → f ≡ f′ → item.Reference h f ≡ item.Reference h f′
+pub reference-eq : (h : Form) (f f′ : ℕ) → f ≡ f′ → item.Reference h f ≡ item.Reference h f′
 reference-eq h f f′ e = cc
 
 -- A code that is none of those up to 6 is above 6.

@@ -3,7 +3,7 @@
 use rules_unit::Act;
 use rules_unit::Dialect;
 use rules_unit::Field;
-use rules_unit::How;
+use rules_unit::Form;
 use rules_unit::Item;
 use rules_unit::Kind;
 use rules_unit::Mark;
@@ -19,7 +19,7 @@ ghost use Prim.Native.Nat.{_+_, _*_, _<_, _≤_};
 ghost use lib.ListN.{length};
 ghost use Rattle.rules_unit.specs.declared.Verb.the-variants as verb;
 ghost use Rattle.rules_unit.specs.Codes.{isDecimal};
-ghost use Rattle.rules_unit.specs.Expressions.{opTakes, howTakes, takes};
+ghost use Rattle.rules_unit.specs.Expressions.{opTakes, formTakes, takes};
 ghost use Rattle.rules_unit.specs.Table.{verbOf, rowWith, rowOf};
 ghost use Rattle.rules_unit.specs.Decode.{Fills, wordAt, eighteen, markOf, dialectOf, partsOf, kindOf, fieldAt, referenceAt, numberAt, textAt, itemBy, itemAt, widthOf, statementAt, expressionsAt, literalsAt, statementsAt, fullLength, codeOf};
 
@@ -191,13 +191,13 @@ pub fn end_of(field: Field) -> usize
 // ---- expressions
 
 // The reference at an offset of the expressions s; Bad where their end cuts it.
-fn reference_at(s: &[u8], at: usize, how: How) -> Item
+fn reference_at(s: &[u8], at: usize, form: Form) -> Item
     requires { ⌜ at < length (now s) ⌝ }
-    ensures { λ r. ⌜ r ≡ referenceAt (now (s .entry)) at how ⌝ }
+    ensures { λ r. ⌜ r ≡ referenceAt (now (s .entry)) at form ⌝ }
 {
     if 2 < s.len() - at {
         Item::Reference {
-            how: how,
+            form: form,
             field: word(s, at + 1),
         }
     } else {
@@ -269,10 +269,10 @@ fn item_by(s: &[u8], at: usize, code: u8) -> Item
     match code {
         0x00 => Item::End,
         0x01 => number_at(s, at),
-        0x02 => reference_at(s, at, How::First),
-        0x03 => reference_at(s, at, How::Element),
-        0x04 => reference_at(s, at, How::Range),
-        0x05 => reference_at(s, at, How::Length),
+        0x02 => reference_at(s, at, Form::First),
+        0x03 => reference_at(s, at, Form::Subscript),
+        0x04 => reference_at(s, at, Form::StartEnd),
+        0x05 => reference_at(s, at, Form::PosLength),
         0x06 => text_at(s, at),
         _ => operator_at(s, at, code),
     }
@@ -294,7 +294,7 @@ pub fn width_of(item: Item) -> usize
 {
     match item {
         Item::Number { place: _, len: _ } => 4,
-        Item::Reference { how: _, field: _ } => 3,
+        Item::Reference { form: _, field: _ } => 3,
         Item::Text { place: _, len: _ } => 5,
         Item::Operator(_) => 1,
         Item::End => 1,
@@ -327,14 +327,14 @@ pub fn op_takes(op: Op) -> u16
 }
 
 // How many values a reference takes, as its bounds.
-pub fn how_takes(how: How) -> u16
-    ensures { λ r. ⌜ r ≡ howTakes how ⌝ }
+pub fn form_takes(form: Form) -> u16
+    ensures { λ r. ⌜ r ≡ formTakes form ⌝ }
 {
-    match how {
-        How::First => 0,
-        How::Element => 1,
-        How::Range => 2,
-        How::Length => 2,
+    match form {
+        Form::First => 0,
+        Form::Subscript => 1,
+        Form::StartEnd => 2,
+        Form::PosLength => 2,
     }
 }
 
@@ -344,7 +344,7 @@ pub fn takes_of(item: Item) -> u16
 {
     match item {
         Item::Number { place: _, len: _ } => 0,
-        Item::Reference { how, field: _ } => how_takes(how),
+        Item::Reference { form, field: _ } => form_takes(form),
         Item::Text { place: _, len: _ } => 0,
         Item::Operator(op) => op_takes(op),
         Item::End => 0,

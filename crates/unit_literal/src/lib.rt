@@ -27,7 +27,7 @@ fn last_text(s: &[u8], at: usize, from: usize, place: u16, len: u16) -> Stretch
     let item = unit_decode::item_at(s, at);
     match item {
         Item::Number { place: _, len: _ } => empty_stretch(),
-        Item::Reference { how: _, field: _ } => empty_stretch(),
+        Item::Reference { form: _, field: _ } => empty_stretch(),
         Item::Text { place: _, len: _ } => empty_stretch(),
         Item::Operator(_) => empty_stretch(),
         Item::End => Stretch {
@@ -46,7 +46,7 @@ fn lone_text(s: &[u8], at: usize, from: usize) -> Stretch
     let item = unit_decode::item_at(s, at);
     match item {
         Item::Number { place: _, len: _ } => empty_stretch(),
-        Item::Reference { how: _, field: _ } => empty_stretch(),
+        Item::Reference { form: _, field: _ } => empty_stretch(),
         Item::Text { place, len } => last_text(s, at + 5, from, place, len),
         Item::Operator(_) => empty_stretch(),
         Item::End => empty_stretch(),

@@ -6,7 +6,7 @@ use mathlib.Core.List.{List}
 use Prim.Native.Nat.{ℕ}
 use lib.Dec.{ltb}
 use Rattle.rules_unit.specs.declared.Parts.{Parts}
-use Rattle.rules_unit.specs.declared.How.{How}
+use Rattle.rules_unit.specs.declared.Form.{Form}
 use Rattle.rules_unit.specs.declared.Op.{Op}
 use Rattle.rules_unit.specs.declared.Item.{Item}
 use Rattle.rules_unit.specs.declared.Item.the-variants as item
@@ -19,7 +19,7 @@ module _ (u : List ℕ) (p : Parts) (i : Item) where
   pub number-rule : (place len : ℕ) (r : Bool) → i ≡ item.Number place len → r ≡ numberb (codeOf u p) place len → r ≡ itemb (codeOf u p) i
   number-rule place len r e q = rw e q
 
-  pub reference-rule : (h : How) (f : ℕ) → i ≡ item.Reference h f → ltb f (p .f) ≡ itemb (codeOf u p) i
+  pub reference-rule : (h : Form) (f : ℕ) → i ≡ item.Reference h f → ltb f (p .f) ≡ itemb (codeOf u p) i
   reference-rule h f e = rw e
 
   pub text-rule : (place len : ℕ) (r : Bool) → i ≡ item.Text place len → r ≡ textb (codeOf u p) place len → r ≡ itemb (codeOf u p) i
@@ -34,6 +34,6 @@ module _ (u : List ℕ) (p : Parts) (i : Item) where
   pub bad-rule : i ≡ item.Bad → false ≡ itemb (codeOf u p) i
   bad-rule e = rw e
 
-  pub reference-sort : (h : How) (f : ℕ) (r : Sort) → i ≡ item.Reference h f → r ≡ placeSort (isDecimal (codeOf u p .field f .kind))
+  pub reference-sort : (h : Form) (f : ℕ) (r : Sort) → i ≡ item.Reference h f → r ≡ placeSort (isDecimal (codeOf u p .field f .kind))
       → r ≡ sortOf (codeOf u p) i
   reference-sort h f r e q = rw e q

@@ -35,7 +35,7 @@ next-sort : (c : Code) (i : Item) (is : List Item) (n : ℕ) (k : Sort) → (i �
     sort.Wrong) sort.Wrong
 unfolding sortFrom
 next-sort c (item.Number place len) is n k h = refl
-next-sort c (item.Reference how field) is n k h = refl
+next-sort c (item.Reference m field) is n k h = refl
 next-sort c (item.Text place len) is n k h = refl
 next-sort c (item.Operator o) is n k h = refl
 next-sort c item.End is n k h = absurd (h refl)

@@ -71,7 +71,7 @@ fn item_good(unit: &[u8], parts: Parts, item: Item) -> bool
 {
     match item {
         Item::Number { place, len } => number_good(unit, parts, place, len),
-        Item::Reference { how: _, field } => field < parts.f,
+        Item::Reference { form: _, field } => field < parts.f,
         Item::Text { place, len } => text_good(unit, parts, place, len),
         Item::Operator(_) => true,
         Item::End => false,
@@ -105,7 +105,7 @@ fn sort_of(unit: &[u8], parts: Parts, item: Item) -> Sort
 {
     match item {
         Item::Number { place: _, len: _ } => Sort::Number,
-        Item::Reference { how: _, field } => field_sort(unit, parts, field),
+        Item::Reference { form: _, field } => field_sort(unit, parts, field),
         Item::Text { place: _, len: _ } => Sort::Text,
         Item::Operator(_) => Sort::Number,
         Item::End => Sort::Wrong,

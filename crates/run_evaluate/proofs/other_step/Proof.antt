@@ -6,8 +6,8 @@ use Rattle.run_evaluate.proofs.Steps.{bad-leads}
 use Rattle.run_evaluate.proofs.other_step.Statement.{statement}
 use Rattle.run_evaluate.proofs.other_step.Tie as tie
 
-how-of-requires : tie.Need-how-of-requires
-how-of-requires c κs = search needs
+form-of-requires : tie.Need-form-of-requires
+form-of-requires c κs = search needs
 
 reference-step-requires : tie.Need-reference-step-requires
 reference-step-requires c κs = (search needs, search bounds-item depth 3)
@@ -37,7 +37,7 @@ pub other-step-spec : {M : Type 1} → statement M
 other-step-spec =
     tie.close
     (tie.spec
-    how-of-requires
+    form-of-requires
     reference-step-requires
     returns
     operator-at-requires

@@ -38,8 +38,8 @@ place-of-requires c κs = (search needs, (search needs, (search held-val depth 2
 returns-2 : tie.Need-returns-2
 returns-2 c = search reference-place depth 3
 
-how-takes-requires : tie.Need-how-takes-requires
-how-takes-requires c κs = search needs
+form-takes-requires : tie.Need-form-takes-requires
+form-takes-requires c κs = search needs
 
 long-requires : tie.Need-long-requires
 long-requires c κs = search needs
@@ -98,7 +98,7 @@ reference-step-spec =
     element-copy-out-y
     place-of-requires
     returns-2
-    how-takes-requires
+    form-takes-requires
     long-requires
     malformed-requires-2
     returns-3

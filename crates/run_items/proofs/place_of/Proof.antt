@@ -6,8 +6,8 @@ use Rattle.run_items.proofs.Places.{place-bounds, place-unbound}
 use Rattle.run_items.proofs.place_of.Statement.{statement}
 use Rattle.run_items.proofs.place_of.Tie as tie
 
-how-takes-requires : tie.Need-how-takes-requires
-how-takes-requires c κs = search needs
+form-takes-requires : tie.Need-form-takes-requires
+form-takes-requires c κs = search needs
 
 long-requires : tie.Need-long-requires
 long-requires c κs = search needs
@@ -23,4 +23,4 @@ returns-2 c = search place-unbound depth 3
 
 pub place-of-spec : {M : Type 1} → statement M
 place-of-spec =
-    tie.close (tie.spec how-takes-requires long-requires place-by-requires returns returns-2)
+    tie.close (tie.spec form-takes-requires long-requires place-by-requires returns returns-2)

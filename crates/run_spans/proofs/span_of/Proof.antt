@@ -21,20 +21,20 @@ inside-requires c κs = search needs
 enum-told-2 : tie.Need-enum-told-2
 enum-told-2 c = search needs
 
-element-span-requires : tie.Need-element-span-requires
-element-span-requires c κs = search needs
+subscript-span-requires : tie.Need-subscript-span-requires
+subscript-span-requires c κs = search needs
 
 enum-told-3 : tie.Need-enum-told-3
 enum-told-3 c = search needs
 
-range-span-requires : tie.Need-range-span-requires
-range-span-requires c κs = search needs
+start-end-span-requires : tie.Need-start-end-span-requires
+start-end-span-requires c κs = search needs
 
 enum-told-4 : tie.Need-enum-told-4
 enum-told-4 c = search needs
 
-length-span-requires : tie.Need-length-span-requires
-length-span-requires c κs = search needs
+pos-length-span-requires : tie.Need-pos-length-span-requires
+pos-length-span-requires c κs = search needs
 
 returns : tie.Need-returns
 returns c =
@@ -45,20 +45,20 @@ returns-2 : tie.Need-returns-2
 returns-2 c =
     let s = c .before .before .before .before .before .args in
     let f = c .before .before .before .before .before .fits in
-    c .element-span .ensures ∙ span-element (s .size) (s .field) (s .x) (s .y) (c .before .enum-told2 .given .1) (f .x)
+    c .subscript-span .ensures ∙ span-element (s .size) (s .field) (s .x) (s .y) (c .before .enum-told2 .given .1) (f .x)
 
 returns-3 : tie.Need-returns-3
 returns-3 c =
     let s = c .before .before .before .before .before .args in
     let f = c .before .before .before .before .before .fits in
-    c .range-span .ensures ∙ span-range (s .size) (s .field) (s .x) (s .y) (c .before .enum-told3 .given .1) (f .x) (f .y)
+    c .start-end-span .ensures ∙ span-range (s .size) (s .field) (s .x) (s .y) (c .before .enum-told3 .given .1) (f .x) (f .y)
 
 returns-4 : tie.Need-returns-4
 returns-4 c =
     let s = c .before .before .before .before .before .args in
     let f = c .before .before .before .before .before .fits in
-    c .length-span .ensures ∙ span-length (s .size) (s .field) (s .x) (s .y) (c .before .enum-told4 .given .1) (f .x) (f .y)
+    c .pos-length-span .ensures ∙ span-length (s .size) (s .field) (s .x) (s .y) (c .before .enum-told4 .given .1) (f .x) (f .y)
 
 pub span-of-spec : {M : Type 1} → statement M
 span-of-spec =
-    tie.close (tie.spec cast-offset cast-n enum-told inside-requires enum-told-2 element-span-requires enum-told-3 range-span-requires enum-told-4 length-span-requires returns returns-2 returns-3 returns-4)
+    tie.close (tie.spec cast-offset cast-n enum-told inside-requires enum-told-2 subscript-span-requires enum-told-3 start-end-span-requires enum-told-4 pos-length-span-requires returns returns-2 returns-3 returns-4)

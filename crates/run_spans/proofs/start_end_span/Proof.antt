@@ -1,4 +1,4 @@
--- `run_spans::range_span` meets its contract: bounds that are none are told by their signs and their order, and all others count from the field's start.
+-- `run_spans::start_end_span` meets its contract: bounds that are none are told by their signs and their order, and all others count from the field's start.
 -- Assumes nothing.
 use mathlib.Core.Path.{_≡_, _∙_, ap}
 use lib.IntN.{pos}
@@ -8,8 +8,8 @@ use native.Mathlib.Omega.{arith}
 use Rattle.rules.proofs.Signed.{again}
 use Rattle.rules_run.proofs.Located.{range-low, range-turned, range-end, range-is}
 use Rattle.run_spans.proofs.Finding.{told, told-none, told-below}
-use Rattle.run_spans.proofs.range_span.Statement.{statement}
-use Rattle.run_spans.proofs.range_span.Tie as tie
+use Rattle.run_spans.proofs.start_end_span.Statement.{statement}
+use Rattle.run_spans.proofs.start_end_span.Tie as tie
 
 -- the function's entry, and what the calls tell of the bounds
 abbrev entry : (c : tie.After-magnitude2) → tie.Start
@@ -79,6 +79,6 @@ returns-5 c =
     let s = entry m .args in
     c .inside .ensures ∙ range-is (s .size) (s .offset) (first m) (last m) (omega arith) (omega arith)
 
-pub range-span-spec : {M : Type 1} → statement M
-range-span-spec =
+pub start-end-span-spec : {M : Type 1} → statement M
+start-end-span-spec =
     tie.close (tie.spec is-neg-requires returns is-neg-requires-2 returns-2 magnitude-requires magnitude-requires-2 returns-3 returns-4 sub-inside add-inside add-inside-2 inside-requires returns-5)

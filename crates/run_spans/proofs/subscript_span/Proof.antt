@@ -1,4 +1,4 @@
--- `run_spans::element_span` meets its contract: the sign of s says on which side of the field's start its element stands.
+-- `run_spans::subscript_span` meets its contract: the sign of s says on which side of the field's start its element stands.
 -- Assumes nothing.
 use mathlib.Core.Path.{_≡_, _∙_, ap}
 use lib.IntN.{pos, negℤ}
@@ -7,8 +7,8 @@ use native.Mathlib.Omega.{arith}
 use Rattle.rules.proofs.Signed.{again}
 use Rattle.rules_run.proofs.Located.{element-none, element-up, element-down}
 use Rattle.run_spans.proofs.Finding.{told, told-below}
-use Rattle.run_spans.proofs.element_span.Statement.{statement}
-use Rattle.run_spans.proofs.element_span.Tie as tie
+use Rattle.run_spans.proofs.subscript_span.Statement.{statement}
+use Rattle.run_spans.proofs.subscript_span.Tie as tie
 
 -- the function's entry, and what the two calls tell of s
 abbrev entry : (c : tie.After-is-neg) → tie.Start
@@ -69,6 +69,6 @@ returns-4 c =
     let s = entry (p .before) .args in
     c .forward .ensures ∙ element-up (s .size) (s .offset) (s .n) (up p) (omega arith)
 
-pub element-span-spec : {M : Type 1} → statement M
-element-span-spec =
+pub subscript-span-spec : {M : Type 1} → statement M
+subscript-span-spec =
     tie.close (tie.spec inside-requires returns magnitude-requires is-neg-requires add-backward backward-requires returns-2 backward-requires-2 returns-3 sub-forward forward-requires returns-4)

@@ -1,4 +1,4 @@
--- `run_spans::length_span` meets its contract: bounds that are none are told by their signs, and the sign of n says whether p is the first byte or the last.
+-- `run_spans::pos_length_span` meets its contract: bounds that are none are told by their signs, and the sign of n says whether p is the first byte or the last.
 -- Assumes nothing.
 use mathlib.Core.Path.{_≡_, _∙_, ap}
 use Prim.Native.Nat.{_+_}
@@ -9,8 +9,8 @@ use native.Mathlib.Omega.{arith}
 use Rattle.rules.proofs.Signed.{again}
 use Rattle.rules_run.proofs.Located.{before, after, length-low, length-none, length-up, length-down}
 use Rattle.run_spans.proofs.Finding.{told, told-none, told-zero, told-below}
-use Rattle.run_spans.proofs.length_span.Statement.{statement}
-use Rattle.run_spans.proofs.length_span.Tie as tie
+use Rattle.run_spans.proofs.pos_length_span.Statement.{statement}
+use Rattle.run_spans.proofs.pos_length_span.Tie as tie
 
 -- the function's entry, and what the calls tell of the bounds
 abbrev entry : (c : tie.After-magnitude2) → tie.Start
@@ -102,6 +102,6 @@ returns-6 c =
     let s = entry m .args in
     c .inside2 .ensures ∙ length-up (s .size) (s .offset) (place m) (up (c .before)) (omega arith) (omega arith)
 
-pub length-span-spec : {M : Type 1} → statement M
-length-span-spec =
+pub pos-length-span-spec : {M : Type 1} → statement M
+pos-length-span-spec =
     tie.close (tie.spec is-neg-requires returns magnitude-requires magnitude-requires-2 returns-2 returns-3 is-neg-requires-2 add-if5 returns-4 add-inside sub-inside inside-requires returns-5 sub-inside-2 add-inside-2 inside-requires-2 returns-6)
