@@ -52,6 +52,13 @@ pub fn is_neg(v: i64) -> bool
     v < 0
 }
 
+// A byte as a number that a sum may be made with.
+pub fn of_byte(x: u8) -> u64
+    ensures { λ r. ⌜ r ≡ x ⌝ }
+{
+    x as u64
+}
+
 // A number without its sign. The bound leaves room for a sum of two values.
 pub fn magnitude(v: i64) -> u64
     requires { ⌜ natAbs v ≤ 2 * 10 ^ 18 ⌝ }

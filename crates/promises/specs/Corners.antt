@@ -31,7 +31,7 @@ use Rattle.rules_run.specs.Evaluation.{digitsFrom, literalNumber, reference, st
 use Rattle.rules_run.specs.States.{returnsb, soundb}
 use Rattle.rules_run.specs.Turns as turns
 use Rattle.promises.specs.Rows.{number, text, stop, Row, _is_, AllHold, limit, top, sign, bytes, minus, answer, into, AM, NZ, NUM, expression, element, range, forth, back}
-use Rattle.promises.specs.Samples.{named, cleared, read, of-one, of-two, wide, sound, parts}
+use Rattle.promises.specs.Samples.{named, cleared, read, of-one, of-two, of-forty, sound, parts}
 
 -- ---- values, moves and arithmetic
 
@@ -178,12 +178,12 @@ references =
     ∷ expression (forth NZ 1 24) is stop 21
     ∷ expression (range NUM 10 10) is number (pos 0)
     -- "A decimal span of more than 18 characters then gives 20"
-    ∷ wide (range 0 1 18) is number (pos 111111111111111111)
-    ∷ wide (range 0 1 19) is stop 20
+    ∷ of-forty (range 0 1 18) is number (pos 111111111111111111)
+    ∷ of-forty (range 0 1 19) is stop 20
     -- a reference that is not last is read
     ∷ expression (range NUM 4 8 ++ (item.Operator op.Negate ∷ [])) is number (minus 45678)
     ∷ expression (range NUM 10 11 ++ (item.Operator op.Negate ∷ [])) is stop 21
-    ∷ wide (range 0 1 19 ++ (item.Operator op.Negate ∷ [])) is stop 20
+    ∷ of-forty (range 0 1 19 ++ (item.Operator op.Negate ∷ [])) is stop 20
     ∷ []
 
 pub references-hold : AllHold references

@@ -240,8 +240,8 @@ abbrev pub of-two : ℕ → ℕ → ℕ → Answer
 of-two o x y = bare (itemsAt (1 ∷ 0 ∷ 2 * x ∷ 2 ∷ 1 ∷ 0 ∷ 2 * y ∷ 2 ∷ o ∷ 0 ∷ []) 0)
 
 -- A decimal of 10 characters before 30 other bytes.
-abbrev pub wide : List Item → Answer
-wide list = accessed (unitOver 40 1 (λ f. record { kind = kind.Decimal; zero = 0; offset = 0; size = 10; count = 1 }) (λ e. [])) (replicate 40 49) list
+abbrev pub of-forty : List Item → Answer
+of-forty list = accessed (unitOver 40 1 (λ f. record { kind = kind.Decimal; zero = 0; offset = 0; size = 10; count = 1 }) (λ e. [])) (replicate 40 49) list
 
 -- Of a unit of 9 statements: a state at the statement given, with the calls given, all to the number given, and zeros behind them.
 abbrev pub sound : ℕ → ℕ → ℕ → ℕ → Bool

@@ -17,7 +17,7 @@ use borrow.Author.Tests.{ltb-true, leb-true, lt-ltb, le-ltb, le-leb, lt-leb}
 use Rattle.rules.proofs.Tests.{both}
 use Rattle.rules.specs.Tests.{_&&_}
 use Rattle.rules.specs.declared.Num.the-variants.{Value}
-use Rattle.rules.specs.Values.{Letters, signed, isNeg, isFrom, Valid, lastOf, readFrom, readOf}
+use Rattle.rules.specs.Values.{Letters, signed, isNeg, isFrom, Valid, lastDigit, readFrom, readOf}
 use Rattle.rules.specs.Moves.{placed, zeroAt, digitAt, written, shownAt, width, shown, fitted, upper, lower, upcased, locased, blanks, zeros}
 use Rattle.rules.proofs.Signed.{pow-pos10}
 use Rattle.rules.proofs.Valid.{reads-valid}
@@ -98,7 +98,7 @@ sign-kept true zero = refl
 sign-kept true (suc x) = rw (lt-ltb 0 (suc x) (omega arith))
 
 module _ {sign : ℕ} (letters : Letters sign) where
-  read-one : (t : Bool) (acc d : ℕ) → d < 10 → lastOf sign acc (cond t sign 48 + d) ≡ Value (signed t (acc * 10 + d))
+  read-one : (t : Bool) (acc d : ℕ) → d < 10 → lastDigit sign acc (cond t sign 48 + d) ≡ Value (signed t (acc * 10 + d))
   read-one true acc d h = simp (from-high 48 (sign + d) (omega (arith, letters .above)), from-yes sign (sign + d) (omega arith) (omega arith), add-sub-cancel-left)
   read-one false acc d h = simp (from-yes 48 (48 + d) (omega arith) (omega arith), add-sub-cancel-left)
 

@@ -12,7 +12,7 @@ use Rattle.rules.specs.declared.Num.the-variants.{Value}
 use Rattle.rules.specs.Values.{Val, Top, signed, isNeg}
 use Rattle.rules.specs.Arithmetic.{kept}
 use Rattle.rules.specs.Moves.{placed, widthFrom, width, shownAt, shown, alphaFrom, alphaOf}
-use Rattle.rules.proofs.Signed.{signed-abs, wide}
+use Rattle.rules.proofs.Signed.{signed-abs, val-any}
 use Rattle.rules.proofs.Decimals.{from-yes, next-digit}
 
 -- ---- "shortest digits"
@@ -77,7 +77,7 @@ pub shown-reads : {top : ℕ} (n : ℕ) (v : ℤ) → Top top → Val top v → 
 shown-reads {top} n v t h r =
     let m = natAbs v in
     let w = width m in
-    let e : 0 * 10 ^ w + m % 10 ^ w ≡ m = omega (arith, mod-eq-of-lt (width-shortest m (wide t h .small) .enough)) in
+    let e : 0 * 10 ^ w + m % 10 ^ w ≡ m = omega (arith, mod-eq-of-lt (width-shortest m (val-any t h .small) .enough)) in
     spaces-read top (isNeg v) m w n (omega arith)
     ∙ digits-read top (isNeg v) m w (isNeg v) w 0 (omega arith)
     ∙ ap (λ (x : ℕ). kept top (signed (isNeg v) x)) e

@@ -132,8 +132,8 @@ abs-zero (pos n) e = ap pos e
 abs-zero (negsuc n) e = absurd (omega arith)
 
 -- a value of any dialect is one that these operations take
-pub wide : {top : ℕ} {z : ℤ} → Top top → Val top z → Val (10 ^ 18) z
-wide t v = record { small = omega (arith, v .small, t .most) }
+pub val-any : {top : ℕ} {z : ℤ} → Top top → Val top z → Val (10 ^ 18) z
+val-any t v = record { small = omega (arith, v .small, t .most) }
 
 -- the powers of ten that a number's digits need
 pub pow-pos10 : (k : ℕ) → 0 < 10 ^ k

@@ -70,14 +70,14 @@ pub record Valid (limit sign : ℕ) (s : List ℕ) : Type 0 where
   pub last : (isFrom 48 (getD s (length s - 1) 0) ≡ true) ⊎ (isFrom sign (getD s (length s - 1) 0) ≡ true)
 
 -- The last character b, after the digits of acc: "p to y for a negative number ending in 0 to 9"; "a stored "0p" reads as 0".
-abbrev pub lastOf : ℕ → ℕ → ℕ → Num
-lastOf sign acc b =
+abbrev pub lastDigit : ℕ → ℕ → ℕ → Num
+lastDigit sign acc b =
     cond (isFrom 48 b) (Value (pos (acc * 10 + (b - 48))))
     (cond (isFrom sign b) (Value (signed true (acc * 10 + (b - sign)))) (Failed fault.BadDigit))
 
 -- The character b and those after it, after the digits of acc.
 unfoldable pub readFrom : ℕ → ℕ → ℕ → List ℕ → Num
-readFrom sign acc b [] = lastOf sign acc b
+readFrom sign acc b [] = lastDigit sign acc b
 readFrom sign acc b (x ∷ xs) =
     let more = readFrom sign (acc * 10 + (b - 48)) x xs in cond (isFrom 48 b) more (Failed fault.BadDigit)
 

@@ -1,5 +1,5 @@
 -- A fenced reference (document 01, "Fence rules"): the values held give its fixed span, and where it is last it names that span.
---   Held s st                      the bounds s are the values held last
+--   HeldAs s st                    the bounds s are the values held last
 --   PlaceOk c dest span t a n      n bytes from a on are the span, that of a fenced reference to a field which is decimal as t says
 --   WorkedOk c dest span w         what a fenced expression may come to, where its last reference has that span
 -- Assumes nothing.
@@ -29,13 +29,13 @@ use Rattle.rules_fence.specs.Bounds.{fixedSpan}
 use Rattle.rules_fence.specs.Fence.{SpanFenced, SpanKept}
 use Rattle.rules_fence.proofs.Mild.{mildb}
 
-abbrev pub Held : Seen → List ℤ → Type 0
-Held seen.Nothing st = Unit {0}
-Held (seen.One y plain) [] = ⊥
-Held (seen.One y plain) (v ∷ st) = v ≡ y
-Held (seen.Two x y plain) [] = ⊥
-Held (seen.Two x y plain) (v ∷ []) = ⊥
-Held (seen.Two x y plain) (v ∷ (w ∷ st)) = (v ≡ y) × (w ≡ x)
+abbrev pub HeldAs : Seen → List ℤ → Type 0
+HeldAs seen.Nothing st = Unit {0}
+HeldAs (seen.One y plain) [] = ⊥
+HeldAs (seen.One y plain) (v ∷ st) = v ≡ y
+HeldAs (seen.Two x y plain) [] = ⊥
+HeldAs (seen.Two x y plain) (v ∷ []) = ⊥
+HeldAs (seen.Two x y plain) (v ∷ (w ∷ st)) = (v ≡ y) × (w ≡ x)
 
 pub record PlaceOk (c : Code) (dest : Bool) (span : Span) (decimal : Bool) (a n : ℕ) : Type 0 where
   pub field : ℕ
@@ -59,7 +59,7 @@ module _ (c : Code) (s : SoundCode c) (d : List ℕ) (e : length d ≡ c .size) 
   fixed-whole f b = rw e
 
   module _ (dest : Bool) (f : ℕ) where
-    pub fixed-element : (b : Seen) (x : ℤ) (st : List ℤ) → SpanKept c dest f (fixedSpan c form.Subscript f b) → Held b (x ∷ st)
+    pub fixed-element : (b : Seen) (x : ℤ) (st : List ℤ) → SpanKept c dest f (fixedSpan c form.Subscript f b) → HeldAs b (x ∷ st)
         → fixedSpan c form.Subscript f b ≡ spanOf (length d) (c .field f) form.Subscript x (pos 0)
     unfolding fixedSpan
     fixed-element seen.Nothing x st r q = absurd r
@@ -67,14 +67,14 @@ module _ (c : Code) (s : SoundCode c) (d : List ℕ) (e : length d ≡ c .size) 
     fixed-element (seen.Two w y plain) x [] r q = absurd q
     fixed-element (seen.Two w y plain) x (z ∷ st) r q = rw (e, q .0)
 
-    pub fixed-range : (b : Seen) (y x : ℤ) (st : List ℤ) → SpanKept c dest f (fixedSpan c form.StartEnd f b) → Held b (y ∷ (x ∷ st))
+    pub fixed-range : (b : Seen) (y x : ℤ) (st : List ℤ) → SpanKept c dest f (fixedSpan c form.StartEnd f b) → HeldAs b (y ∷ (x ∷ st))
         → fixedSpan c form.StartEnd f b ≡ spanOf (length d) (c .field f) form.StartEnd x y
     unfolding fixedSpan
     fixed-range seen.Nothing y x st r q = absurd r
     fixed-range (seen.One z plain) y x st r q = absurd r
     fixed-range (seen.Two w z plain) y x st r q = rw (e, q .0, q .1)
 
-    pub fixed-length : (b : Seen) (y x : ℤ) (st : List ℤ) → SpanKept c dest f (fixedSpan c form.PosLength f b) → Held b (y ∷ (x ∷ st))
+    pub fixed-length : (b : Seen) (y x : ℤ) (st : List ℤ) → SpanKept c dest f (fixedSpan c form.PosLength f b) → HeldAs b (y ∷ (x ∷ st))
         → fixedSpan c form.PosLength f b ≡ spanOf (length d) (c .field f) form.PosLength x y
     unfolding fixedSpan
     fixed-length seen.Nothing y x st r q = absurd r
@@ -104,7 +104,7 @@ module _ (c : Code) (s : SoundCode c) (d : List ℕ) (e : length d ≡ c .size) 
           by true p = rw (← q) (as-place span (ltb-true f (c .fields) p) q r)
           by false p = refl
 
-    pub place-ok : (h : Form) (b : Seen) (st : List ℤ) → SpanKept c dest f (fixedSpan c h f b) → Held b st → WorkedOk c dest (fixedSpan c h f b) (place c d h f st)
+    pub place-ok : (h : Form) (b : Seen) (st : List ℤ) → SpanKept c dest f (fixedSpan c h f b) → HeldAs b st → WorkedOk c dest (fixedSpan c h f b) (place c d h f st)
     unfolding place
     place-ok form.First b [] r t = place-by form.First (pos 0) (pos 0) (fixedSpan c form.First f b) (fixed-whole f b) r
     place-ok form.First b (x ∷ st) r t = refl

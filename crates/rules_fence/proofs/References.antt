@@ -29,7 +29,7 @@ use Rattle.rules_fence.specs.Fence.{SpanKept}
 use Rattle.rules_fence.specs.Destinations.{AllValid}
 use Rattle.rules_fence.proofs.Elements.{span-reads}
 use Rattle.rules_fence.proofs.Mild.{mildb, mildNum, mild-value, Mild}
-use Rattle.rules_fence.proofs.Places.{Held, fixed-whole, fixed-element, fixed-range, fixed-length}
+use Rattle.rules_fence.proofs.Places.{HeldAs, fixed-whole, fixed-element, fixed-range, fixed-length}
 
 module _ (c : Code) (s : SoundCode c) (d : List ℕ) (e : length d ≡ c .size) (v : AllValid c d) (f : ℕ) where
   ref-mild : (h : Form) (x y : ℤ) (span : Span) → span ≡ spanOf (length d) (c .field f) h x y → SpanKept c false f span → mildNum false (reference c d h f x y) ≡ true
@@ -46,7 +46,7 @@ module _ (c : Code) (s : SoundCode c) (d : List ℕ) (e : length d ≡ c .size) 
       by true false p o = refl
       by false u p o = refl
 
-  pub ref-step : (P : Worked → Type 0) → Mild P → (h : Form) (b : Seen) (st : List ℤ) (k : List ℤ → Worked) → SpanKept c false f (fixedSpan c h f b) → Held b st
+  pub ref-step : (P : Worked → Type 0) → Mild P → (h : Form) (b : Seen) (st : List ℤ) (k : List ℤ → Worked) → SpanKept c false f (fixedSpan c h f b) → HeldAs b st
       → ((st′ : List ℤ) → P (k st′)) → P (onHeld (stepBy (formTakes h) (apply c d (item.Reference h f)) st) k)
   unfolding stepBy
   ref-step P w form.First b st k r t g =

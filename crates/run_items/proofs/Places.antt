@@ -1,14 +1,14 @@
 -- References: a field that there is, the span that its bounds name, and what is answered of it, read or as a place. The values passed on are bits.
 -- Assumes nothing.
 use mathlib.Core.Path.{_≡_, sym, ap, _∙_}
-use mathlib.Core.Bool.{Bool, true, false, cond}
+use mathlib.Core.Bool.{Bool, true, false, cond, not}
 use mathlib.Core.List.{List}
 use Prim.Native.Nat.{ℕ, _+_, _-_, _≤_, _<_}
 use native.Mathlib.Nat.{add-sub-cancel-left}
 use lib.Dec.{ltb, eqb}
 use lib.IntN.{ℤ}
 use lib.ListN.{length, take, drop}
-use borrow.Author.Tests.{lt-ltb, le-ltb, eq-eqb, ne-eqb}
+use borrow.Author.Tests.{lt-ltb, le-ltb, eq-eqb, ne-eqb, not-true, not-false}
 use mir.Syntax.{w64}
 use mir.Val.{SFits, toZ, ofZ}
 use Rattle.rules.specs.declared.Num.{Num}
@@ -52,9 +52,9 @@ module _ (u : List ℕ) (p : Parts) (d : List ℕ) (h : Form) (f : ℕ) (x y : �
     kind : isDecimal (codeOf u p .field f .kind) ≡ decimal
     kind = ap (λ (g : Field). isDecimal (g .kind)) (sym ee) ∙ sym ed
 
-    pub reference-alpha : decimal ≡ false → Failed fault.Malformed ≡ reference (codeOf u p) d h f x y
+    pub reference-alpha : not decimal ≡ true → Failed fault.Malformed ≡ reference (codeOf u p) d h f x y
     unfolding reference
-    reference-alpha e = sym (rw (lt-ltb f (p .f) there, kind, e))
+    reference-alpha e = sym (rw (lt-ltb f (p .f) there, kind, not-true decimal e))
 
     module _ (fx : SFits w64 x) (fy : SFits w64 y) (s : Span) (es : s ≡ spanOf (length d) entry h (toZ w64 (ofZ w64 x)) (toZ w64 (ofZ w64 y))) where
       span : spanOf (length d) (codeOf u p .field f) h x y ≡ s
@@ -64,11 +64,11 @@ module _ (u : List ℕ) (p : Parts) (d : List ℕ) (h : Form) (f : ℕ) (x y : �
       unfolding reference
       read-as e = rw (lt-ltb f (p .f) there, kind, e, span)
 
-      pub reference-read : (a n : ℕ) (r : Num) → decimal ≡ true → s ≡ At a n → r ≡ readOf (p .dialect .limit) (p .dialect .sign) (take n (drop a d)) → r ≡ reference (codeOf u p) d h f x y
-      reference-read a n r e t q = q ∙ sym (read-as e ∙ ap (readSpan (codeOf u p) d) t)
+      pub reference-read : (a n : ℕ) (r : Num) → not decimal ≡ false → s ≡ At a n → r ≡ readOf (p .dialect .limit) (p .dialect .sign) (take n (drop a d)) → r ≡ reference (codeOf u p) d h f x y
+      reference-read a n r e t q = q ∙ sym (read-as (not-false decimal e) ∙ ap (readSpan (codeOf u p) d) t)
 
-      pub reference-outside : decimal ≡ true → s ≡ Outside → Failed fault.Outside ≡ reference (codeOf u p) d h f x y
-      reference-outside e t = sym (read-as e ∙ ap (readSpan (codeOf u p) d) t)
+      pub reference-outside : not decimal ≡ false → s ≡ Outside → Failed fault.Outside ≡ reference (codeOf u p) d h f x y
+      reference-outside e t = sym (read-as (not-false decimal e) ∙ ap (readSpan (codeOf u p) d) t)
 
       place-as : placeBy (codeOf u p) d h f x y ≡ asPlace (codeOf u p) f s
       unfolding placeBy

@@ -22,13 +22,6 @@ ghost use Rattle.rules_run.specs.declared.Worked.the-variants as worked;
 ghost use Rattle.rules_run.specs.Evaluation.{calc, literalNumber, reference, placeBy};
 ghost use Rattle.run_items.specs.Digits.{plainFrom};
 
-// A byte as a number that a sum may be made with.
-fn wide(x: u8) -> u64
-    ensures { λ r. ⌜ r ≡ x ⌝ }
-{
-    x as u64
-}
-
 // The number that plain digits make; Malformed where a character is none.
 fn plain_number(s: &[u8]) -> Num
     requires { ⌜ length (now s) ≤ 18 ⌝ }
@@ -37,7 +30,7 @@ fn plain_number(s: &[u8]) -> Num
     let mut acc: u64 = 0;
     let mut i = 0;
     while i < s.len() {
-        let b = wide(s[i]);
+        let b = number::of_byte(s[i]);
         if b < 48 {
             return Num::Failed(Fault::Malformed);
         }
@@ -82,7 +75,7 @@ pub fn read_at(parts: Parts, bytes: &[u8], start: usize, len: usize) -> Num
     let end = start + len;
     text::read(
         unit_decode::long(parts.dialect.limit),
-        wide(parts.dialect.sign),
+        number::of_byte(parts.dialect.sign),
         &bytes[start..end],
     )
 }
@@ -109,7 +102,7 @@ pub fn read_reference(
     }
     let entry = unit_decode::field(unit, parts, field);
     let kind = entry.kind;
-    if unit_decode::is_decimal(kind) {} else {
+    if !unit_decode::is_decimal(kind) {
         return Num::Failed(Fault::Malformed);
     }
     match run_spans::span_of(bytes.len(), entry, form, x, y) {
@@ -129,7 +122,7 @@ pub fn read_first(unit: &[u8], parts: Parts, bytes: &[u8], field: u16) -> Num
     }
     let entry = unit_decode::field(unit, parts, field);
     let kind = entry.kind;
-    if unit_decode::is_decimal(kind) {} else {
+    if !unit_decode::is_decimal(kind) {
         return Num::Failed(Fault::Malformed);
     }
     match run_spans::first_span(bytes.len(), entry) {
@@ -169,7 +162,7 @@ pub fn calculate(top: u64, op: Op, x: i64, y: i64) -> Num
 fn place_at(most: usize, decimal: bool, start: usize, len: usize) -> Worked
     ensures { λ r. ⌜ r ≡ cond decimal (cond (ltb most len) (worked.Failed fault.TooLong) (worked.Place true start len)) (worked.Place false start len) ⌝ }
 {
-    if decimal {} else {
+    if !decimal {
         return Worked::Place {
             decimal: false,
             start: start,
@@ -262,7 +255,7 @@ pub fn text_of(unit: &[u8], parts: Parts, place: u16, len: u16, n: usize) -> Wor
     requires { ⌜ Fills (now unit) parts ⌝ }
     ensures { λ r. ⌜ r ≡ cond (eqb n 0) (cond (textb (codeOf (now (unit .entry)) parts) place len) (worked.Text place len) (worked.Failed fault.Malformed)) (worked.Failed fault.Malformed) ⌝ }
 {
-    if n == 0 {} else {
+    if n != 0 {
         return Worked::Failed(Fault::Malformed);
     }
     if unit_sorts::text_good(unit, parts, place, len) {

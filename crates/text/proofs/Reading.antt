@@ -11,7 +11,7 @@ use lib.Seq.{drop-cons}
 use borrow.Author.Tests.{lt-ltb, le-ltb}
 use Rattle.rules.specs.declared.Num.the-variants.{Failed}
 use Rattle.rules.specs.declared.Fault.the-variants as fault
-use Rattle.rules.specs.Values.{isFrom, lastOf, readFrom, readOf}
+use Rattle.rules.specs.Values.{isFrom, lastDigit, readFrom, readOf}
 
 -- ---- before the loop
 
@@ -45,6 +45,6 @@ module _ (sign acc : ℕ) (s : List ℕ) (i : ℕ) where
   unfolding readFrom
   read-more h e = rw (drop-next s (i + 1) h) (simp e)
 
-  pub read-last : length s ≤ i + 1 → readFrom sign acc (getD s i 0) (drop (i + 1) s) ≡ lastOf sign acc (getD s i 0)
+  pub read-last : length s ≤ i + 1 → readFrom sign acc (getD s i 0) (drop (i + 1) s) ≡ lastDigit sign acc (getD s i 0)
   unfolding readFrom
   read-last h = rw (drop-of-length-le s h)

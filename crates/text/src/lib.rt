@@ -4,22 +4,15 @@ use rules::Num;
 ghost use mathlib.Core.Path.{_≡_};
 ghost use Prim.Native.Nat.{_^_, _≤_, _<_};
 ghost use lib.ListN.{length};
-ghost use Rattle.rules.specs.Values.{Val, Top, Limit, Letters, lastOf, readOf};
+ghost use Rattle.rules.specs.Values.{Val, Top, Limit, Letters, lastDigit, readOf};
 ghost use Rattle.rules.specs.Arithmetic.{Powers};
 ghost use Rattle.rules.specs.Moves.{placed, digitAt, written, width, shownAt, shown, alphaOf};
 
-// A byte as a number that a sum may be made with.
-fn wide(x: u8) -> u64
-    ensures { λ r. ⌜ r ≡ x ⌝ }
-{
-    x as u64
-}
-
 // The number of a decimal whose last character is b, after the digits of acc; 22 where b is neither a digit nor a sign letter.
-fn last(sign: u64, acc: u64, b: u64) -> Num
+fn last_digit(sign: u64, acc: u64, b: u64) -> Num
     requires { ⌜ Letters sign ⌝ }
     requires { ⌜ acc < 10 ^ 17 ⌝ }
-    ensures { λ r. ⌜ r ≡ lastOf sign acc b ⌝ }
+    ensures { λ r. ⌜ r ≡ lastDigit sign acc b ⌝ }
 {
     if b < 48 {
         return Num::Failed(Fault::BadDigit);
@@ -53,7 +46,7 @@ pub fn read(limit: usize, sign: u64, s: &[u8]) -> Num
     let mut acc: u64 = 0;
     let mut i = 0;
     while i < end {
-        let b = wide(s[i]);
+        let b = number::of_byte(s[i]);
         if b < 48 {
             return Num::Failed(Fault::BadDigit);
         }
@@ -63,7 +56,7 @@ pub fn read(limit: usize, sign: u64, s: &[u8]) -> Num
         acc = acc * 10 + (b - 48);
         i += 1;
     }
-    last(sign, acc, wide(s[end]))
+    last_digit(sign, acc, number::of_byte(s[end]))
 }
 
 // The last digits of m, as many as there is room for, from the right.
@@ -154,7 +147,7 @@ pub fn from_alpha(top: u64, s: &[u8]) -> Num
     let mut acc: u64 = 0;
     let mut i = 0;
     while i < s.len() {
-        let b = wide(s[i]);
+        let b = number::of_byte(s[i]);
         if b == 45 {
             if minus {
                 return Num::Failed(Fault::BadDigit);

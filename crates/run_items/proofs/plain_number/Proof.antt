@@ -28,17 +28,17 @@ digits k c h = lt-of-lt-of-le (c .loop .inv .1) (pow-le-pow-right (lit< tt) {i =
 loop-holds : tie.Need-loop-holds Inv-loop μ-loop
 loop-holds c = (search needs, lit< tt, refl)
 
-shared-slice-read-wide : tie.Need-shared-slice-read-wide Inv-loop μ-loop
-shared-slice-read-wide c = search needs
+shared-slice-read-of-byte : tie.Need-shared-slice-read-of-byte Inv-loop μ-loop
+shared-slice-read-of-byte c = search needs
 
-wide-requires : tie.Need-wide-requires Inv-loop μ-loop
-wide-requires c κs = search needs
+of-byte-requires : tie.Need-of-byte-requires Inv-loop μ-loop
+of-byte-requires c κs = search needs
 
 returns : tie.Need-returns Inv-loop μ-loop
 returns c = search plain-low depth 3
 
 returns-2 : tie.Need-returns-2 Inv-loop μ-loop
-returns-2 c = let h : 57 < c .before .before .wide .result = omega arith in search plain-high depth 3
+returns-2 c = let h : 57 < c .before .before .of-byte .result = omega arith in search plain-high depth 3
 
 mul-acc : tie.Need-mul-acc Inv-loop μ-loop
 mul-acc c = omega (arith, digits 17 (c .before .before .before .before .before) (omega arith))
@@ -68,8 +68,8 @@ plain-number-spec =
     Inv-loop
     μ-loop
     loop-holds
-    shared-slice-read-wide
-    wide-requires
+    shared-slice-read-of-byte
+    of-byte-requires
     returns
     returns-2
     mul-acc

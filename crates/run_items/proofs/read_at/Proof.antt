@@ -11,8 +11,8 @@ add-end c = search needs
 long-requires : tie.Need-long-requires
 long-requires c κs = search needs
 
-wide-requires : tie.Need-wide-requires
-wide-requires c κs = search needs
+of-byte-requires : tie.Need-of-byte-requires
+of-byte-requires c κs = search needs
 
 sub-read : tie.Need-sub-read
 sub-read c = search needs
@@ -35,7 +35,7 @@ read-at-spec =
     (tie.spec
     add-end
     long-requires
-    wide-requires
+    of-byte-requires
     sub-read
     part-read-start
     part-read-end

@@ -24,17 +24,17 @@ abbrev μ-loop : tie.MeasureT-loop
 μ-loop top s minus₀ acc₀ i₀ minus acc i = length s - i
 
 -- the character that a turn looks at
-here : (c : tie.After-wide Inv-loop μ-loop) → At (c .before .before .before .before .before .args .s .now) (c .before .before .before .loop .i) (c .wide .result)
-here c = record { inside = c .before .before .loop-test .taken; is = c .wide .ensures }
+here : (c : tie.After-of-byte Inv-loop μ-loop) → At (c .before .before .before .before .before .args .s .now) (c .before .before .before .loop .i) (c .of-byte .result)
+here c = record { inside = c .before .before .loop-test .taken; is = c .of-byte .ensures }
 
 loop-holds : tie.Need-loop-holds Inv-loop μ-loop
 loop-holds c = (omega arith, refl)
 
-shared-slice-read-wide : tie.Need-shared-slice-read-wide Inv-loop μ-loop
-shared-slice-read-wide c = omega arith
+shared-slice-read-of-byte : tie.Need-shared-slice-read-of-byte Inv-loop μ-loop
+shared-slice-read-of-byte c = omega arith
 
-wide-requires : tie.Need-wide-requires Inv-loop μ-loop
-wide-requires c κs = search needs
+of-byte-requires : tie.Need-of-byte-requires Inv-loop μ-loop
+of-byte-requires c κs = search needs
 
 returns : tie.Need-returns Inv-loop μ-loop
 returns c =
@@ -105,4 +105,4 @@ returns-5 c =
     sym (l .inv .1 ∙ at-end (a .top) (l .minus) (l .acc) (l .i) (a .s .now) (c .before .loop-test .left) ∙ kept-long (a .top) (l .minus) (l .acc) (c .if8 .left))
 
 pub from-alpha-spec : {M : Type 1} → statement M
-from-alpha-spec = tie.close (tie.spec Inv-loop μ-loop loop-holds shared-slice-read-wide wide-requires returns returns-2 returns-3 mul-acc add-acc add-i loop-less loop-again with-sign-requires returns-4 returns-5)
+from-alpha-spec = tie.close (tie.spec Inv-loop μ-loop loop-holds shared-slice-read-of-byte of-byte-requires returns returns-2 returns-3 mul-acc add-acc add-i loop-less loop-again with-sign-requires returns-4 returns-5)

@@ -9,7 +9,7 @@ use native.Mathlib.Omega.{arith}
 use borrow.Author.Needs.{needs}
 use lib.Dec.{lit<}
 use lib.ListN.{length, getD, drop}
-use Rattle.rules.specs.Values.{lastOf, readFrom, readOf}
+use Rattle.rules.specs.Values.{lastDigit, readFrom, readOf}
 use Rattle.rules.proofs.Decimals.{from-yes, from-low, from-high, more-digits}
 use Rattle.text.proofs.Reading.{read-empty, read-long, read-start, read-bad, read-more, read-last}
 use Rattle.text.proofs.read.Statement.{statement}
@@ -36,23 +36,23 @@ loop-holds c =
     let a = c .before .before .before .args in
     (omega arith, lit< tt, read-start (a .limit) (a .sign) (a .s .now) (c .before .if1 .left) (c .if2 .left))
 
-shared-slice-read-wide : tie.Need-shared-slice-read-wide Inv-loop μ-loop
-shared-slice-read-wide c = omega arith
+shared-slice-read-of-byte : tie.Need-shared-slice-read-of-byte Inv-loop μ-loop
+shared-slice-read-of-byte c = omega arith
 
-wide-requires : tie.Need-wide-requires Inv-loop μ-loop
-wide-requires c κs = search needs
+of-byte-requires : tie.Need-of-byte-requires Inv-loop μ-loop
+of-byte-requires c κs = search needs
 
 returns-3 : tie.Need-returns-3 Inv-loop μ-loop
 returns-3 c =
     let l = c .before .before .before .before in
     let a = l .before .before .before .before .args in
-    sym (l .loop .inv .2 ∙ read-bad (a .sign) (l .loop .acc) (a .s .now) (l .loop .i) (omega arith) (from-low 48 _ (rw (c .before .wide .ensures) at (c .if3 .taken))))
+    sym (l .loop .inv .2 ∙ read-bad (a .sign) (l .loop .acc) (a .s .now) (l .loop .i) (omega arith) (from-low 48 _ (rw (c .before .of-byte .ensures) at (c .if3 .taken))))
 
 returns-4 : tie.Need-returns-4 Inv-loop μ-loop
 returns-4 c =
     let l = c .before .before .before .before .before in
     let a = l .before .before .before .before .args in
-    sym (l .loop .inv .2 ∙ read-bad (a .sign) (l .loop .acc) (a .s .now) (l .loop .i) (omega arith) (from-high 48 _ (rw (c .before .before .wide .ensures) at (c .if4 .taken))))
+    sym (l .loop .inv .2 ∙ read-bad (a .sign) (l .loop .acc) (a .s .now) (l .loop .i) (omega arith) (from-high 48 _ (rw (c .before .before .of-byte .ensures) at (c .if4 .taken))))
 
 small : (c : tie.At-loop Inv-loop μ-loop) → c .loop .acc < 10 ^ 17
 small c = lt-of-lt-of-le (c .loop .inv .1) (pow-le-pow-right (lit< tt) {i = c .loop .i} {j = 17} (omega arith))
@@ -73,27 +73,27 @@ loop-again : tie.Need-loop-again Inv-loop μ-loop
 loop-again c =
     let l = c .before .before .before .before .before in
     let a = l .before .before .before .before .args in
-    let b : c .before .before .wide .result ≡ getD (a .s .now) (l .loop .i) 0 = c .before .before .wide .ensures in
+    let b : c .before .before .of-byte .result ≡ getD (a .s .now) (l .loop .i) 0 = c .before .before .of-byte .ensures in
     rw b
     (omega arith, more-digits _ _ _ (l .loop .inv .1) (omega arith), l .loop .inv .2 ∙ read-more (a .sign) (l .loop .acc) (a .s .now) (l .loop .i) (omega arith) (from-yes 48 (getD (a .s .now) (l .loop .i) 0) (omega arith) (omega arith)))
 
-shared-slice-read-wide-2 : tie.Need-shared-slice-read-wide-2 Inv-loop μ-loop
-shared-slice-read-wide-2 c = omega arith
+shared-slice-read-of-byte-2 : tie.Need-shared-slice-read-of-byte-2 Inv-loop μ-loop
+shared-slice-read-of-byte-2 c = omega arith
 
-wide-requires-2 : tie.Need-wide-requires-2 Inv-loop μ-loop
-wide-requires-2 c κs = search needs
+of-byte-requires-2 : tie.Need-of-byte-requires-2 Inv-loop μ-loop
+of-byte-requires-2 c κs = search needs
 
-last-requires : tie.Need-last-requires Inv-loop μ-loop
-last-requires c κs = (c .before .before .before .before .before .before .before .pre .1, small (c .before .before .before))
+last-digit-requires : tie.Need-last-digit-requires Inv-loop μ-loop
+last-digit-requires c κs = (c .before .before .before .before .before .before .before .pre .1, small (c .before .before .before))
 
 returns-5 : tie.Need-returns-5 Inv-loop μ-loop
 returns-5 c =
     let l = c .before .before .before .before in
     let a = l .before .before .before .before .args in
     let e : length (a .s .now) - 1 ≡ l .loop .i = omega arith in
-    let b : c .before .wide2 .result ≡ getD (a .s .now) (l .loop .i) 0 = c .before .wide2 .ensures ∙ ap (λ k. getD (a .s .now) k 0) e in
-    c .last .ensures ∙ ap (lastOf (a .sign) (l .loop .acc)) b
+    let b : c .before .of-byte2 .result ≡ getD (a .s .now) (l .loop .i) 0 = c .before .of-byte2 .ensures ∙ ap (λ k. getD (a .s .now) k 0) e in
+    c .last-digit .ensures ∙ ap (lastDigit (a .sign) (l .loop .acc)) b
     ∙ sym (l .loop .inv .2 ∙ read-last (a .sign) (l .loop .acc) (a .s .now) (l .loop .i) (omega arith))
 
 pub read-spec : {M : Type 1} → statement M
-read-spec = tie.close (tie.spec Inv-loop μ-loop returns returns-2 sub-end loop-holds shared-slice-read-wide wide-requires returns-3 returns-4 mul-acc add-acc add-i loop-less loop-again shared-slice-read-wide-2 wide-requires-2 last-requires returns-5)
+read-spec = tie.close (tie.spec Inv-loop μ-loop returns returns-2 sub-end loop-holds shared-slice-read-of-byte of-byte-requires returns-3 returns-4 mul-acc add-acc add-i loop-less loop-again shared-slice-read-of-byte-2 of-byte-requires-2 last-digit-requires returns-5)

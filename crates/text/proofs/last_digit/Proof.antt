@@ -1,4 +1,4 @@
--- `text::last` meets its contract: at each `return` the tests that led there say whether the character is a digit, a sign letter or neither.
+-- `text::last_digit` meets its contract: at each `return` the tests that led there say whether the character is a digit, a sign letter or neither.
 -- Assumes nothing.
 use mathlib.Core.Path.{ap, _∙_}
 use native.Mathlib.Omega.{arith}
@@ -6,8 +6,8 @@ use borrow.Author.Needs.{needs}
 use Rattle.rules.specs.declared.Num.the-variants.{Value}
 use Rattle.rules.proofs.Signed.{back}
 use Rattle.rules.proofs.Decimals.{from-yes, from-low, from-high}
-use Rattle.text.proofs.last.Statement.{statement}
-use Rattle.text.proofs.last.Tie as tie
+use Rattle.text.proofs.last_digit.Statement.{statement}
+use Rattle.text.proofs.last_digit.Tie as tie
 
 returns : tie.Need-returns
 returns c =
@@ -56,5 +56,5 @@ returns-5 c =
     let a = c .before .before .before .before .args in
     simp (from-high 48 (a .b) (omega arith), from-high (a .sign) (a .b) (omega arith))
 
-pub last-spec : {M : Type 1} → statement M
-last-spec = tie.close (tie.spec returns mul-with-sign add-with-sign with-sign-requires returns-2 returns-3 add-if4 mul-with-sign-2 add-with-sign-2 with-sign-requires-2 returns-4 returns-5)
+pub last-digit-spec : {M : Type 1} → statement M
+last-digit-spec = tie.close (tie.spec returns mul-with-sign add-with-sign with-sign-requires returns-2 returns-3 add-if4 mul-with-sign-2 add-with-sign-2 with-sign-requires-2 returns-4 returns-5)
