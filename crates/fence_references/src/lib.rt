@@ -26,7 +26,7 @@ fn end_breach(dest: bool, e: usize, last: usize) -> Breach
     if e < last {
         return Breach::OverElements;
     }
-    if dest {} else {
+    if !dest {
         return Breach::None;
     }
     if last == e {
@@ -60,7 +60,7 @@ fn alpha_breach(unit: &[u8], parts: Parts, ahead: &[u16], dest: bool, a: usize, 
     requires { ⌜ a + n ≤ parts .d ⌝ }
     ensures { λ r. ⌜ r ≡ alphaBreach (codeOf (now (unit .entry)) parts) dest a n ⌝ }
 {
-    if dest {} else {
+    if !dest {
         return Breach::None;
     }
     if fence_decimals::apart(ahead, a, n) {
@@ -117,7 +117,7 @@ fn reference_breach(
     requires { ⌜ Small s ⌝ }
     ensures { λ r. ⌜ r ≡ referenceBreach (codeOf (now (unit .entry)) parts) dest form field s ⌝ }
 {
-    if fence_bounds::bounded(form, s) {} else {
+    if !fence_bounds::bounded(form, s) {
         return Breach::BoundNotLiteral;
     }
     match fence_bounds::fixed_span(unit, parts, form, field, s) {

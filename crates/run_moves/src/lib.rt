@@ -184,7 +184,7 @@ pub fn count_at(
     requires { ⌜ start + len ≤ length (now bytes) ⌝ }
     ensures { λ r. ⌜ r ≡ countAt (codeOf (now (unit .entry)) parts) (now (bytes .entry)) up decimal start len ⌝ }
 {
-    if decimal {} else {
+    if !decimal {
         return rules_run::failed(Fault::Malformed);
     }
     match run_items::read_at(parts, bytes, start, len) {

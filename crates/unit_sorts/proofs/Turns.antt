@@ -11,7 +11,7 @@ use lib.ListN.{length}
 use borrow.Author.Tests.{le-leb, lt-leb, eq-eqb, ne-eqb, not-true}
 use denote.Enum.Declared.{tagOf}
 use types.Run.{OneOf, miss}
-use Rattle.rules.proofs.Walk.{cond-same}
+use Rattle.rules.proofs.Walk.{seen-no, seen-yes, cond-same}
 use Rattle.rules_unit.specs.declared.Item.{Item}
 use Rattle.rules_unit.specs.declared.Item.the-variants as item
 use Rattle.rules_unit.specs.declared.Sort.{Sort}
@@ -77,32 +77,32 @@ module _ (c : Code) (s : List ℕ) (at n : ℕ) (k z : Sort) (left : sortFrom c 
       by : z ≡ cond (goesOn k) (ahead c s at n i) sort.Wrong
       by = sym left ∙ turn c s at n k i e other
 
-      pub turn-last : g ≡ false → sort.Wrong ≡ z
-      turn-last h = sym (rw (sym eg ∙ h) at by)
+      pub turn-last : not g ≡ true → sort.Wrong ≡ z
+      turn-last h = sym (rw (seen-no g (goesOn k) h eg) at by)
 
       -- what is noted for the values held holds after any item that another may follow
-      pub turn-noted : (notes : List ℕ) (x : Sort) (w : Bool) → g ≡ true → Noted c s notes → x ≡ notedAt notes at n → w ≡ isWrong x → not w ≡ true → x ≡ z
+      pub turn-noted : (notes : List ℕ) (x : Sort) (w : Bool) → not g ≡ false → Noted c s notes → x ≡ notedAt notes at n → w ≡ isWrong x → not w ≡ true → x ≡ z
       turn-noted notes x w goes noted ex ew h =
           ex
           ∙ noted .so at n (rw ex at (sym ew ∙ not-true w h))
           ∙ turn c s at n sort.Number i e other
-          ∙ sym (rw (sym eg ∙ goes) at by)
+          ∙ sym (rw (seen-yes g (goesOn k) goes eg) at by)
 
-      module _ (goes : g ≡ true) (b : Bool) (eb : b ≡ itemb c i) where
-        pub turn-item : b ≡ false → sort.Wrong ≡ z
-        turn-item h = sym (rw (sym eg ∙ goes, sym eb ∙ h) at by)
+      module _ (goes : not g ≡ false) (b : Bool) (eb : b ≡ itemb c i) where
+        pub turn-item : not b ≡ true → sort.Wrong ≡ z
+        turn-item h = sym (rw (seen-yes g (goesOn k) goes eg, seen-no b (itemb c i) h eb) at by)
 
-        module _ (good : b ≡ true) (t : ℕ) (et : t ≡ takes i) where
+        module _ (good : not b ≡ false) (t : ℕ) (et : t ≡ takes i) where
           pub turn-few : n < t → sort.Wrong ≡ z
-          turn-few h = sym (rw (sym eg ∙ goes, sym eb ∙ good, lt-leb (takes i) n (omega arith)) at by)
+          turn-few h = sym (rw (seen-yes g (goesOn k) goes eg, seen-yes b (itemb c i) good eb, lt-leb (takes i) n (omega arith)) at by)
 
           -- m is the bound that the code tests
           pub turn-full : (m : ℕ) → t ≤ n → m < n - t + 1 → 16 ≤ m → sort.Wrong ≡ z
-          turn-full m h l g =
-              sym (rw (sym eg ∙ goes, sym eb ∙ good, le-leb (takes i) n (omega arith), lt-leb (n - takes i + 1) 16 (omega arith)) at by)
+          turn-full m h l o =
+              sym (rw (seen-yes g (goesOn k) goes eg, seen-yes b (itemb c i) good eb, le-leb (takes i) n (omega arith), lt-leb (n - takes i + 1) 16 (omega arith)) at by)
 
           pub turn-on : (k′ : Sort) (w : ℕ) → t ≤ n → n - t + 1 ≤ 16 → k′ ≡ sortOf c i → w ≡ widthOf i
               → sortFrom c (itemsAt s (at + w)) (n - t + 1) k′ ≡ z
           turn-on k′ w h l ek ew =
               rw (ek, ew, et)
-              (sym (rw (sym eg ∙ goes, sym eb ∙ good, le-leb (takes i) n (omega arith), le-leb (n - takes i + 1) 16 (omega arith)) at by))
+              (sym (rw (seen-yes g (goesOn k) goes eg, seen-yes b (itemb c i) good eb, le-leb (takes i) n (omega arith), le-leb (n - takes i + 1) 16 (omega arith)) at by))

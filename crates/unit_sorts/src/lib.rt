@@ -218,14 +218,14 @@ fn sort_in(unit: &[u8], parts: Parts, s: &[u8], notes: &[u8], at: usize) -> Sort
             }
             return Sort::Wrong;
         }
-        if goes_on(k) {} else {
+        if !goes_on(k) {
             return Sort::Wrong;
         }
         let known = noted(notes, i, n);
         if !is_wrong(known) {
             return known;
         }
-        if item_good(unit, parts, item) {} else {
+        if !item_good(unit, parts, item) {
             return Sort::Wrong;
         }
         let taken = unit_decode::takes_of(item);

@@ -2,6 +2,7 @@
 -- and the sum moves; or the fault stands.
 -- Assumes nothing.
 use borrow.Author.Needs.{needs}
+use borrow.Author.Tests.{not-true, not-false}
 use Rattle.run_moves.proofs.Found.{count-alpha, count-sum, count-failed, read-again}
 use Rattle.run_moves.proofs.count_at.Statement.{statement}
 use Rattle.run_moves.proofs.count_at.Tie as tie
@@ -10,7 +11,7 @@ failed-requires : tie.Need-failed-requires
 failed-requires c κs = search needs
 
 returns : tie.Need-returns
-returns c = search count-alpha depth 3
+returns c = search (count-alpha, not-true) depth 3
 
 read-at-requires : tie.Need-read-at-requires
 read-at-requires c κs = search needs
@@ -31,10 +32,10 @@ failed-requires-2 : tie.Need-failed-requires-2
 failed-requires-2 c κs = search needs
 
 returns-2 : tie.Need-returns-2
-returns-2 c = search count-sum depth 3
+returns-2 c = search (count-sum, not-false) depth 3
 
 returns-3 : tie.Need-returns-3
-returns-3 c = search count-failed depth 3
+returns-3 c = search (count-failed, not-false) depth 3
 
 pub count-at-spec : {M : Type 1} → statement M
 count-at-spec =

@@ -12,7 +12,7 @@ use Rattle.rules_unit.specs.declared.Item.{Item}
 use Rattle.rules_unit.specs.declared.Sort.the-variants as sort
 use Rattle.rules_unit.specs.Decode.{itemsAt, codeOf}
 use Rattle.rules_unit.specs.Expressions.{sortFrom}
-use Rattle.rules.proofs.Walk.{told-yes}
+use Rattle.rules.proofs.Walk.{seen-yes}
 use Rattle.rules_unit.proofs.Items.{width-some, width-most}
 use Rattle.unit_sorts.proofs.Turns.{not-end, turn-beyond, turn-one, turn-none, turn-last, turn-noted, turn-item, turn-few, turn-full, turn-on}
 use Rattle.unit_sorts.proofs.sort_in.Statement.{statement}
@@ -78,7 +78,7 @@ returns-7 : tie.Need-returns-7 Inv-loop μ-loop
 returns-7 c = search (turn-full, not-end, needs) depth 3
 
 sort-of-requires : tie.Need-sort-of-requires Inv-loop μ-loop
-sort-of-requires c κs = (search needs, search told-yes depth 3)
+sort-of-requires c κs = (search needs, search seen-yes depth 3)
 
 add-n : tie.Need-add-n Inv-loop μ-loop
 add-n c = search needs
