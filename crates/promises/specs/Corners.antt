@@ -197,9 +197,9 @@ pub record Items : Type 0 where
   pub a-number : itemAt (1 ∷ 2 ∷ 3 ∷ 4 ∷ []) 0 ≡ item.Number 515 4
   pub number-cut : itemAt (1 ∷ 2 ∷ 3 ∷ []) 0 ≡ item.Bad
   pub a-field : itemAt (2 ∷ 1 ∷ 4 ∷ []) 0 ≡ item.Reference form.First 260
-  pub an-element : itemAt (3 ∷ 1 ∷ 4 ∷ []) 0 ≡ item.Reference form.Subscript 260
-  pub a-range : itemAt (4 ∷ 1 ∷ 4 ∷ []) 0 ≡ item.Reference form.StartEnd 260
-  pub a-length : itemAt (5 ∷ 1 ∷ 4 ∷ []) 0 ≡ item.Reference form.PosLength 260
+  pub a-subscript : itemAt (3 ∷ 1 ∷ 4 ∷ []) 0 ≡ item.Reference form.Subscript 260
+  pub a-start-end : itemAt (4 ∷ 1 ∷ 4 ∷ []) 0 ≡ item.Reference form.StartEnd 260
+  pub a-pos-length : itemAt (5 ∷ 1 ∷ 4 ∷ []) 0 ≡ item.Reference form.PosLength 260
   pub field-cut : itemAt (2 ∷ 1 ∷ []) 0 ≡ item.Bad
   pub a-text : itemAt (6 ∷ 2 ∷ 3 ∷ 4 ∷ 5 ∷ []) 0 ≡ item.Text 515 1029
   pub text-cut : itemAt (6 ∷ 2 ∷ 3 ∷ 4 ∷ []) 0 ≡ item.Bad
@@ -217,9 +217,9 @@ items =
       a-number = refl;
       number-cut = refl;
       a-field = refl;
-      an-element = refl;
-      a-range = refl;
-      a-length = refl;
+      a-subscript = refl;
+      a-start-end = refl;
+      a-pos-length = refl;
       field-cut = refl;
       a-text = refl;
       text-cut = refl;

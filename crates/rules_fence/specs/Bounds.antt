@@ -2,8 +2,8 @@
 --   isNegate o            the operator is negate
 --   seenAfter c s i       the bounds that stand directly before what follows the item i
 --   seenIn c s is         the same after the items is
---   boundedb how s        there are as many as the reference takes
---   fixedSpan c how f s   the bytes that the reference names by them
+--   boundedb form s       there are as many as the reference takes
+--   fixedSpan c form f s  the bytes that the reference names by them
 -- Bounds that are written in the unit are the same in every run, so the span is fixed. Assumes nothing.
 use Prim.Native.Nat.{ℕ}
 use mathlib.Core.Bool.{Bool, true, false, cond}

@@ -1,11 +1,11 @@
 -- The fence rules (document 01, "Fence rules"), as statements. Breaches has the same rules as tests.
 --   Bound c is v                 the items is are a bound with the value v
---   Bounds c how before x y      the bounds x and y that a reference takes end the items before it
---   Names c how f before span    the span that a reference names by its bounds
+--   Bounds c form before x y     the bounds x and y that a reference takes end the items before it
+--   Names c form f before span   the span that a reference names by its bounds
 --   InElement c dest f a n k     n bytes from a on lie in the element k of the field f, and end with it where they are a destination
 --   SpanFenced c dest f a n      the rules of the span of a reference to the field f
 --   SpanKept c dest f span       the same, where the span may be none
---   RefFenced c dest how f before  the rules of a reference behind the items before it
+--   RefFenced c dest form f before  the rules of a reference behind the items before it
 --   ExprFenced c dest is         every reference of the expression is
 --   UseFenced, StatementFenced   every expression of a statement
 --   Fenced c                     every statement

@@ -1,6 +1,6 @@
 -- Why a statement breaks the fence rules (document 01, "Fence rules"): of each breach, what it says. Breaches has the same as tests.
 --   SpanBreaks c dest f a n b           the n bytes from a on, named by a reference to the field f, break the rule b
---   RefBreaks c dest how f before b     a reference behind the items before breaks the rule b
+--   RefBreaks c dest form f before b    a reference behind the items before breaks the rule b
 --   ExprBreaks c dest is b              the first reference of the expression that breaks a rule breaks b
 --   UseBreaks, StatementBreaks          the first expression of a statement that breaks one does so
 -- Rules are named in 01's order: one is broken only where those before it are kept. Assumes nothing.

@@ -145,8 +145,8 @@ module _ (u d w : List ℕ) (m : ℕ) (a : List ℕ) where
     left-none l n = left-unsound l (λ t. none-unsound u p e (subst (Sound (p .n)) (none-state w n) t))
 
   -- Any other stop: the numbers are a state's, and so are those of the next state.
-  ran-held : refusedb (stopNumber (runOf u d (stateOf w) m .outcome .stop)) ≡ false → (length w ≡ 52) × Fits (runOf u d (stateOf w) m .outcome .state)
-  ran-held =
+  ran-fits : refusedb (stopNumber (runOf u d (stateOf w) m .outcome .stop)) ≡ false → (length w ≡ 52) × Fits (runOf u d (stateOf w) m .outcome .state)
+  ran-fits =
       every-call (λ r. refusedb (stopNumber (r .outcome .stop)) ≡ false → (length w ≡ 52) × Fits (r .outcome .state)) u d (stateOf w) m
       (λ e b f. absurd (false≢true (sym f ∙ before-refuses e b)))
       (λ p e l t f.
@@ -160,13 +160,13 @@ module _ (u d w : List ℕ) (m : ℕ) (a : List ℕ) where
   pub left-state : refusedb (handedOf u d w m a .stop) ≡ false → handedOf u d w m a .state ≡ numbersOf (runOf u d (stateOf w) m .outcome .state)
   unfolding handedOf
   left-state f =
-      let h = ran-held f in
+      let h = ran-fits f in
       let l : length (numbersOf (runOf u d (stateOf w) m .outcome .state)) ≡ length w = omega (arith, h .0, h .1 .count) in
       rw (f, laid-same (numbersOf (runOf u d (stateOf w) m .outcome .state)) w l)
 
   pub goes-on : refusedb (handedOf u d w m a .stop) ≡ false → stateOf (handedOf u d w m a .state) ≡ runOf u d (stateOf w) m .outcome .state
   unfolding handedOf
-  goes-on f = ap stateOf (left-state f) ∙ read-written (runOf u d (stateOf w) m .outcome .state) (ran-held f .1)
+  goes-on f = ap stateOf (left-state f) ∙ read-written (runOf u d (stateOf w) m .outcome .state) (ran-fits f .1)
 
 -- ---- what a host reads
 

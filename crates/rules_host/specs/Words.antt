@@ -1,5 +1,5 @@
 -- The words of the stops (document 01, "Stops and their numbers"). Those of 20 to 25 are the manuals' own.
---   stopText n     the words of the stop n, as a text; none where n is no stop
+--   stopText n   the words of the stop n, as a text; none where n is no stop
 --   wordsOf n    the same as the codes of its characters
 --   saidOf n t   what a call leaves that puts them into the text t: their whole length, and the text
 -- Assumes nothing.

@@ -55,17 +55,17 @@ module _ (size a n : ℕ) where
 
 module _ (size o : ℕ) where
   -- elements of no bytes
-  pub element-none : (n : ℕ) (s : ℤ) → n ≡ 0 → within size (pos o) n ≡ subscriptSpan size o n s
+  pub subscript-none : (n : ℕ) (s : ℤ) → n ≡ 0 → within size (pos o) n ≡ subscriptSpan size o n s
   unfolding subscriptSpan
-  element-none n s h = rw (h, *ℤ-zero (s -ℤ pos 1), add-zero o)
+  subscript-none n s h = rw (h, *ℤ-zero (s -ℤ pos 1), add-zero o)
 
-  pub element-up : (n : ℕ) {k : ℕ} {s : ℤ} → s ≡ pos k → 1 ≤ k → within size (pos (o + (k - 1) * n)) n ≡ subscriptSpan size o n s
+  pub subscript-up : (n : ℕ) {k : ℕ} {s : ℤ} → s ≡ pos k → 1 ≤ k → within size (pos (o + (k - 1) * n)) n ≡ subscriptSpan size o n s
   unfolding subscriptSpan
-  element-up n {k} e h = rw (e, over k 1 h)
+  subscript-up n {k} e h = rw (e, over k 1 h)
 
-  pub element-down : (n k : ℕ) {s : ℤ} → s ≡ negℤ (pos k) → within size (pos o -ℤ pos ((k + 1) * n)) n ≡ subscriptSpan size o n s
+  pub subscript-down : (n k : ℕ) {s : ℤ} → s ≡ negℤ (pos k) → within size (pos o -ℤ pos ((k + 1) * n)) n ≡ subscriptSpan size o n s
   unfolding subscriptSpan
-  element-down n k e = rw e (by k)
+  subscript-down n k e = rw e (by k)
     where
       by : (k : ℕ) → within size (pos o -ℤ pos ((k + 1) * n)) n ≡ subscriptSpan size o n (negℤ (pos k))
       by zero = refl
@@ -73,50 +73,50 @@ module _ (size o : ℕ) where
           let m : suc k + 1 ≡ suc (suc (k + 0)) = omega arith in
           ap (λ (j : ℕ). within size (pos o -ℤ pos (j * n)) n) m
 
-  pub range-low : (s e : ℤ) → leZ (pos 1) s ≡ false → Outside ≡ startEndSpan size o s e
+  pub start-end-low : (s e : ℤ) → leZ (pos 1) s ≡ false → Outside ≡ startEndSpan size o s e
   unfolding startEndSpan
-  range-low s e h = rw h
+  start-end-low s e h = rw h
 
   turned : (a b : ℕ) → b < a → Outside ≡ startEndSpan size o (pos a) (pos b)
   unfolding startEndSpan
   turned a b h = rw (lt-leb a b h) (sym (cond-same (leb 1 a) Outside))
 
-  pub range-turned : {a b : ℕ} {s e : ℤ} → s ≡ pos a → e ≡ pos b → b < a → Outside ≡ startEndSpan size o s e
-  range-turned {a} {b} p q h = rw (p, q) (turned a b h)
+  pub start-end-turned : {a b : ℕ} {s e : ℤ} → s ≡ pos a → e ≡ pos b → b < a → Outside ≡ startEndSpan size o s e
+  start-end-turned {a} {b} p q h = rw (p, q) (turned a b h)
 
-  pub range-end : (s e : ℤ) → leZ (pos 1) e ≡ false → Outside ≡ startEndSpan size o s e
+  pub start-end-end : (s e : ℤ) → leZ (pos 1) e ≡ false → Outside ≡ startEndSpan size o s e
   unfolding startEndSpan
-  range-end (pos zero) e h = refl
-  range-end (pos (suc a)) (pos b) h = turned (suc a) b (omega (arith, leb-false 1 b h))
-  range-end (pos (suc a)) (negsuc b) h = sym (cond-same (leb 1 (suc a)) Outside)
-  range-end (negsuc a) e h = refl
+  start-end-end (pos zero) e h = refl
+  start-end-end (pos (suc a)) (pos b) h = turned (suc a) b (omega (arith, leb-false 1 b h))
+  start-end-end (pos (suc a)) (negsuc b) h = sym (cond-same (leb 1 (suc a)) Outside)
+  start-end-end (negsuc a) e h = refl
 
-  pub range-is : {a b : ℕ} {s e : ℤ} → s ≡ pos a → e ≡ pos b → 1 ≤ a → a ≤ b
+  pub start-end-is : {a b : ℕ} {s e : ℤ} → s ≡ pos a → e ≡ pos b → 1 ≤ a → a ≤ b
       → within size (pos (o + (a - 1))) (b - a + 1) ≡ startEndSpan size o s e
   unfolding startEndSpan
-  range-is {a} {b} p q h l = rw (p, q, le-leb 1 a h, le-leb a b l, over a 1 h, over b a l)
+  start-end-is {a} {b} p q h l = rw (p, q, le-leb 1 a h, le-leb a b l, over a 1 h, over b a l)
 
-  pub length-low : (p n : ℤ) → leZ (pos 1) p ≡ false → Outside ≡ posLengthSpan size o p n
+  pub pos-length-low : (p n : ℤ) → leZ (pos 1) p ≡ false → Outside ≡ posLengthSpan size o p n
   unfolding posLengthSpan
-  length-low p (pos zero) h = refl
-  length-low p (pos (suc n)) h = rw h
-  length-low p (negsuc n) h = rw h
+  pos-length-low p (pos zero) h = refl
+  pos-length-low p (pos (suc n)) h = rw h
+  pos-length-low p (negsuc n) h = rw h
 
-  pub length-none : (p : ℤ) {n : ℤ} → n ≡ pos 0 → Outside ≡ posLengthSpan size o p n
+  pub pos-length-none : (p : ℤ) {n : ℤ} → n ≡ pos 0 → Outside ≡ posLengthSpan size o p n
   unfolding posLengthSpan
-  length-none p e = rw e
+  pos-length-none p e = rw e
 
-  pub length-up : {a k : ℕ} {p n : ℤ} → p ≡ pos a → n ≡ pos k → 1 ≤ a → 1 ≤ k → within size (pos (o + (a - 1))) k ≡ posLengthSpan size o p n
+  pub pos-length-up : {a k : ℕ} {p n : ℤ} → p ≡ pos a → n ≡ pos k → 1 ≤ a → 1 ≤ k → within size (pos (o + (a - 1))) k ≡ posLengthSpan size o p n
   unfolding posLengthSpan
-  length-up {a} {k} e q h l = rw (e, q) (by k l)
+  pos-length-up {a} {k} e q h l = rw (e, q) (by k l)
     where
       by : (k : ℕ) → 1 ≤ k → within size (pos (o + (a - 1))) k ≡ posLengthSpan size o (pos a) (pos k)
       by zero l = absurd (omega arith)
       by (suc k) l = rw (le-leb 1 a h, over a 1 h)
 
-  pub length-down : (k : ℕ) {a : ℕ} {p n : ℤ} → p ≡ pos a → n ≡ negℤ (pos k) → 1 ≤ a → 1 ≤ k → within size (pos (o + a) -ℤ pos k) k ≡ posLengthSpan size o p n
+  pub pos-length-down : (k : ℕ) {a : ℕ} {p n : ℤ} → p ≡ pos a → n ≡ negℤ (pos k) → 1 ≤ a → 1 ≤ k → within size (pos (o + a) -ℤ pos k) k ≡ posLengthSpan size o p n
   unfolding posLengthSpan
-  length-down k {a} e q h l = rw (e, q) (by k l)
+  pos-length-down k {a} e q h l = rw (e, q) (by k l)
     where
       by : (k : ℕ) → 1 ≤ k → within size (pos (o + a) -ℤ pos k) k ≡ posLengthSpan size o (pos a) (negℤ (pos k))
       by zero l = absurd (omega arith)
@@ -168,18 +168,18 @@ module _ (size : ℕ) (f : Field) (a n : ℕ) where
   element-at : (x y : ℤ) → (subscriptSpan size (f .offset) (f .size) x ≡ At a n) ↔ Located f form.Subscript x y a n × (a + n ≤ size)
   element-at (pos zero) y =
       let w = before-at size (f .offset) ((0 + 1) * f .size) (f .size) a n in
-      let d = element-down size (f .offset) (f .size) 0 {s = pos 0} refl in
+      let d = subscript-down size (f .offset) (f .size) 0 {s = pos 0} refl in
       let one : (0 + 1) * f .size ≡ f .size = omega arith in
       (λ q. let r = w .0 (d ∙ q) in ((omega (arith, r .0, one), r .1), r .2), λ r. sym d ∙ w .1 (omega (arith, r .0 .0, one), r .0 .1, r .1))
   element-at (pos (suc k)) y =
       let w = within-at size (f .offset + (suc k - 1) * f .size) (f .size) a n in
-      let d = element-up size (f .offset) (f .size) {k = suc k} {s = pos (suc k)} refl (omega arith) in
+      let d = subscript-up size (f .offset) (f .size) {k = suc k} {s = pos (suc k)} refl (omega arith) in
       let c : (suc k - 1) * f .size ≡ k * f .size = ap (λ (i : ℕ). i * f .size) (omega arith) in
       let e = suc-mul k (f .size) in
       (λ q. let r = w .0 (d ∙ q) in ((omega (arith, r .0, c, e), r .1), r .2), λ r. sym d ∙ w .1 (omega (arith, r .0 .0, c, e), r .0 .1, r .1))
   element-at (negsuc j) y =
       let w = before-at size (f .offset) ((suc j + 1) * f .size) (f .size) a n in
-      let d = element-down size (f .offset) (f .size) (suc j) {s = negsuc j} refl in
+      let d = subscript-down size (f .offset) (f .size) (suc j) {s = negsuc j} refl in
       let e : (suc j + 1) * f .size ≡ (j + 2) * f .size = ap (λ (i : ℕ). i * f .size) (omega arith) in
       (λ q. let r = w .0 (d ∙ q) in ((omega (arith, r .0, e), r .1), r .2), λ r. sym d ∙ w .1 (omega (arith, r .0 .0, e), r .0 .1, r .1))
 
@@ -194,34 +194,34 @@ module _ (size : ℕ) (f : Field) (a n : ℕ) where
           let l = leb-true 1 s p in
           let m = leb-true s e q in
           let w = within-at size (f .offset + (s - 1)) (e - s + 1) a n in
-          let d = range-is size (f .offset) {a = s} {b = e} {s = pos s} {e = pos e} refl refl l m in
+          let d = start-end-is size (f .offset) {a = s} {b = e} {s = pos s} {e = pos e} refl refl l m in
           (λ z. let r = w .0 (d ∙ z) in ((l, m, omega (arith, l, r .0), omega (arith, l, m, r .0, r .1)), r .2), λ r. sym d ∙ w .1 (omega (arith, l, r .0 .2), omega (arith, l, m, r .0 .2, r .0 .3), r .1))
-      by true false p q = none (range-turned size (f .offset) {a = s} {b = e} {s = pos s} {e = pos e} refl refl (leb-false s e q)) (λ r. omega (arith, leb-false s e q, r .1))
-      by false v p q = none (range-low size (f .offset) (pos s) (pos e) p) (λ r. omega (arith, leb-false 1 s p, r .0))
-  range-at (pos s) (negsuc e) = none (range-end size (f .offset) (pos s) (negsuc e) refl) (λ r. r)
-  range-at (negsuc s) y = none (range-low size (f .offset) (negsuc s) y refl) (λ r. r)
+      by true false p q = none (start-end-turned size (f .offset) {a = s} {b = e} {s = pos s} {e = pos e} refl refl (leb-false s e q)) (λ r. omega (arith, leb-false s e q, r .1))
+      by false v p q = none (start-end-low size (f .offset) (pos s) (pos e) p) (λ r. omega (arith, leb-false 1 s p, r .0))
+  range-at (pos s) (negsuc e) = none (start-end-end size (f .offset) (pos s) (negsuc e) refl) (λ r. r)
+  range-at (negsuc s) y = none (start-end-low size (f .offset) (negsuc s) y refl) (λ r. r)
 
   length-at : (x y : ℤ) → (posLengthSpan size (f .offset) x y ≡ At a n) ↔ Located f form.PosLength x y a n × (a + n ≤ size)
-  length-at (pos p) (pos zero) = none (length-none size (f .offset) (pos p) {n = pos 0} refl) (λ r. omega (arith, r .1))
+  length-at (pos p) (pos zero) = none (pos-length-none size (f .offset) (pos p) {n = pos 0} refl) (λ r. omega (arith, r .1))
   length-at (pos p) (pos (suc k)) = by (leb 1 p) refl
     where
       by : (t : Bool) → leb 1 p ≡ t → (posLengthSpan size (f .offset) (pos p) (pos (suc k)) ≡ At a n) ↔ Located f form.PosLength (pos p) (pos (suc k)) a n × (a + n ≤ size)
       by true q =
           let l = leb-true 1 p q in
           let w = within-at size (f .offset + (p - 1)) (suc k) a n in
-          let d = length-up size (f .offset) {a = p} {k = suc k} {p = pos p} {n = pos (suc k)} refl refl l (omega arith) in
+          let d = pos-length-up size (f .offset) {a = p} {k = suc k} {p = pos p} {n = pos (suc k)} refl refl l (omega arith) in
           (λ z. let r = w .0 (d ∙ z) in ((l, omega arith, omega (arith, l, r .0), r .1), r .2), λ r. sym d ∙ w .1 (omega (arith, l, r .0 .2), r .0 .3, r .1))
-      by false q = none (length-low size (f .offset) (pos p) (pos (suc k)) q) (λ r. omega (arith, leb-false 1 p q, r .0))
+      by false q = none (pos-length-low size (f .offset) (pos p) (pos (suc k)) q) (λ r. omega (arith, leb-false 1 p q, r .0))
   length-at (pos p) (negsuc k) = by (leb 1 p) refl
     where
       by : (t : Bool) → leb 1 p ≡ t → (posLengthSpan size (f .offset) (pos p) (negsuc k) ≡ At a n) ↔ Located f form.PosLength (pos p) (negsuc k) a n × (a + n ≤ size)
       by true q =
           let l = leb-true 1 p q in
           let w = before-at size (f .offset + p) (suc k) (suc k) a n in
-          let d = length-down size (f .offset) (suc k) {a = p} {p = pos p} {n = negsuc k} refl refl l (omega arith) in
+          let d = pos-length-down size (f .offset) (suc k) {a = p} {p = pos p} {n = negsuc k} refl refl l (omega arith) in
           (λ z. let r = w .0 (d ∙ z) in ((l, omega (arith, r .0, r .1), r .1), r .2), λ r. sym d ∙ w .1 (omega (arith, r .0 .1, r .0 .2), r .0 .2, r .1))
-      by false q = none (length-low size (f .offset) (pos p) (negsuc k) q) (λ r. omega (arith, leb-false 1 p q, r .0))
-  length-at (negsuc p) y = none (length-low size (f .offset) (negsuc p) y refl) (λ r. r)
+      by false q = none (pos-length-low size (f .offset) (pos p) (negsuc k) q) (λ r. omega (arith, leb-false 1 p q, r .0))
+  length-at (negsuc p) y = none (pos-length-low size (f .offset) (negsuc p) y refl) (λ r. r)
 
   pub span-exactly : (h : Form) (x y : ℤ) → (spanOf size f h x y ≡ At a n) ↔ Located f h x y a n × (a + n ≤ size)
   unfolding spanOf

@@ -1,7 +1,7 @@
 -- The bytes that a reference names (document 01, "Values and references").
---   within size a n            n bytes from a, where they lie inside size bytes
---   spanOf size field how x y  the span of a reference with its bounds x and y, inside size bytes
---   Located field how x y a n  n bytes from a on are that span, said by natural numbers
+--   within size a n             n bytes from a, where they lie inside size bytes
+--   spanOf size field form x y  the span of a reference with its bounds x and y, inside size bytes
+--   Located field form x y a n  n bytes from a on are that span, said by natural numbers
 -- The size is D, the length of the data. Bounds are any numbers: nothing wraps.
 -- Assumes nothing.
 use mathlib.Core.Path.{_≡_}

@@ -19,7 +19,7 @@ use Rattle.rules_unit.specs.declared.Refusal.the-variants as refusal
 use Rattle.rules_unit.specs.declared.Checked.{Checked}
 use Rattle.rules_unit.specs.declared.Checked.the-variants as checked
 use Rattle.rules_unit.specs.Codes.{Code, decimalb, offsetOf, endOf}
-use Rattle.rules_unit.specs.Decode.{Fills, eighteen, markOf, isWrong, partsOf, fullLength, codeOf}
+use Rattle.rules_unit.specs.Decode.{Fills, eighteen, markOf, wrongMark, partsOf, fullLength, codeOf}
 use Rattle.rules_unit.specs.Checks.{filledb, rangesb, goodFields, statementsFrom, partsCheck, checkOf}
 use Rattle.rules_unit.specs.Sound.{Filled, Ranges, SoundCode, SoundUnit}
 use Rattle.rules_unit.specs.Answers.{FirstField, FirstThree, Says}
@@ -30,7 +30,7 @@ use Rattle.rules_unit.proofs.Statements.{Scans, statements-say, stateme
 -- ---- 1 and 2
 
 -- the mark that is not wrong
-mark-bytes : (u : List ℕ) → isWrong (markOf u) ≡ false → (getD u (length u - 2) 0 ≡ 0x44) × (getD u (length u - 1) 0 ≡ 0x42)
+mark-bytes : (u : List ℕ) → wrongMark (markOf u) ≡ false → (getD u (length u - 2) 0 ≡ 0x44) × (getD u (length u - 1) 0 ≡ 0x42)
 unfolding markOf
 mark-bytes u = by (eqb first 0x44) (eqb last 0x42) refl refl
   where
@@ -40,13 +40,13 @@ mark-bytes u = by (eqb first 0x44) (eqb last 0x42) refl refl
     last : ℕ
     last = getD u (length u - 1) 0
 
-    by : (s t : Bool) → eqb first 0x44 ≡ s → eqb last 0x42 ≡ t → isWrong (cond s (cond t (mark.Names eighteen) mark.Wrong) mark.Wrong) ≡ false
+    by : (s t : Bool) → eqb first 0x44 ≡ s → eqb last 0x42 ≡ t → wrongMark (cond s (cond t (mark.Names eighteen) mark.Wrong) mark.Wrong) ≡ false
         → (first ≡ 0x44) × (last ≡ 0x42)
     by true true e f q = (eqb-true first 0x44 e, eqb-true last 0x42 f)
     by true false e f q = absurd (true≢false q)
     by false t e f q = absurd (true≢false q)
 
-mark-right : (u : List ℕ) → getD u (length u - 2) 0 ≡ 0x44 → getD u (length u - 1) 0 ≡ 0x42 → isWrong (markOf u) ≡ false
+mark-right : (u : List ℕ) → getD u (length u - 2) 0 ≡ 0x44 → getD u (length u - 1) 0 ≡ 0x42 → wrongMark (markOf u) ≡ false
 unfolding markOf
 mark-right u e f = rw (eq-eqb (getD u (length u - 2) 0) 0x44 e, eq-eqb (getD u (length u - 1) 0) 0x42 f)
 
@@ -59,7 +59,7 @@ filled-tells u =
     record { least = r .0; most = r .1 .0; mark = m .0; mark-last = m .1; fills = record { whole = r .1 .1 .1 } })
     (λ r. (r .least, (r .most, (mark-right u (r .mark) (r .mark-last), r .fills .whole))))
     (tells-and (tells-le 12 (length u))
-    (tells-and (tells-le (length u) 57353) (tells-and (tells-not (isWrong (markOf u))) (tells-eq (fullLength (partsOf u)) (length u)))))
+    (tells-and (tells-le (length u) 57353) (tells-and (tells-not (wrongMark (markOf u))) (tells-eq (fullLength (partsOf u)) (length u)))))
 
 pub ranges-tell : (p : Parts) → Tells (rangesb p) (Ranges p)
 unfolding rangesb

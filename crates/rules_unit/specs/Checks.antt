@@ -25,7 +25,7 @@ use Rattle.rules_unit.specs.declared.Refusal.the-variants as refusal
 use Rattle.rules_unit.specs.declared.Checked.{Checked}
 use Rattle.rules_unit.specs.declared.Checked.the-variants as checked
 use Rattle.rules_unit.specs.Codes.{Code, isBad, decimalb, recordb, offsetOf, sizeOf, countOf, endOf}
-use Rattle.rules_unit.specs.Decode.{markOf, isWrong, partsOf, fullLength, codeOf}
+use Rattle.rules_unit.specs.Decode.{markOf, wrongMark, partsOf, fullLength, codeOf}
 use Rattle.rules_unit.specs.Table.{verbOf, rowOf, usesOf}
 use Rattle.rules_unit.specs.Expressions.{usesb}
 
@@ -47,7 +47,7 @@ refusalPlace (refusal.BadStatement i) = i
 -- "1 | length under 12 or over 57,353, wrong mark, or parts don't fill the unit"
 unfoldable pub filledb : List ℕ → Bool
 filledb u =
-    leb 12 (length u) && leb (length u) 57353 && not (isWrong (markOf u)) && eqb (fullLength (partsOf u)) (length u)
+    leb 12 (length u) && leb (length u) 57353 && not (wrongMark (markOf u)) && eqb (fullLength (partsOf u)) (length u)
 
 -- "D is 1 to 16,383; F 0 to 512; E 0 to 16,383; P 0 to 4,095; N 1 to 2,048."
 unfoldable pub rangesb : Parts → Bool

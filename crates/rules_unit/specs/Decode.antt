@@ -46,9 +46,9 @@ markOf u =
     (cond (eqb (getD u (length u - 1) 0) 0x42) (mark.Names eighteen)
     mark.Wrong) mark.Wrong
 
-abbrev pub isWrong : Mark → Bool
-isWrong (mark.Names d) = false
-isWrong mark.Wrong = true
+abbrev pub wrongMark : Mark → Bool
+wrongMark (mark.Names d) = false
+wrongMark mark.Wrong = true
 
 -- The dialect that a mark names. A wrong one names none; check 1 refuses it, whatever it is decoded to here.
 abbrev pub dialectOf : Mark → Dialect

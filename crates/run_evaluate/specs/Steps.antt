@@ -2,7 +2,7 @@
 --   topDown held n       the first n of the code's array of values, as the rules' list: the last held first
 --   restOf c d is st     what the items that are left come to, with the values st held
 --   heldOn kept next v   what an item comes to that makes v of the values that it takes
---   formOf code           the bounds of a reference by its code, 03 to 05
+--   formOf code          the form of a reference by its code, 03 to 05
 --   loneb es i           the expression at i is a reference without bounds alone: 02, the field, 00
 --   Ready                what every step asks
 --   Leads                what every step keeps: what is left, with the values held, comes to the same

@@ -193,7 +193,7 @@ fn text_step(
     if run_items::ends(es, i + 5) {
         let place = unit_decode::word(es, i + 1);
         let len = unit_decode::word(es, i + 3);
-        return Step::Done(run_items::text_of(unit, parts, place, len, n));
+        return Step::Done(run_items::text_by(unit, parts, place, len, n));
     }
     malformed()
 }

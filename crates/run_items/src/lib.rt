@@ -14,6 +14,7 @@ ghost use lib.Dec.{ltb, eqb};
 ghost use lib.IntN.{pos};
 ghost use lib.ListN.{length, getD, take, drop};
 ghost use Rattle.rules.specs.declared.Fault.the-variants as fault;
+ghost use Rattle.rules.specs.Tests.{_&&_};
 ghost use Rattle.rules.specs.Values.{Val, Top, readOf};
 ghost use Rattle.rules_unit.specs.declared.Form.the-variants as form;
 ghost use Rattle.rules_unit.specs.Decode.{Fills, SoundDialect, codeOf};
@@ -251,7 +252,7 @@ pub fn place_of(
 }
 
 // A last alpha literal, which stands alone: no values are held.
-pub fn text_of(unit: &[u8], parts: Parts, place: u16, len: u16, n: usize) -> Worked
+pub fn text_by(unit: &[u8], parts: Parts, place: u16, len: u16, n: usize) -> Worked
     requires { ⌜ Fills (now unit) parts ⌝ }
     ensures { λ r. ⌜ r ≡ cond (eqb n 0) (cond (textb (codeOf (now (unit .entry)) parts) place len) (worked.Text place len) (worked.Failed fault.Malformed)) (worked.Failed fault.Malformed) ⌝ }
 {
@@ -269,7 +270,7 @@ pub fn text_of(unit: &[u8], parts: Parts, place: u16, len: u16, n: usize) -> Wor
 
 // Whether the expression ends at an offset: 00 stands there.
 pub fn ends(es: &[u8], at: usize) -> bool
-    ensures { λ r. ⌜ r ≡ cond (ltb at (length (now (es .entry)))) (eqb (getD (now (es .entry)) at 0) 0) false ⌝ }
+    ensures { λ r. ⌜ r ≡ (ltb at (length (now (es .entry))) && eqb (getD (now (es .entry)) at 0) 0) ⌝ }
 {
     if at < es.len() {
         return es[at] == 0;

@@ -42,18 +42,18 @@ told-below v ek = omega (arith, again v .small)
 -- ---- a reference, by its bounds as a call gets them
 
 module _ (size : ℕ) (f : Field) (x y : ℤ) {h : Form} where
-  pub span-whole : h ≡ form.First → within size (pos (f .offset)) (f .size) ≡ spanOf size f h x y
+  pub span-first : h ≡ form.First → within size (pos (f .offset)) (f .size) ≡ spanOf size f h x y
   unfolding spanOf
-  span-whole e = rw e
+  span-first e = rw e
 
-  pub span-element : h ≡ form.Subscript → SFits w64 x → subscriptSpan size (f .offset) (f .size) (toZ w64 (ofZ w64 x)) ≡ spanOf size f h x y
+  pub span-subscript : h ≡ form.Subscript → SFits w64 x → subscriptSpan size (f .offset) (f .size) (toZ w64 (ofZ w64 x)) ≡ spanOf size f h x y
   unfolding spanOf
-  span-element e p = rw (e, back p)
+  span-subscript e p = rw (e, back p)
 
-  pub span-range : h ≡ form.StartEnd → SFits w64 x → SFits w64 y → startEndSpan size (f .offset) (toZ w64 (ofZ w64 x)) (toZ w64 (ofZ w64 y)) ≡ spanOf size f h x y
+  pub span-start-end : h ≡ form.StartEnd → SFits w64 x → SFits w64 y → startEndSpan size (f .offset) (toZ w64 (ofZ w64 x)) (toZ w64 (ofZ w64 y)) ≡ spanOf size f h x y
   unfolding spanOf
-  span-range e p q = rw (e, back p, back q)
+  span-start-end e p q = rw (e, back p, back q)
 
-  pub span-length : h ≡ form.PosLength → SFits w64 x → SFits w64 y → posLengthSpan size (f .offset) (toZ w64 (ofZ w64 x)) (toZ w64 (ofZ w64 y)) ≡ spanOf size f h x y
+  pub span-pos-length : h ≡ form.PosLength → SFits w64 x → SFits w64 y → posLengthSpan size (f .offset) (toZ w64 (ofZ w64 x)) (toZ w64 (ofZ w64 y)) ≡ spanOf size f h x y
   unfolding spanOf
-  span-length e p q = rw (e, back p, back q)
+  span-pos-length e p q = rw (e, back p, back q)

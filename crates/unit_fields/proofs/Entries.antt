@@ -12,12 +12,12 @@ use Rattle.rules_unit.specs.declared.Mark.{Mark}
 use Rattle.rules_unit.specs.declared.Parts.{Parts}
 use Rattle.rules_unit.specs.declared.Field.{Field}
 use Rattle.rules_unit.specs.Codes.{Code, isBad, isDecimal, isRecord}
-use Rattle.rules_unit.specs.Decode.{markOf, isWrong, partsOf, fullLength, codeOf}
+use Rattle.rules_unit.specs.Decode.{markOf, wrongMark, partsOf, fullLength, codeOf}
 use Rattle.rules_unit.specs.Checks.{filledb, entryb, floorAfter, goodFields}
 use Rattle.rules_unit.proofs.Statements.{left-suc, left-none}
 
 -- the last two tests of check 1: m is the mark that the code has read, and w whether it is wrong
-module _ (u : List ℕ) (m : Mark) (w : Bool) (least : 12 ≤ length u) (most : length u ≤ 57353) (read : m ≡ markOf u) (is : w ≡ isWrong m) where
+module _ (u : List ℕ) (m : Mark) (w : Bool) (least : 12 ≤ length u) (most : length u ≤ 57353) (read : m ≡ markOf u) (is : w ≡ wrongMark m) where
   pub filled-wrong : w ≡ true → false ≡ filledb u
   unfolding filledb
   filled-wrong e = rw (le-leb 12 (length u) least, le-leb (length u) 57353 most, ← read, ← is, e)

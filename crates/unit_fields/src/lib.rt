@@ -5,14 +5,14 @@ use rules_unit::Parts;
 ghost use mathlib.Core.Path.{_≡_};
 ghost use Prim.Native.Nat.{_+_, _<_};
 ghost use Rattle.rules_unit.specs.Codes.{isBad, isRecord};
-ghost use Rattle.rules_unit.specs.Decode.{Fills, isWrong, codeOf};
+ghost use Rattle.rules_unit.specs.Decode.{Fills, wrongMark, codeOf};
 ghost use Rattle.rules_unit.specs.Checks.{filledb, rangesb, entryb, floorAfter, goodFields};
 
 // ---- 1 and 2
 
 // Whether a mark is wrong.
-fn is_wrong(mark: Mark) -> bool
-    ensures { λ r. ⌜ r ≡ isWrong mark ⌝ }
+fn wrong_mark(mark: Mark) -> bool
+    ensures { λ r. ⌜ r ≡ wrongMark mark ⌝ }
 {
     match mark {
         Mark::Names(_) => false,
@@ -31,7 +31,7 @@ pub fn filled(u: &[u8]) -> bool
     if 57353 < n {
         return false;
     }
-    if is_wrong(unit_decode::mark_of(u)) {
+    if wrong_mark(unit_decode::mark_of(u)) {
         return false;
     }
     unit_decode::full_length(unit_decode::parts_of(u)) == n

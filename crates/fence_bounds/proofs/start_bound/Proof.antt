@@ -1,4 +1,4 @@
--- `fence_bounds::start_bound` meets its contract: each arm knows how the reference is bound.
+-- `fence_bounds::start_bound` meets its contract: each arm knows the form of the reference.
 -- Assumes nothing.
 use borrow.Author.Needs.{needs}
 use mir.Syntax.{w64}

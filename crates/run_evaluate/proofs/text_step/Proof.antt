@@ -32,8 +32,8 @@ add-word-2 c = search needs
 word-requires-2 : tie.Need-word-requires-2
 word-requires-2 c κs = search needs
 
-text-of-requires : tie.Need-text-of-requires
-text-of-requires c κs = search needs
+text-by-requires : tie.Need-text-by-requires
+text-by-requires c κs = search needs
 
 returns-2 : tie.Need-returns-2
 returns-2 c = search text-last depth 3
@@ -57,7 +57,7 @@ text-step-spec =
     word-requires
     add-word-2
     word-requires-2
-    text-of-requires
+    text-by-requires
     returns-2
     malformed-requires-2
     returns-3)

@@ -7,7 +7,7 @@ use lib.Signed.{leZ}
 use borrow.Author.Needs.{needs}
 use native.Mathlib.Omega.{arith}
 use Rattle.rules.proofs.Signed.{again}
-use Rattle.rules_run.proofs.Located.{before, after, length-low, length-none, length-up, length-down}
+use Rattle.rules_run.proofs.Located.{before, after, pos-length-low, pos-length-none, pos-length-up, pos-length-down}
 use Rattle.run_spans.proofs.Finding.{told, told-none, told-zero, told-below}
 use Rattle.run_spans.proofs.pos_length_span.Statement.{statement}
 use Rattle.run_spans.proofs.pos_length_span.Tie as tie
@@ -37,7 +37,7 @@ returns : tie.Need-returns
 returns c =
     let b = c .before .before in
     let s = b .args in
-    length-low (s .size) (s .offset) (s .p) (s .n) (told-none (b .fits .p) (c .before .is-neg .ensures) (c .if1 .taken))
+    pos-length-low (s .size) (s .offset) (s .p) (s .n) (told-none (b .fits .p) (c .before .is-neg .ensures) (c .if1 .taken))
 
 magnitude-requires : tie.Need-magnitude-requires
 magnitude-requires c κs = omega (arith, again (c .before .before .pre .1 .0) .small)
@@ -49,13 +49,13 @@ returns-2 : tie.Need-returns-2
 returns-2 c =
     let m = c .before in
     let s = entry m .args in
-    length-low (s .size) (s .offset) (s .p) (s .n) (ap (leZ (pos 1)) (place m ∙ ap pos (c .if2 .taken)))
+    pos-length-low (s .size) (s .offset) (s .p) (s .n) (ap (leZ (pos 1)) (place m ∙ ap pos (c .if2 .taken)))
 
 returns-3 : tie.Need-returns-3
 returns-3 c =
     let m = c .before .before in
     let s = entry m .args in
-    length-none (s .size) (s .offset) (s .p) (told-zero (entry m .fits .n) (m .magnitude2 .ensures) (c .if3 .taken))
+    pos-length-none (s .size) (s .offset) (s .p) (told-zero (entry m .fits .n) (m .magnitude2 .ensures) (c .if3 .taken))
 
 is-neg-requires-2 : tie.Need-is-neg-requires-2
 is-neg-requires-2 c κs = search needs
@@ -68,7 +68,7 @@ returns-4 c =
     let m = sizes (c .before .before) in
     let s = entry m .args in
     before (s .size) (s .offset + m .before .magnitude .result) (m .magnitude2 .result) (m .magnitude2 .result) (omega arith)
-    ∙ length-down (s .size) (s .offset) (m .magnitude2 .result) (place m) (down (c .before)) (omega arith) (omega arith)
+    ∙ pos-length-down (s .size) (s .offset) (m .magnitude2 .result) (place m) (down (c .before)) (omega arith) (omega arith)
 
 add-inside : tie.Need-add-inside
 add-inside c = let m = sizes (c .before .before) in omega (arith, told-below (entry m .pre .1 .0) (m .before .magnitude .ensures))
@@ -85,7 +85,7 @@ returns-5 c =
     let s = entry m .args in
     c .inside .ensures
     ∙ after (s .size) (s .offset + m .before .magnitude .result) (m .magnitude2 .result) (m .magnitude2 .result) (omega arith)
-    ∙ length-down (s .size) (s .offset) (m .magnitude2 .result) (place m) (down (c .before .before)) (omega arith) (omega arith)
+    ∙ pos-length-down (s .size) (s .offset) (m .magnitude2 .result) (place m) (down (c .before .before)) (omega arith) (omega arith)
 
 sub-inside-2 : tie.Need-sub-inside-2
 sub-inside-2 c = search needs
@@ -100,7 +100,7 @@ returns-6 : tie.Need-returns-6
 returns-6 c =
     let m = sizes (c .before .before) in
     let s = entry m .args in
-    c .inside2 .ensures ∙ length-up (s .size) (s .offset) (place m) (up (c .before)) (omega arith) (omega arith)
+    c .inside2 .ensures ∙ pos-length-up (s .size) (s .offset) (place m) (up (c .before)) (omega arith) (omega arith)
 
 pub pos-length-span-spec : {M : Type 1} → statement M
 pos-length-span-spec =

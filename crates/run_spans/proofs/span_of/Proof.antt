@@ -2,7 +2,7 @@
 -- Assumes nothing.
 use mathlib.Core.Path.{_∙_}
 use borrow.Author.Needs.{needs}
-use Rattle.run_spans.proofs.Finding.{span-whole, span-element, span-range, span-length}
+use Rattle.run_spans.proofs.Finding.{span-first, span-subscript, span-start-end, span-pos-length}
 use Rattle.run_spans.proofs.span_of.Statement.{statement}
 use Rattle.run_spans.proofs.span_of.Tie as tie
 
@@ -39,25 +39,25 @@ pos-length-span-requires c κs = search needs
 returns : tie.Need-returns
 returns c =
     let s = c .before .before .before .before .before .args in
-    c .inside .ensures ∙ span-whole (s .size) (s .field) (s .x) (s .y) (c .before .enum-told .given .1)
+    c .inside .ensures ∙ span-first (s .size) (s .field) (s .x) (s .y) (c .before .enum-told .given .1)
 
 returns-2 : tie.Need-returns-2
 returns-2 c =
     let s = c .before .before .before .before .before .args in
     let f = c .before .before .before .before .before .fits in
-    c .subscript-span .ensures ∙ span-element (s .size) (s .field) (s .x) (s .y) (c .before .enum-told2 .given .1) (f .x)
+    c .subscript-span .ensures ∙ span-subscript (s .size) (s .field) (s .x) (s .y) (c .before .enum-told2 .given .1) (f .x)
 
 returns-3 : tie.Need-returns-3
 returns-3 c =
     let s = c .before .before .before .before .before .args in
     let f = c .before .before .before .before .before .fits in
-    c .start-end-span .ensures ∙ span-range (s .size) (s .field) (s .x) (s .y) (c .before .enum-told3 .given .1) (f .x) (f .y)
+    c .start-end-span .ensures ∙ span-start-end (s .size) (s .field) (s .x) (s .y) (c .before .enum-told3 .given .1) (f .x) (f .y)
 
 returns-4 : tie.Need-returns-4
 returns-4 c =
     let s = c .before .before .before .before .before .args in
     let f = c .before .before .before .before .before .fits in
-    c .pos-length-span .ensures ∙ span-length (s .size) (s .field) (s .x) (s .y) (c .before .enum-told4 .given .1) (f .x) (f .y)
+    c .pos-length-span .ensures ∙ span-pos-length (s .size) (s .field) (s .x) (s .y) (c .before .enum-told4 .given .1) (f .x) (f .y)
 
 pub span-of-spec : {M : Type 1} → statement M
 span-of-spec =

@@ -6,7 +6,7 @@ use lib.Signed.{leZ}
 use borrow.Author.Needs.{needs}
 use native.Mathlib.Omega.{arith}
 use Rattle.rules.proofs.Signed.{again}
-use Rattle.rules_run.proofs.Located.{range-low, range-turned, range-end, range-is}
+use Rattle.rules_run.proofs.Located.{start-end-low, start-end-turned, start-end-end, start-end-is}
 use Rattle.run_spans.proofs.Finding.{told, told-none, told-below}
 use Rattle.run_spans.proofs.start_end_span.Statement.{statement}
 use Rattle.run_spans.proofs.start_end_span.Tie as tie
@@ -32,7 +32,7 @@ returns : tie.Need-returns
 returns c =
     let b = c .before .before in
     let s = b .args in
-    range-low (s .size) (s .offset) (s .s) (s .e) (told-none (b .fits .s) (c .before .is-neg .ensures) (c .if1 .taken))
+    start-end-low (s .size) (s .offset) (s .s) (s .e) (told-none (b .fits .s) (c .before .is-neg .ensures) (c .if1 .taken))
 
 is-neg-requires-2 : tie.Need-is-neg-requires-2
 is-neg-requires-2 c κs = search needs
@@ -41,7 +41,7 @@ returns-2 : tie.Need-returns-2
 returns-2 c =
     let b = c .before .before .before .before in
     let s = b .args in
-    range-end (s .size) (s .offset) (s .s) (s .e) (told-none (b .fits .e) (c .before .is-neg2 .ensures) (c .if2 .taken))
+    start-end-end (s .size) (s .offset) (s .s) (s .e) (told-none (b .fits .e) (c .before .is-neg2 .ensures) (c .if2 .taken))
 
 magnitude-requires : tie.Need-magnitude-requires
 magnitude-requires c κs = omega (arith, again (c .before .before .before .before .pre .1 .0) .small)
@@ -53,13 +53,13 @@ returns-3 : tie.Need-returns-3
 returns-3 c =
     let m = c .before in
     let s = entry m .args in
-    range-low (s .size) (s .offset) (s .s) (s .e) (ap (leZ (pos 1)) (first m ∙ ap pos (c .if3 .taken)))
+    start-end-low (s .size) (s .offset) (s .s) (s .e) (ap (leZ (pos 1)) (first m ∙ ap pos (c .if3 .taken)))
 
 returns-4 : tie.Need-returns-4
 returns-4 c =
     let m = c .before .before in
     let s = entry m .args in
-    range-turned (s .size) (s .offset) (first m) (last m) (omega arith)
+    start-end-turned (s .size) (s .offset) (first m) (last m) (omega arith)
 
 sub-inside : tie.Need-sub-inside
 sub-inside c = search needs
@@ -77,7 +77,7 @@ returns-5 : tie.Need-returns-5
 returns-5 c =
     let m = c .before .before .before in
     let s = entry m .args in
-    c .inside .ensures ∙ range-is (s .size) (s .offset) (first m) (last m) (omega arith) (omega arith)
+    c .inside .ensures ∙ start-end-is (s .size) (s .offset) (first m) (last m) (omega arith) (omega arith)
 
 pub start-end-span-spec : {M : Type 1} → statement M
 start-end-span-spec =

@@ -5,7 +5,7 @@ use lib.IntN.{pos, negℤ}
 use borrow.Author.Needs.{needs}
 use native.Mathlib.Omega.{arith}
 use Rattle.rules.proofs.Signed.{again}
-use Rattle.rules_run.proofs.Located.{element-none, element-up, element-down}
+use Rattle.rules_run.proofs.Located.{subscript-none, subscript-up, subscript-down}
 use Rattle.run_spans.proofs.Finding.{told, told-below}
 use Rattle.run_spans.proofs.subscript_span.Statement.{statement}
 use Rattle.run_spans.proofs.subscript_span.Tie as tie
@@ -26,7 +26,7 @@ inside-requires c κs = search needs
 returns : tie.Need-returns
 returns c =
     let s = c .before .before .args in
-    c .inside .ensures ∙ element-none (s .size) (s .offset) (s .n) (s .s) (c .before .if1 .taken)
+    c .inside .ensures ∙ subscript-none (s .size) (s .offset) (s .n) (s .s) (c .before .if1 .taken)
 
 magnitude-requires : tie.Need-magnitude-requires
 magnitude-requires c κs = omega (arith, again (c .before .pre .1) .small)
@@ -46,7 +46,7 @@ returns-2 : tie.Need-returns-2
 returns-2 c =
     let n = c .before .before in
     let s = entry n .args in
-    c .backward .ensures ∙ element-down (s .size) (s .offset) (s .n) (n .before .magnitude .result) (down (c .before))
+    c .backward .ensures ∙ subscript-down (s .size) (s .offset) (s .n) (n .before .magnitude .result) (down (c .before))
 
 backward-requires-2 : tie.Need-backward-requires-2
 backward-requires-2 c κs = search needs
@@ -55,7 +55,7 @@ returns-3 : tie.Need-returns-3
 returns-3 c =
     let p = c .before .before in
     let s = entry (p .before) .args in
-    c .backward2 .ensures ∙ element-down (s .size) (s .offset) (s .n) 0 (up p ∙ ap pos (c .before .if3 .taken))
+    c .backward2 .ensures ∙ subscript-down (s .size) (s .offset) (s .n) 0 (up p ∙ ap pos (c .before .if3 .taken))
 
 sub-forward : tie.Need-sub-forward
 sub-forward c = search needs
@@ -67,7 +67,7 @@ returns-4 : tie.Need-returns-4
 returns-4 c =
     let p = c .before .before in
     let s = entry (p .before) .args in
-    c .forward .ensures ∙ element-up (s .size) (s .offset) (s .n) (up p) (omega arith)
+    c .forward .ensures ∙ subscript-up (s .size) (s .offset) (s .n) (up p) (omega arith)
 
 pub subscript-span-spec : {M : Type 1} → statement M
 subscript-span-spec =

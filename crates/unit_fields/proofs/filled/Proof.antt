@@ -18,8 +18,8 @@ returns-2 c = search walk depth 16
 mark-of-requires : tie.Need-mark-of-requires
 mark-of-requires c κs = search needs
 
-is-wrong-requires : tie.Need-is-wrong-requires
-is-wrong-requires c κs = search needs
+wrong-mark-requires : tie.Need-wrong-mark-requires
+wrong-mark-requires c κs = search needs
 
 returns-3 : tie.Need-returns-3
 returns-3 c = search filled-wrong depth 3
@@ -34,4 +34,4 @@ returns-4 : tie.Need-returns-4
 returns-4 c = search filled-by depth 3
 
 pub filled-spec : {M : Type 1} → statement M
-filled-spec = tie.close (tie.spec returns returns-2 mark-of-requires is-wrong-requires returns-3 parts-of-requires full-length-requires returns-4)
+filled-spec = tie.close (tie.spec returns returns-2 mark-of-requires wrong-mark-requires returns-3 parts-of-requires full-length-requires returns-4)
