@@ -20,15 +20,18 @@ import sys
 
 KINDS = ["alpha", "decimal", "record"]
 WORDS = dict(enumerate(["set", "clear", "incr", "decr", "upcase", "locase", "goto", "ifzero",
-                        "call", "return", "stop", "computed"], 1))
+                        "call", "return", "stop", "computed", "using"], 1))
 CODES = {word: code for code, word in WORDS.items()}
+
+# The words that begin the line of a statement: using stands inside that of a set.
+FIRST = [word for word in CODES if word != "using"]
 
 # The other words that begin a line.
 OTHERS = ["data", "field", "literals", "expr", "statement", "trailer", "patch", "raw"]
 REPEATS = ["repeat", "end"]
 
 # The parts of a statement that hold expressions, a target, and anything at all, by its word.
-PLACES = {"set": "ab", "ifzero": "b", "computed": "b"} | dict.fromkeys(list(CODES)[1:6], "a")
+PLACES = {"set": "ab", "ifzero": "b", "computed": "b", "using": "abc"} | dict.fromkeys(list(CODES)[1:6], "a")
 TARGET = {"goto": "c", "ifzero": "c", "call": "c"}
 USED = {word: PLACES.get(word, "") + TARGET.get(word, "") for word in CODES} | {"computed": "ab"}
 
@@ -277,7 +280,7 @@ class Assembler:
         if line.is_done():
             return
         word = line.name()
-        if word in CODES:
+        if word in FIRST:
             self.statement(word, line)
         elif word in KINDS:
             self.field(word, line)
@@ -286,7 +289,7 @@ class Assembler:
         elif word in REPEATS:
             raise Fault(f"{shown(word)} stands alone, and no repeat inside another")
         else:
-            raise Fault(f"unknown word {shown(word)}{meant(word, [*CODES, *KINDS, *OTHERS, *REPEATS])}")
+            raise Fault(f"unknown word {shown(word)}{meant(word, [*FIRST, *KINDS, *OTHERS, *REPEATS])}")
         if not line.is_done():
             raise Fault(f"the line should end where {line.here()}")
 
@@ -366,6 +369,8 @@ class Assembler:
             if word + part == "setb":
                 line.pass_by("=")
             parts[part] = self.place(line)
+        if word == "set" and line.accept("using"):
+            parts |= {"code": CODES["using"], "b": self.place(line), "c": parts["b"]}
         if word == "ifzero":
             line.pass_by("goto")
         if word in TARGET:
@@ -622,6 +627,8 @@ class Disassembler:
         _, a, b, c = words_of(data)
         parts = {"zero": data[1], "a": a, "b": b, "c": c}
         text = [word, " = ".join(self.place(parts[part]) for part in PLACES.get(word, ""))]
+        if word == "using":
+            text = ["set", f"{self.place(a)} = {self.place(c)} using {self.place(b)}"]
         if word == "computed":
             table = self.table(i + 1, i + 1 + a)
             text += ["goto", *table] if table else [f"of {a}"]

@@ -91,6 +91,7 @@ fn statement_fits(parts: &Parts, i: usize, statement: &Statement) -> bool {
         code::GOTO_IF_ZERO => a == 0 && target_fits,
         code::RETURN | code::STOP => a == 0 && b == 0 && c == 0,
         code::COMPUTED_GOTO => c == 0 && table_fits(parts, i, a),
+        code::FORMAT => true,
         _ => false,
     };
     statement.zero == 0 && parts_fit
@@ -107,16 +108,21 @@ fn table_fits(parts: &Parts, i: usize, n: usize) -> bool {
         })
 }
 
-/// Check 4: the expressions a and b of a statement that passes check 5.
+/// Check 4: the expressions a, b and c of a statement that passes check 5.
 fn expressions_fit(parts: &Parts, statement: &Statement) -> bool {
     let fits = |offset, wanted: fn(Sort) -> bool| sort_at(parts, offset).is_some_and(wanted);
-    let (a, b) = (statement.a, statement.b);
+    let Statement { a, b, c, .. } = *statement;
     match statement.code {
         code::SET => fits(a, Sort::is_place) && fits(b, |_| true),
         code::CLEAR => fits(a, Sort::is_place),
         code::INCR | code::DECR => fits(a, |sort| sort == Sort::DecimalPlace),
         code::UPCASE | code::LOCASE => fits(a, |sort| sort == Sort::AlphaPlace),
         code::GOTO_IF_ZERO | code::COMPUTED_GOTO => fits(b, Sort::is_number),
+        code::FORMAT => {
+            fits(a, |sort| sort == Sort::AlphaPlace)
+                && fits(b, Sort::is_alpha_source)
+                && fits(c, Sort::is_number)
+        }
         _ => true,
     }
 }
@@ -275,6 +281,7 @@ mod tests {
             ((10, 0, 0, 0), [false, false, false]),
             ((11, 0, 0, 0), [false, false, false]),
             ((12, 1, 8, 0), [true, true, false]),
+            ((13, 4, 4, 8), [true, true, true]),
         ] {
             let goto = (7, 0, 0, 0);
             assert_eq!(answer_to(&[statement, goto]), PASSED, "{statement:?}");
@@ -290,8 +297,9 @@ mod tests {
 
     #[test]
     fn codes_and_targets() {
-        assert_eq!(answer_to(&[(0, 0, 0, 0)]), (5, 0));
-        assert_eq!(answer_to(&[(13, 0, 0, 0)]), (5, 0));
+        for code in (0..=255).filter(|code| !(1..=13).contains(code)) {
+            assert_eq!(answer_to(&[(code, 0, 0, 0)]), (5, 0), "{code}");
+        }
         for code in [7, 9] {
             assert_eq!(answer_to(&[(11, 0, 0, 0), (code, 0, 0, 1)]), PASSED);
             assert_eq!(answer_to(&[(11, 0, 0, 0), (code, 0, 0, 2)]), (5, 1));
@@ -349,6 +357,44 @@ mod tests {
                 );
             }
         }
+    }
+
+    #[test]
+    fn a_formatted_move_has_a_place_a_mask_and_a_number() {
+        // For each part: whether a decimal place, an alpha place, a number, an alpha literal, and
+        // an offset outside the expressions serve.
+        let expressions = b"\x02\0\0\0\x02\0\x01\0\x01\0\0\x01\0\x06\0\0\0\x02\0";
+        let good: [u16; 3] = [4, 13, 8];
+        for (part, wanted) in [
+            [false, true, false, false, false],
+            [false, true, false, true, false],
+            [true, false, true, false, false],
+        ]
+        .into_iter()
+        .enumerate()
+        {
+            for (offset, serves) in [0, 4, 8, 13, 19].into_iter().zip(wanted) {
+                let mut parts = good;
+                parts[part] = offset;
+                let [a, b, c] = parts;
+                let sample = Sample::fields((13, a, b, c), expressions);
+                let wanted = if serves { PASSED } else { (4, 0) };
+                assert_eq!(sample.answer(), wanted, "part {part} at {offset}");
+                let mut unit = sample.unit();
+                let zero = unit.len() - 12 - 8 + 1;
+                unit[zero] = 1;
+                assert_eq!(answer(&unit), (5, 0));
+            }
+        }
+    }
+
+    #[test]
+    fn a_formatted_move_is_no_goto_of_a_table() {
+        assert_eq!(answer_to(&[(12, 1, 8, 0), (13, 4, 4, 8)]), (5, 0));
+        assert_eq!(
+            answer_to(&[(12, 1, 8, 0), (7, 0, 0, 2), (13, 4, 4, 8)]),
+            PASSED
+        );
     }
 
     #[test]

@@ -83,6 +83,10 @@ impl Sort {
     pub fn is_number(self) -> bool {
         matches!(self, Sort::Number | Sort::DecimalPlace)
     }
+
+    pub fn is_alpha_source(self) -> bool {
+        matches!(self, Sort::AlphaPlace | Sort::AlphaLiteral)
+    }
 }
 
 /// The item at `at` and the offset behind it, or nothing if its code is unknown or the
@@ -141,7 +145,7 @@ pub fn sort_at(parts: &Parts, offset: usize) -> Option<Sort> {
             return if held == 1 { sort } else { None };
         }
         // Whatever is alpha stands only last.
-        if matches!(sort, Some(Sort::AlphaPlace | Sort::AlphaLiteral)) {
+        if sort.is_some_and(Sort::is_alpha_source) {
             return None;
         }
         sort = Some(sort_of(parts, &item)?);

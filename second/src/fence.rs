@@ -69,7 +69,7 @@ pub fn fence(unit: &[u8]) -> Fence {
         .map_or(Fence::Yes, Fence::No)
 }
 
-/// Why statement `i` breaks the fence rules: the first rule broken, going over a before b,
+/// Why statement `i` breaks the fence rules: the first rule broken, going over a before b before c,
 /// references left to right and the rules of each in their order. There is none if the statement
 /// keeps the rules, is not there, or the unit is refused.
 pub fn breach(unit: &[u8], i: usize) -> Option<Breach> {
@@ -79,13 +79,14 @@ pub fn breach(unit: &[u8], i: usize) -> Option<Breach> {
 }
 
 fn statement_breach(parts: &Parts, i: usize) -> Option<Breach> {
-    let Statement { code, a, b, .. } = parts.statement(i)?;
+    let Statement { code, a, b, c, .. } = parts.statement(i)?;
+    let written = |offset| expression_breach(parts, offset, true);
+    let read = |offset| expression_breach(parts, offset, false);
     match code {
-        code::SET => {
-            expression_breach(parts, a, true).or_else(|| expression_breach(parts, b, false))
-        }
-        code::CLEAR..=code::LOCASE => expression_breach(parts, a, true),
-        code::GOTO_IF_ZERO | code::COMPUTED_GOTO => expression_breach(parts, b, false),
+        code::SET => written(a).or_else(|| read(b)),
+        code::CLEAR..=code::LOCASE => written(a),
+        code::GOTO_IF_ZERO | code::COMPUTED_GOTO => read(b),
+        code::FORMAT => written(a).or_else(|| read(b)).or_else(|| read(c)),
         _ => None,
     }
 }

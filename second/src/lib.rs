@@ -11,6 +11,7 @@ mod decimal;
 mod expression;
 mod fence;
 mod literal;
+mod mask;
 mod run;
 #[cfg(test)]
 mod sample;

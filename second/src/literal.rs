@@ -42,6 +42,7 @@ mod tests {
             ((1, 0, 8, 0), 3),
             ((1, 4, 0, 0), 0),
             ((2, 4, 0, 0), 0),
+            ((13, 4, 8, 0), 0),
         ] {
             let sample = Sample::fields(statement, expressions);
             let unit = sample.unit();

@@ -3,6 +3,7 @@
 use crate::arithmetic;
 use crate::check::check;
 use crate::decimal;
+use crate::mask::edited;
 use crate::span::Span;
 use crate::state::State;
 use crate::stop::{Fault, Refusal, ALLOWANCE_SPENT, END};
@@ -111,6 +112,7 @@ fn step(parts: &Parts, data: &mut [u8], state: &mut State) -> Result<(), Fault> 
             state.go_to(i + chosen(number(parts, data, b)?, a));
             return Ok(());
         }
+        code::FORMAT => format(parts, data, [a, b, c])?,
         _ => unreachable!("a sound unit has no statement {code}"),
     }
     state.advance();
@@ -146,6 +148,22 @@ fn set(parts: &Parts, data: &mut [u8], a: usize, b: usize) -> Result<(), Fault> 
             text::write_text(&mut data[place.range()], &parts.literals[range]);
         }
     }
+    Ok(())
+}
+
+/// The formatted move: the place a, the mask b and the number c are worked out in this order, and
+/// storing comes last. The mask is edited whole before the place is written, which may share bytes
+/// with it.
+fn format(parts: &Parts, data: &mut [u8], [a, b, c]: [usize; 3]) -> Result<(), Fault> {
+    let place = place(parts, data, a)?;
+    let mask = work(parts, data, b)?;
+    let value = number(parts, data, c)?;
+    let shown = match mask {
+        Worked::Span(span) => edited(&data[span.range()], value),
+        Worked::Literal(range) => edited(&parts.literals[range], value),
+        Worked::Number(_) => unreachable!("a mask is an alpha source"),
+    };
+    text::write_right(&mut data[place.range()], &shown);
     Ok(())
 }
 

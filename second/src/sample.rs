@@ -110,6 +110,13 @@ impl Sample {
         self
     }
 
+    /// Adds a formatted move.
+    pub fn format(mut self, place: &str, mask: &str, number: &str) -> Sample {
+        let [a, b, c] = [place, mask, number].map(|items| self.expression(items));
+        self.statements.push((code::FORMAT, a, b, c));
+        self
+    }
+
     /// Adds a statement with a place alone.
     pub fn on(mut self, code: u8, place: &str) -> Sample {
         let a = self.expression(place);

@@ -65,6 +65,14 @@ pub fn write_text(place: &mut [u8], text: &[u8]) {
     place[length..].fill(SPACE);
 }
 
+/// Moves formatted data to an alpha place: right-justified, cut or filled with spaces on the left.
+pub fn write_right(place: &mut [u8], text: &[u8]) {
+    let length = place.len().min(text.len());
+    let (left, right) = place.split_at_mut(place.len() - length);
+    left.fill(SPACE);
+    right.copy_from_slice(&text[text.len() - length..]);
+}
+
 /// Moves text that stands in the data itself. The result is as if the source had been copied away
 /// first.
 pub fn write_within(data: &mut [u8], place: Range<usize>, source: Range<usize>) {
@@ -137,6 +145,17 @@ mod tests {
         assert_eq!(&place, b"ab   ");
         write_text(&mut place, b"cdefghij");
         assert_eq!(&place, b"cdefg");
+    }
+
+    #[test]
+    fn formatted_data_is_cut_or_filled_on_the_left() {
+        let mut place = *b"?????";
+        write_right(&mut place, b"ab");
+        assert_eq!(&place, b"   ab");
+        write_right(&mut place, b"cdefghij");
+        assert_eq!(&place, b"fghij");
+        write_right(&mut place, b"klmno");
+        assert_eq!(&place, b"klmno");
     }
 
     #[test]

@@ -30,6 +30,7 @@ pub mod code {
     pub const RETURN: u8 = 10;
     pub const STOP: u8 = 11;
     pub const COMPUTED_GOTO: u8 = 12;
+    pub const FORMAT: u8 = 13;
 }
 
 /// The five parts of a unit, each a stretch of the unit itself.

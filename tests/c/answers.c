@@ -196,7 +196,7 @@ static void refusals(void)
     refused(unit.bytes, unit.len, 3, 1);
     unit = ONE(FIELD("\0"), 2, 0, 0, 0);
     refused(unit.bytes, unit.len, 4, 0);
-    unit = ONE(FIELD("\0") CLOSE, 13, 0, 0, 0);
+    unit = ONE(FIELD("\0") CLOSE, 27, 0, 0, 0);
     refused(unit.bytes, unit.len, 5, 0);
 }
 

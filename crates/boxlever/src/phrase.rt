@@ -353,7 +353,8 @@ pub fn put_statement(l: Line, unit: &[u8], parts: Parts, i: u16) -> Line {
         CALL c|\
         RETURN|\
         STOP|\
-        GOTO (a), b|",
+        GOTO (a), b|\
+        a = c, b|",
         s.code,
     );
     let mut next = l;

@@ -11,7 +11,7 @@
 --   given-exactly       each number, 0 to 7, 20 to 26 and 30, is given and its place named exactly when the table says so
 --   kept-20, read-20, read-22, div-23, round-26, span-exactly, outside-21    of the run errors in an expression the cause of each, both ways
 --   call-opens, call-full, return-closes, return-none, stop-keeps-calls, others-keep-calls    what each statement does to the open calls
---   stores-next, jumps-keep-data    codes 1 to 6 go on at the next statement, and the others leave the data
+--   stores-next, jumps-keep-data    codes 1 to 6 and 13 go on at the next statement, and the others leave the data
 --   goto-goes, zero-goes, other-falls, computed-goes, computed-falls    where the jumps lead
 --   full-exactly, none-exactly    24 and 25 are given by a statement exactly when the table says so
 --   ends, spent, errs, goes    the rule of a run, one step of it: the end, the allowance spent, a run error, a completed statement
@@ -38,6 +38,7 @@ use Rattle.rules_unit.specs.declared.Field.{Field}
 use Rattle.rules_unit.specs.declared.Form.{Form}
 use Rattle.rules_unit.specs.Codes.{Code}
 use Rattle.rules_unit.specs.Decode.{partsOf}
+use Rattle.rules_unit.specs.Table.{WritesA}
 use Rattle.rules_unit.specs.Sound.{SoundUnit}
 use Rattle.rules_unit.proofs.Sound.{sound-passed}
 use Rattle.rules_run.specs.declared.State.{State}
@@ -168,10 +169,10 @@ module _ (c : Code) (s : State) (d : List ℕ) where
 -- ---- stores and jumps
 
 module _ (c : Code) (s : State) (d : List ℕ) where
-  pub stores-next : 1 ≤ c .statement (s .at) .code → c .statement (s .at) .code ≤ 6 → (t : State) → nextOf c s d ≡ to t → t ≡ gone s (s .at + 1)
+  pub stores-next : WritesA (c .statement (s .at) .code) → (t : State) → nextOf c s d ≡ to t → t ≡ gone s (s .at + 1)
   stores-next = jumps.stores-next c s d
 
-  pub jumps-keep-data : 7 ≤ c .statement (s .at) .code → dataAfter c s d ≡ d
+  pub jumps-keep-data : (WritesA (c .statement (s .at) .code) → ⊥) → dataAfter c s d ≡ d
   jumps-keep-data = jumps.jumps-keep-data c s d
 
   -- "7 GOTO c"

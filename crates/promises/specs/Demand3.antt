@@ -11,7 +11,7 @@
 --   yes-exactly, no-exactly, refused-exactly    each answer of the fence check is given exactly when what it says is so
 --   no-breach-exactly, breach-of-no             a statement has no breach exactly when it keeps the rules; that of a no has one
 --   breach-exactly                              a breach is named exactly when that rule is the one that the statement breaks first
---   destination-exactly                         a byte lies in a destination exactly when the place a of a statement of code 1 to 6 names it
+--   destination-exactly                         a byte lies in a destination exactly when the place a of a statement of code 1 to 6, or 13, names it
 --   cannot-slip                                 what holds of every run of a unit with a yes, and its five parts in the letter's words
 --   says-exactly, names-exactly, keeps-exactly, run-cannot-slip   the same of the contracts themselves: of whatever `dibol::fence`, `dibol::breach` and `dibol::run` are
 --                                               permitted to answer and leave
@@ -80,7 +80,7 @@ module _ (u : List ℕ) where
       → (breachIn u i ≡ b) ↔ StatementBreaks (decoded u) (decoded u .statement i) b
   breach-exactly t i h b z = rw (breach-in u (partsOf u) i (sound-passed u (partsOf u) t) h) (reason-exactly (decoded u) (t .code) i h b z)
 
--- "A destination is the span named by place a of codes 1 to 6."
+-- "A destination is the span named by place a of codes 1 to 6", and of 13.
 pub destination-exactly : (c : Code) (b : ℕ) → Destination c b ↔ InPlaceA c b
 destination-exactly = aims.destination-exactly
 

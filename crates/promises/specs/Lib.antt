@@ -15,3 +15,4 @@ pub mod Demand2
 pub mod Demand3
 pub mod Slips
 pub mod Fences
+pub mod Masks

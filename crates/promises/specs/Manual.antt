@@ -1,6 +1,7 @@
--- Worked examples of source document 000, sections 3.2.1 to 3.2.4, 3.3, 3.4.1 and 3.4.2, computed from the written rules; misprints are put right
+-- Worked examples of source document 000, sections 3.2.1 to 3.2.5, 3.3, 3.4.1, 3.4.2 and 5.10, computed from the written rules; misprints are put right
 -- (docs/DIFFERENCES.md).
 --   manual-examples      eleven examples of 3.2.1 to 3.2.4, 3.4.1 and 3.4.2, one or more of each section
+--   manual-formats       the eleven examples of 3.2.5, and that of 5.10
 --   manual-subscripts    the eleven examples of 3.3
 -- The stored units tests/runs/manual-*.txt, named by section, run every worked example of these sections, those proved here among them.
 -- Assumes nothing.
@@ -12,6 +13,7 @@ use Rattle.rules.specs.declared.Num.the-variants.{Value}
 use Rattle.rules.specs.Values.{readFrom, readOf}
 use Rattle.rules.specs.Arithmetic.{mulOf}
 use Rattle.rules.specs.Moves.{placed, widthFrom, shown, alphaFrom, alphaOf, fitted}
+use Rattle.rules.specs.Masks.{tallied, tallyOf, pictureOf, firstSight, classOf, digitOf, sightedBy, sighted, moneyb, spotFrom, spotOf, characterOf, editFrom, edited, formatted}
 use Rattle.rules_unit.specs.declared.Kind.the-variants as kind
 use Rattle.rules_unit.specs.declared.Field.{Field}
 use Rattle.rules_unit.specs.declared.Item.{Item}
@@ -49,6 +51,31 @@ examples =
 pub manual-examples : AllHold examples
 unfolding readOf readFrom placed alphaFrom widthFrom fitted digitsb numberb digitsFrom literalNumber calc stepBy within startEndSpan posLengthSpan spanOf placeBy place lastOf workedFrom workedOf
 manual-examples = refl
+
+-- ---- 3.2.5
+
+abbrev pub formats : List Row
+formats =
+    -- 3.2.5: 123 by each of the places
+    text (formatted 8 (bytes "XXXXXXXX") (pos 123)) is text (bytes "00000123")
+    ∷ text (formatted 8 (bytes "ZZZZZZZ") (pos 123)) is text (bytes "     123")
+    ∷ text (formatted 8 (bytes "********") (pos 123)) is text (bytes "*****123")
+    ∷ text (formatted 8 (bytes "$$$$$$") (pos 123)) is text (bytes "    $123")
+    -- 3.2.5: signs, points and commas
+    ∷ text (formatted 8 (bytes "-XXX,XXX") (minus 1123)) is text (bytes "-001,123")
+    ∷ text (formatted 8 (bytes "$$$$$.XX") (pos 123)) is text (bytes "   $1.23")
+    ∷ text (formatted 8 (bytes "$***.**-") (minus 123)) is text (bytes "$**1.23-")
+    ∷ text (formatted 8 (bytes "X,XXX.XX") (pos 12345678)) is text (bytes "3,456.78")
+    ∷ text (formatted 8 (bytes "$,$$$.XX") (pos 1234)) is text (bytes "  $12.34")
+    ∷ text (formatted 8 (bytes "*,***.XX") (pos 1234)) is text (bytes "***12.34")
+    ∷ text (formatted 8 (bytes "Z,ZZZ.XX") (pos 1234)) is text (bytes "   12.34")
+    -- 5.10: 123456789 to A15, with '$' as the money sign
+    ∷ text (formatted 15 (bytes "$$$$$$$$.XX") (pos 123456789)) is text (bytes "    $1234567.89")
+    ∷ []
+
+pub manual-formats : AllHold formats
+unfolding formatted edited editFrom characterOf spotOf spotFrom moneyb sighted sightedBy digitOf classOf firstSight pictureOf tallyOf tallied
+manual-formats = refl
 
 -- ---- 3.3
 

@@ -6,15 +6,17 @@ use mathlib.Core.Path.{refl}
 use mathlib.Core.List.{List, [], _∷_}
 use Rattle.rules.specs.Values.{readFrom, readOf}
 use Rattle.rules.specs.Moves.{placed, widthFrom, alphaFrom, fitted}
+use Rattle.rules.specs.Masks.{tallied, tallyOf, pictureOf, firstSight, classOf, digitOf, sightedBy, sighted, moneyb, spotFrom, spotOf, characterOf, editFrom, edited, formatted}
 use Rattle.rules_unit.specs.declared.Item.the-variants as item
 use Rattle.rules_unit.specs.declared.Op.the-variants as op
+use Rattle.rules_unit.specs.declared.Form.the-variants as form
 use Rattle.rules_unit.specs.Table.{verbOf}
 use Rattle.rules_unit.specs.Expressions.{digitsb, numberb, textb}
 use Rattle.rules_run.specs.Spans.{within, subscriptSpan, spanOf}
 use Rattle.rules_run.specs.Evaluation.{digitsFrom, literalNumber, reference, stepBy, placeBy, place, lastOf, workedFrom, workedOf, calc}
 use Rattle.rules_run.specs.Turns.{stored, applied, turnBy}
 use Rattle.promises.specs.Rows.{text, stop, number, Row, _is_, AllHold, bytes, alone, element}
-use Rattle.promises.specs.Samples.{moved}
+use Rattle.promises.specs.Samples.{moved, masked}
 use lib.IntN.{pos}
 
 abbrev pub moves : List Row
@@ -42,8 +44,18 @@ moves =
     ∷ moved 12 [] (alone 0) is number (pos 1)
     -- "a is worked out before b"
     ∷ moved 1 (element 1 0) (item.Number 2 2 ∷ item.Number 0 2 ∷ item.Operator op.Divide ∷ []) is stop 21
+    -- a mask of marks alone: a field, over itself, a literal
+    ∷ masked (alone 2) (alone 0) (alone 1) is text (bytes "2s 1-2 1-2 ")
+    ∷ masked (alone 1) (alone 0) (alone 1) is text (bytes "2s 1-2 abcd")
+    ∷ masked (alone 1) (alone 0) (item.Text 2 4 ∷ []) is text (bytes "2s 0102abcd")
+    -- "21 for the mask's place comes after the destination's and before the number's."
+    ∷ masked (element 1 0) (alone 0) (alone 1) is stop 21
+    ∷ masked (element 1 0) (alone 0) (item.Number 2 2 ∷ item.Number 0 2 ∷ item.Operator op.Divide ∷ item.Reference form.Subscript 1 ∷ []) is stop 21
+    ∷ masked (alone 2) (alone 0) (item.Number 2 2 ∷ item.Number 0 2 ∷ item.Operator op.Divide ∷ item.Reference form.Subscript 1 ∷ []) is stop 23
+    ∷ masked (alone 2) (item.Number 2 2 ∷ item.Number 0 2 ∷ item.Operator op.Divide ∷ []) (alone 1) is stop 23
+    ∷ masked (alone 2) (item.Number 2 2 ∷ item.Number 0 2 ∷ item.Operator op.Divide ∷ []) (element 1 0) is stop 21
     ∷ []
 
 pub moves-hold : AllHold moves
-unfolding readOf readFrom placed widthFrom alphaFrom fitted verbOf digitsb numberb textb digitsFrom literalNumber calc reference stepBy within subscriptSpan spanOf placeBy place lastOf workedFrom workedOf stored applied turnBy
+unfolding readOf readFrom placed widthFrom alphaFrom fitted verbOf digitsb numberb textb digitsFrom literalNumber calc reference stepBy within subscriptSpan spanOf placeBy place lastOf workedFrom workedOf stored applied turnBy formatted edited editFrom characterOf spotOf spotFrom moneyb sighted sightedBy digitOf classOf firstSight pictureOf tallyOf tallied
 moves-hold = refl

@@ -60,9 +60,10 @@ refusals =
     ∷ changed 124 26 is refusal 4 1
     ∷ changed 164 0 is refusal 4 6
     ∷ changed 182 26 is refusal 4 8
+    ∷ changed 193 13 is refusal 4 10
     -- "5 | statement code, zero part, count or target wrong | statement"
     ∷ changed 193 0 is refusal 5 10
-    ∷ changed 193 13 is refusal 5 10
+    ∷ changed 193 27 is refusal 5 10
     ∷ changed 194 1 is refusal 5 10
     ∷ changed 196 1 is refusal 5 10
     ∷ changed 198 1 is refusal 5 10

@@ -24,6 +24,7 @@ use Rattle.rules_unit.specs.Expressions.{sortFrom}
 use Rattle.rules_unit.specs.Checks.{refusalNumber, refusalPlace, checkOf}
 use Rattle.rules_run.specs.declared.Flow.{Flow}
 use Rattle.rules_run.specs.declared.Flow.the-variants as flow
+use Rattle.rules_run.specs.declared.Turn.{Turn}
 use Rattle.rules_run.specs.States.{soundb, started}
 use Rattle.rules_run.specs.Stops.{stopNumber}
 use Rattle.rules_run.specs.Turns.{applied, turnBy}
@@ -261,21 +262,33 @@ movedField (suc (suc f)) = record { kind = kind.Alpha; zero = 0; offset = 7; siz
 abbrev movedData : List ℕ
 movedData = bytes "2s 1-2 abcd"
 
-abbrev placeAndSource : List Item → List Item → ℕ → List Item
-placeAndSource a b zero = a
-placeAndSource a b (suc e) = b
+abbrev threeParts : List Item → List Item → List Item → ℕ → List Item
+threeParts a b c zero = a
+threeParts a b c (suc zero) = b
+threeParts a b c (suc (suc e)) = c
 
--- What a statement of the code given leaves over them, with the place a and the source or number b; where it goes on, if it is not the next.
-abbrev pub moved : ℕ → List Item → List Item → Answer
-moved code a b = gone (turnBy c 0 movedData (verbOf code) (c .statement 0) .flow)
+-- What a turn leaves over them; where it goes on, if it is not the next.
+abbrev leftBy : Code → Turn → Answer
+leftBy c t = gone (t .flow)
   where
-    c : Code
-    c = unitOver 11 3 movedField (placeAndSource a b)
-
     gone : Flow → Answer
     gone (flow.Bad f) = stop (faultNumber f)
-    gone flow.Next = text (applied c movedData (turnBy c 0 movedData (verbOf code) (c .statement 0) .write))
+    gone flow.Next = text (applied c movedData (t .write))
     gone (flow.Goto i) = number (pos i)
     gone (flow.Call i) = number (pos i)
     gone flow.Return = stop 0
     gone flow.Stop = stop 0
+
+-- A statement of the code given, with the place a and the source or number b.
+abbrev pub moved : ℕ → List Item → List Item → Answer
+moved code a b = leftBy c (turnBy c 0 movedData (verbOf code) (c .statement 0))
+  where
+    c : Code
+    c = unitOver 11 3 movedField (threeParts a b [])
+
+-- SET of the place a from the number n with the mask m.
+abbrev pub masked : List Item → List Item → List Item → Answer
+masked a n m = leftBy c (turnBy c 0 movedData (verbOf 13) (record { code = 13; zero = 0; a = 0; b = 1; c = 2 }))
+  where
+    c : Code
+    c = unitOver 11 3 movedField (threeParts a m n)

@@ -10,3 +10,4 @@ pub mod Answers
 pub mod Shown
 pub mod Charts
 pub mod Causes
+pub mod Masks

@@ -3,3 +3,4 @@ pub mod Tests
 pub mod Values
 pub mod Arithmetic
 pub mod Moves
+pub mod Masks

@@ -43,3 +43,65 @@ pub fn fault_number(f: Fault) -> u8
         Fault::RoundCount => 26,
     }
 }
+
+// What a character of an edit mask is.
+pub enum Class {
+    // A digit place.
+    Place,
+    // A decimal point.
+    Point,
+    // A comma that waits for digits.
+    Comma,
+    // The place of the sign.
+    Sign,
+    // A fixed mark.
+    Mark,
+}
+
+// What a mask holds.
+pub struct Tally {
+    // Its money signs.
+    pub moneys: usize,
+    // Its digit places.
+    pub places: usize,
+    // Whether one of these is an X.
+    pub plain: bool,
+}
+
+// A number under a mask: what holds of the whole mask.
+pub struct Picture {
+    // The mask's length.
+    pub size: usize,
+    // Its money signs.
+    pub moneys: usize,
+    // The digits left of the number: as many as it has digit places.
+    pub digits: u64,
+    // The digits left are not all 0, and the number is below 0.
+    pub negative: bool,
+    // The digits left are all 0, and there is a digit place and none is an X.
+    pub blank: bool,
+}
+
+// What stands around a character of a mask.
+pub struct Sight {
+    // The characters from here on.
+    pub left: usize,
+    // The digit places from here on.
+    pub places: usize,
+    // The money signs from here on.
+    pub moneys: usize,
+    // The digit place met last; a space before the first.
+    pub lead: u8,
+    // Whether significance has begun.
+    pub significant: bool,
+}
+
+// What is read of a mask before its last characters are edited where they stand.
+pub struct Plan {
+    // The number under the mask.
+    pub picture: Picture,
+    // Where the money sign is shown, 0 where it is not.
+    pub spot: usize,
+    // What stands around the first of the characters kept.
+    pub first: Sight,
+}

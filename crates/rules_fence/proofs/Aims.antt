@@ -16,8 +16,8 @@ use Rattle.rules_unit.specs.declared.Role.the-variants as role
 use Rattle.rules_unit.specs.declared.Statement.{Statement}
 use Rattle.rules_unit.specs.declared.Use.the-variants as use-of
 use Rattle.rules_unit.specs.Codes.{Code}
-use Rattle.rules_unit.specs.Table.{verbOf, rowOf, useOf, usesOf}
-use Rattle.rules_unit.proofs.Table.{codeBack, verb-code}
+use Rattle.rules_unit.specs.Table.{verbOf, rowOf, useOf, usesOf, WritesA}
+use Rattle.rules_unit.proofs.Table.{codeBack, verb-code, writes-some}
 use Rattle.rules_unit.specs.Sound.{SoundCode}
 use Rattle.rules_run.specs.declared.Span.{Span}
 use Rattle.rules_run.specs.declared.Write.{Write}
@@ -48,19 +48,20 @@ role-writes c role.Target x span r = absurd r
 role-writes c role.Table x span r = absurd r
 role-writes c role.Never x span r = absurd r
 
--- Of a statement's parts only a is written, and that by the codes 1 to 6.
+-- Of a statement's parts only a is written, and that by the codes named for it.
 record OnlyA (v : Verb) : Type 0 where
-  codes : writtenb (rowOf v .a) ≡ true → (1 ≤ codeBack v) × (codeBack v ≤ 6)
+  codes : writtenb (rowOf v .a) ≡ true → WritesA (codeBack v)
   not-b : writtenb (rowOf v .b) ≡ false
   not-c : writtenb (rowOf v .c) ≡ false
 
 only-a : (v : Verb) → OnlyA v
-only-a (verb.At act.Set) = record { codes = λ e. (omega arith, omega arith); not-b = refl; not-c = refl }
-only-a (verb.At act.Clear) = record { codes = λ e. (omega arith, omega arith); not-b = refl; not-c = refl }
-only-a (verb.At (act.Count true)) = record { codes = λ e. (omega arith, omega arith); not-b = refl; not-c = refl }
-only-a (verb.At (act.Count false)) = record { codes = λ e. (omega arith, omega arith); not-b = refl; not-c = refl }
-only-a (verb.At (act.Case true)) = record { codes = λ e. (omega arith, omega arith); not-b = refl; not-c = refl }
-only-a (verb.At (act.Case false)) = record { codes = λ e. (omega arith, omega arith); not-b = refl; not-c = refl }
+only-a (verb.At act.Set) = record { codes = λ e. inl (omega arith, omega arith); not-b = refl; not-c = refl }
+only-a (verb.At act.Clear) = record { codes = λ e. inl (omega arith, omega arith); not-b = refl; not-c = refl }
+only-a (verb.At (act.Count true)) = record { codes = λ e. inl (omega arith, omega arith); not-b = refl; not-c = refl }
+only-a (verb.At (act.Count false)) = record { codes = λ e. inl (omega arith, omega arith); not-b = refl; not-c = refl }
+only-a (verb.At (act.Case true)) = record { codes = λ e. inl (omega arith, omega arith); not-b = refl; not-c = refl }
+only-a (verb.At (act.Case false)) = record { codes = λ e. inl (omega arith, omega arith); not-b = refl; not-c = refl }
+only-a (verb.At act.Edit) = record { codes = λ e. inr refl; not-b = refl; not-c = refl }
 only-a verb.Goto = record { codes = λ e. absurd (false≢true e); not-b = refl; not-c = refl }
 only-a verb.IfZero = record { codes = λ e. absurd (false≢true e); not-b = refl; not-c = refl }
 only-a verb.Call = record { codes = λ e. absurd (false≢true e); not-b = refl; not-c = refl }
@@ -79,18 +80,23 @@ a-writes c t (suc (suc zero)) span l r =
     let v = verbOf (t .code) in absurd (false≢true (sym (only-a v .not-c) ∙ role-writes c (rowOf v .c) (t .c) span r .0))
 a-writes c t (suc (suc (suc k))) span l r = absurd (omega arith)
 
-codes-a : (c : Code) (code x : ℕ) (span : Span) → 1 ≤ code → code ≤ 6 → PlaceNames c (c .items x) span → Writes c (useOf (rowOf (verbOf code) .a) x) span
+low-a : (c : Code) (code x : ℕ) (span : Span) → 1 ≤ code → code ≤ 6 → PlaceNames c (c .items x) span → Writes c (useOf (rowOf (verbOf code) .a) x) span
 unfolding verbOf
-codes-a c zero x span l m p = absurd (omega arith)
-codes-a c (suc zero) x span l m p = (refl, p)
-codes-a c (suc (suc zero)) x span l m p = (refl, p)
-codes-a c (suc (suc (suc zero))) x span l m p = (refl, p)
-codes-a c (suc (suc (suc (suc zero)))) x span l m p = (refl, p)
-codes-a c (suc (suc (suc (suc (suc zero))))) x span l m p = (refl, p)
-codes-a c (suc (suc (suc (suc (suc (suc zero)))))) x span l m p = (refl, p)
-codes-a c (suc (suc (suc (suc (suc (suc (suc code))))))) x span l m p = absurd (omega arith)
+low-a c zero x span l m p = absurd (omega arith)
+low-a c (suc zero) x span l m p = (refl, p)
+low-a c (suc (suc zero)) x span l m p = (refl, p)
+low-a c (suc (suc (suc zero))) x span l m p = (refl, p)
+low-a c (suc (suc (suc (suc zero)))) x span l m p = (refl, p)
+low-a c (suc (suc (suc (suc (suc zero))))) x span l m p = (refl, p)
+low-a c (suc (suc (suc (suc (suc (suc zero)))))) x span l m p = (refl, p)
+low-a c (suc (suc (suc (suc (suc (suc (suc code))))))) x span l m p = absurd (omega arith)
 
--- "A destination is the span named by place a of codes 1 to 6."
+codes-a : (c : Code) (code x : ℕ) (span : Span) → WritesA code → PlaceNames c (c .items x) span → Writes c (useOf (rowOf (verbOf code) .a) x) span
+unfolding verbOf
+codes-a c code x span (inl h) p = low-a c code x span (h .0) (h .1) p
+codes-a c code x span (inr e) p = rw e (refl, p)
+
+-- "A destination is the span named by place a of codes 1 to 6", and of 13.
 pub destination-exactly : (c : Code) (b : ℕ) → Destination c b ↔ InPlaceA c b
 destination-exactly c b = (to, of)
   where
@@ -103,13 +109,13 @@ destination-exactly c b = (to, of)
         let t = c .statement (d .statement-number) in
         let p = a-writes c t (d .use-number) (d .span) (d .used) (d .writes) in
         let q = only-a (verbOf (t .code)) .codes (p .0) in
-        let e = code-is (t .code) (verb-code (t .code)) (q .0) in
-        record { statement-number = d .statement-number; low = d .low; least = omega (arith, q .0, e); most = omega (arith, q .1, e); span = d .span; names = p .1; covers = d .covers }
+        let e = code-is (t .code) (verb-code (t .code)) (writes-some (codeBack (verbOf (t .code))) q) in
+        record { statement-number = d .statement-number; low = d .low; coded = subst WritesA e q; span = d .span; names = p .1; covers = d .covers }
 
     of : InPlaceA c b → Destination c b
     of d =
         let t = c .statement (d .statement-number) in
-        record { statement-number = d .statement-number; low = d .low; use-number = 0; used = omega arith; span = d .span; writes = codes-a c (t .code) (t .a) (d .span) (d .least) (d .most) (d .names); covers = d .covers }
+        record { statement-number = d .statement-number; low = d .low; use-number = 0; used = omega arith; span = d .span; writes = codes-a c (t .code) (t .a) (d .span) (d .coded) (d .names); covers = d .covers }
 
 -- What a statement stores at is its destination.
 pub aim-destination : (c : Code) (i : ℕ) → i < c .statements → (b : ℕ) → Covers (aimOf c (c .statement i)) b → Destination c b

@@ -29,7 +29,7 @@ use Rattle.rules_run.specs.declared.Flow.{Flow}
 use Rattle.rules_run.specs.declared.Flow.the-variants as flow
 use Rattle.rules_run.specs.declared.Turn.{Turn}
 use Rattle.rules_run.specs.Evaluation.{readAt, textOf}
-use Rattle.rules_run.specs.Turns.{failed, stores, goes, moveNumber, moveNum, moveWorked, onPlace, clearAt, counted, countAt, caseAt}
+use Rattle.rules_run.specs.Turns.{failed, stores, goes, moveNumber, moveNum, moveWorked, onPlace, clearAt, counted, countAt, caseAt, editNum, editAt}
 use Rattle.rules_run.proofs.Comes.{Comes}
 use Rattle.rules_run.proofs.Faults.{kept-passes, alpha-passes}
 use Rattle.rules_run.proofs.Outside.{startOf, lenOf, newOf}
@@ -71,6 +71,20 @@ module _ (c : Code) (d : List ℕ) (span : Span) (M : Type 0) where
   on-place (worked.Place decimal a n) k o h = h decimal a n refl o
   on-place (worked.Text p l) k o h = failed-ok fault.Malformed tt
   on-place (worked.Failed e) k o h = failed-ok e (mild-plain M e o)
+
+  edit-num-ok : (r : Num) (k : ℤ → Write) → mildNum false r ≡ true → ((v : ℤ) → PlaceOk c true span false (startOf (k v)) (lenOf (k v))) → TurnOk c d span M (editNum r k)
+  edit-num-ok (Value v) k h p = alpha-store (k v) (p v)
+  edit-num-ok (Failed e) k h p = failed-ok e (mild-plain M e h)
+
+  -- A number by a mask, which is an expression fenced as one that is read.
+  pub edit-ok : (sp : Span) (decimal : Bool) (a n : ℕ) → PlaceOk c true span decimal a n → (w : Worked) → WorkedOk c false sp w → (r : Num) → mildNum false r ≡ true
+      → TurnOk c d span M (editAt decimal a n w r)
+  edit-ok sp true a n p w o r h = failed-ok fault.Malformed tt
+  edit-ok sp false a n p (worked.Number v) o r h = failed-ok fault.Malformed tt
+  edit-ok sp false a n p (worked.Place true b k) o r h = failed-ok fault.Malformed tt
+  edit-ok sp false a n p (worked.Place false b k) o r h = edit-num-ok r (λ v. write.Edit a n b k v) h (λ v. p)
+  edit-ok sp false a n p (worked.Text q l) o r h = edit-num-ok r (λ v. write.EditLiteral a n q l v) h (λ v. p)
+  edit-ok sp false a n p (worked.Failed e) o r h = failed-ok e (mild-plain M e o)
 
   counted-mild : (up : Bool) (r : Num) → mildNum false r ≡ true → mildNum false (counted (c .dialect .top) up r) ≡ true
   counted-mild true (Value v) m = kept-passes (mildb false) refl (c .dialect .top) (v +ℤ pos 1)

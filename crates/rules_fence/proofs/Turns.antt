@@ -43,7 +43,7 @@ use Rattle.rules_fence.specs.Destinations.{AllValid, BadText}
 use Rattle.rules_fence.proofs.Exact.{expr-to}
 use Rattle.rules_fence.proofs.Expressions.{worked-ok}
 use Rattle.rules_fence.proofs.Jumps.{if-mild, choose-mild, number-mild, on-number}
-use Rattle.rules_fence.proofs.Moves.{MildFlow, TurnOk, failed-ok, goes-ok, on-place, source-ok, clear-ok, count-ok, case-ok}
+use Rattle.rules_fence.proofs.Moves.{MildFlow, TurnOk, failed-ok, goes-ok, on-place, source-ok, clear-ok, count-ok, case-ok, edit-ok}
 use Rattle.rules_fence.proofs.PlaceSpans.{placeSpan, useSpan}
 use Rattle.rules_fence.proofs.Places.{PlaceOk, WorkedOk}
 
@@ -95,6 +95,10 @@ module _ (c : Code) (s : SoundCode c) (letters : Letters (c .dialect .sign)) (d 
   act-ok t act.Clear q u r = at-place (BadText c d t) (t .a) clearAt (r 0 (omega arith)) (clear-ok c d (placeSpan c (c .items (t .a))) (BadText c d t) s letters e v)
   act-ok t (act.Count up) q u r = at-place (BadText c d t) (t .a) (countAt c d up) (r 0 (omega arith)) (count-ok c d (placeSpan c (c .items (t .a))) (BadText c d t) s letters e v up)
   act-ok t (act.Case upper) q u r = at-place (BadText c d t) (t .a) (caseAt upper) (r 0 (omega arith)) (case-ok c d (placeSpan c (c .items (t .a))) (BadText c d t) s letters e v upper)
+  act-ok t act.Edit q u r =
+      at-place (BadText c d t) (t .a) (actAt c d act.Edit t) (r 0 (omega arith))
+      (λ decimal x n p. edit-ok c d (placeSpan c (c .items (t .a))) (BadText c d t) (placeSpan c (c .items (t .b))) decimal x n p (workedOf c d (c .items (t .b))) (fenced false (t .b) (r 1 (omega arith)))
+      (numberOf c d (workedOf c d (c .items (t .c)))) (number-mild c s d e v (placeSpan c (c .items (t .c))) (workedOf c d (c .items (t .c))) (fenced false (t .c) (r 2 (omega arith)))))
 
   by-verb : (i : ℕ) (t : Statement) (x : Verb) → verbOf (t .code) ≡ x → Used c (rowOf x) t → Kept (rowOf x) t → TurnOk c d (aimBy c (rowOf x) t) (BadText c d t) (turnBy c i d x t)
   unfolding turnBy

@@ -27,7 +27,7 @@ use Rattle.rules_unit.specs.declared.Use.{Use}
 use Rattle.rules_unit.specs.declared.Use.the-variants as use-of
 use Rattle.rules_unit.specs.Codes.{Code, decimalb, sizeOf, countOf, elementAt}
 use Rattle.rules_unit.specs.Expressions.{alphaSort, sortAt}
-use Rattle.rules_unit.specs.Table.{verbOf, usesOf}
+use Rattle.rules_unit.specs.Table.{verbOf, usesOf, WritesA}
 use Rattle.rules_run.specs.declared.Span.{Span}
 use Rattle.rules_run.specs.declared.Span.the-variants.{At, Outside}
 use Rattle.rules_run.specs.Evaluation.{workedOf, textOf}
@@ -52,7 +52,7 @@ abbrev pub Covers : Span → ℕ → Type 0
 Covers (At a n) b = (a ≤ b) × (b < a + n)
 Covers Outside b = ⊥
 
--- "A destination is the span named by place a of codes 1 to 6": by the table, a use that is written. The byte b lies in that of the statement whose
+-- "A destination is the span named by place a of codes 1 to 6", and of 13: by the table, a use that is written. The byte b lies in that of the statement whose
 -- number is given, reachable or not.
 pub record Destination (c : Code) (b : ℕ) : Type 0 where
   pub statement-number : ℕ
@@ -67,8 +67,7 @@ pub record Destination (c : Code) (b : ℕ) : Type 0 where
 pub record InPlaceA (c : Code) (b : ℕ) : Type 0 where
   pub statement-number : ℕ
   pub low : statement-number < c .statements
-  pub least : 1 ≤ c .statement statement-number .code
-  pub most : c .statement statement-number .code ≤ 6
+  pub coded : WritesA (c .statement statement-number .code)
   pub span : Span
   pub names : PlaceNames c (c .items (c .statement statement-number .a)) span
   pub covers : Covers span b

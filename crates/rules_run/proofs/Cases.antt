@@ -34,7 +34,7 @@ use Rattle.rules_run.specs.declared.Flow.{Flow}
 use Rattle.rules_run.specs.declared.Flow.the-variants as flow
 use Rattle.rules_run.specs.declared.Turn.{Turn}
 use Rattle.rules_run.specs.Evaluation.{readAt, workedOf, numberOf}
-use Rattle.rules_run.specs.Turns.{failed, stores, goes, moveNumber, moveNum, moveWorked, onPlace, counted, countAt, caseAt, onNumber, ifZero, choose, actAt, turnBy}
+use Rattle.rules_run.specs.Turns.{failed, stores, goes, moveNumber, moveNum, moveWorked, onPlace, counted, countAt, caseAt, editNum, editBy, editAt, onNumber, ifZero, choose, actAt, turnBy}
 use Rattle.rules_run.proofs.Faults.{passes}
 use Rattle.rules_run.proofs.Working.{workb, Works, read-works, alpha-works, counted-works, worked-works, number-works}
 
@@ -76,6 +76,19 @@ module _ (P : Turn → Type 0) (fails : (e : Fault) → workb e ≡ true → P (
   by-place (worked.Text p l) k m h = fails fault.Malformed refl
   by-place (worked.Failed e) k m h = fails e m
 
+  by-edit-num : (r : Num) (k : ℤ → Write) → passes workb r ≡ true → P (editNum r k)
+  by-edit-num (Value v) k m = puts (k v)
+  by-edit-num (Failed e) k m = fails e m
+
+  by-mask : (a n : ℕ) (w : Worked) → Works w → (r : Num) → passes workb r ≡ true → P (editBy a n w r)
+  by-mask a n (worked.Number v) m r h = fails fault.Malformed refl
+  by-mask a n (worked.Place decimal from k) m r h = cond-either P decimal _ _ (fails fault.Malformed refl) (by-edit-num r (λ v. write.Edit a n from k v) h)
+  by-mask a n (worked.Text p l) m r h = by-edit-num r (λ v. write.EditLiteral a n p l v) h
+  by-mask a n (worked.Failed e) m r h = fails e m
+
+  by-edit : (decimal : Bool) (a n : ℕ) (w : Worked) → Works w → (r : Num) → passes workb r ≡ true → P (editAt decimal a n w r)
+  by-edit decimal a n w m r h = cond-either P decimal _ _ (fails fault.Malformed refl) (by-mask a n w m r h)
+
   module _ (c : Code) (d : List ℕ) where
     by-worked : (decimal : Bool) (a n : ℕ) (w : Worked) → Works w → P (moveWorked c d decimal a n w)
     by-worked decimal a n (worked.Number v) m = by-number decimal a n v
@@ -98,6 +111,9 @@ module _ (P : Turn → Type 0) (fails : (e : Fault) → workb e ≡ true → P (
     by-act act.Clear s decimal a n = puts (write.Clear a n decimal)
     by-act (act.Count up) s decimal a n = by-count up decimal a n
     by-act (act.Case upper) s decimal a n = by-case upper decimal a n
+    by-act act.Edit s decimal a n =
+        by-edit decimal a n (workedOf c d (c .items (s .b))) (worked-works c d (c .items (s .b))) (numberOf c d (workedOf c d (c .items (s .c))))
+        (number-works c d (workedOf c d (c .items (s .c))) (worked-works c d (c .items (s .c))))
 
     by-b : (s : Statement) (k : ℤ → Flow) → ((v : ℤ) → P (goes (k v))) → P (onNumber (numberOf c d (workedOf c d (c .items (s .b)))) k)
     by-b s k h =

@@ -6,7 +6,9 @@ use mathlib.Core.Path.{_≡_, refl, sym, ap, _∙_}
 use mathlib.Core.Bool.{Bool, true, false, false≢true}
 use mathlib.Core.List.{List}
 use lib.Dec.{eqb}
-use lib.IntN.{natAbs}
+use lib.IntN.{ℤ, natAbs}
+use Rattle.rules.specs.declared.Num.{Num}
+use Rattle.rules.specs.declared.Num.the-variants.{Value, Failed}
 use Rattle.rules_unit.specs.declared.Statement.{Statement}
 use Rattle.rules_unit.specs.declared.Act.{Act}
 use Rattle.rules_unit.specs.declared.Act.the-variants as act
@@ -23,11 +25,12 @@ use Rattle.rules_unit.proofs.Sorts.{suits-right}
 use Rattle.rules_unit.proofs.Statements.{uses-good, Used}
 use Rattle.rules_run.specs.declared.Worked.{Worked}
 use Rattle.rules_run.specs.declared.Worked.the-variants as worked
+use Rattle.rules_run.specs.declared.Write.{Write}
 use Rattle.rules_run.specs.declared.Write.the-variants as write
 use Rattle.rules_run.specs.declared.Flow.the-variants as flow
 use Rattle.rules_run.specs.declared.Turn.{Turn}
 use Rattle.rules_run.specs.Evaluation.{readAt, workedOf, numberOf}
-use Rattle.rules_run.specs.Turns.{onPlace, clearAt, counted, countAt, caseAt, ifZero, choose, actAt, turnBy, turnOf}
+use Rattle.rules_run.specs.Turns.{onPlace, clearAt, counted, countAt, caseAt, editNum, editBy, editAt, ifZero, choose, actAt, turnBy, turnOf}
 use Rattle.rules_run.proofs.Faults.{passes}
 use Rattle.rules_run.proofs.Formed.{formedb}
 use Rattle.rules_run.proofs.Comes.{Comes}
@@ -64,6 +67,26 @@ module _ (c : Code) (d : List ℕ) where
       by (worked.Text p l) m = absurd (false≢true (ap (suits want.Number) (sym m) ∙ q))
       by (worked.Failed f) m = m
 
+  formed-edit-num : (r : Num) (k : ℤ → Write) → passes formedb r ≡ true → Formed (editNum r k)
+  formed-edit-num (Value v) k h = formed-stores (k v)
+  formed-edit-num (Failed e) k h = formed-failed e h
+
+  -- A mask of the sort that is wanted is found.
+  formed-mask : (a n e : ℕ) → suits want.AlphaSource (sortAt c e) ≡ true → (r : Num) → passes formedb r ≡ true → Formed (editBy a n (workedOf c d (c .items e)) r)
+  formed-mask a n e q r h = by (workedOf c d (c .items e)) (sort-comes c d e (suits-right want.AlphaSource (sortAt c e) q))
+    where
+      by : (o : Worked) → Comes (sortAt c e) o → Formed (editBy a n o r)
+      by (worked.Number v) m = absurd (false≢true (ap (suits want.AlphaSource) (sym m) ∙ q))
+      by (worked.Place true from k) m = absurd (false≢true (ap (suits want.AlphaSource) (sym m) ∙ q))
+      by (worked.Place false from k) m = formed-edit-num r (λ v. write.Edit a n from k v) h
+      by (worked.Text p l) m = formed-edit-num r (λ v. write.EditLiteral a n p l v) h
+      by (worked.Failed f) m = formed-failed f m
+
+  formed-edit : (decimal : Bool) (a n : ℕ) → suits want.AlphaPlace (placeSort decimal) ≡ true → (m : ℕ) → suits want.AlphaSource (sortAt c m) ≡ true → (r : Num) → passes formedb r ≡ true
+      → Formed (editAt decimal a n (workedOf c d (c .items m)) r)
+  formed-edit true a n q m y r h = absurd (false≢true q)
+  formed-edit false a n q m y r h = formed-mask a n m y r h
+
   formed-act : (x : Act) (s : Statement) → Used c (rowOf (verb.At x)) s → Formed (onPlace (workedOf c d (c .items (s .a))) (actAt c d x s))
   formed-act act.Set s u =
       formed-place want.Place (s .a) (actAt c d act.Set s) refl refl (u 0 (omega arith))
@@ -71,6 +94,9 @@ module _ (c : Code) (d : List ℕ) where
   formed-act act.Clear s u = formed-place want.Place (s .a) clearAt refl refl (u 0 (omega arith)) (λ t x n q. formed-stores (write.Clear x n t))
   formed-act (act.Count up) s u = formed-place want.DecimalPlace (s .a) (countAt c d up) refl refl (u 0 (omega arith)) (formed-count up)
   formed-act (act.Case upper) s u = formed-place want.AlphaPlace (s .a) (caseAt upper) refl refl (u 0 (omega arith)) (formed-case upper)
+  formed-act act.Edit s u =
+      formed-place want.AlphaPlace (s .a) (actAt c d act.Edit s) refl refl (u 0 (omega arith))
+      (λ t x n q. formed-edit t x n q (s .b) (u 1 (omega arith)) (numberOf c d (workedOf c d (c .items (s .c)))) (number-formed (s .c) (u 2 (omega arith))))
 
   formed-by : (i : ℕ) (v : Verb) (s : Statement) → RowSound c i (rowOf v) s → Used c (rowOf v) s → Formed (turnBy c i d v s)
   unfolding turnBy

@@ -1,5 +1,5 @@
--- Where statements lead, by their codes (document 01, "The coded unit"): GOTO, the test for zero and the computed GOTO; codes 1 to 6 go on at the next
--- statement, and the others leave the data.
+-- Where statements lead, by their codes (document 01, "The coded unit"): GOTO, the test for zero and the computed GOTO; the codes that write their place a go
+-- on at the next statement, and the others leave the data.
 -- Assumes nothing.
 use Prim.Native.Nat.{ℕ, zero, suc, _+_, _≤_}
 use native.Mathlib.Omega.{arith}
@@ -17,8 +17,8 @@ use Rattle.rules_unit.specs.declared.Act.the-variants as act
 use Rattle.rules_unit.specs.declared.Verb.{Verb}
 use Rattle.rules_unit.specs.declared.Verb.the-variants as verb
 use Rattle.rules_unit.specs.Codes.{Code}
-use Rattle.rules_unit.specs.Table.{verbOf}
-use Rattle.rules_unit.proofs.Table.{codeBack, verb-code}
+use Rattle.rules_unit.specs.Table.{verbOf, WritesA}
+use Rattle.rules_unit.proofs.Table.{codeBack, verb-code, writes-some}
 use Rattle.rules_run.specs.declared.Flow.{Flow}
 use Rattle.rules_run.specs.declared.Flow.the-variants as flow
 use Rattle.rules_run.specs.declared.Write.the-variants as write
@@ -85,39 +85,45 @@ onward-to n s t flow.Stop h e = absurd h
 onward-to n s t (flow.Bad x) h e = let z : _≡_ {A = ℕ} 0 1 = cc in absurd (omega arith)
 
 -- The verb of a code from 1 to 6.
-store-verb : (code : ℕ) → 1 ≤ code → code ≤ 6 → (x : Act) × (verbOf code ≡ verb.At x)
+low-verb : (code : ℕ) → 1 ≤ code → code ≤ 6 → (x : Act) × (verbOf code ≡ verb.At x)
 unfolding verbOf
-store-verb zero l m = absurd (omega arith)
-store-verb (suc zero) l m = (act.Set, refl)
-store-verb (suc (suc zero)) l m = (act.Clear, refl)
-store-verb (suc (suc (suc zero))) l m = (act.Count true, refl)
-store-verb (suc (suc (suc (suc zero)))) l m = (act.Count false, refl)
-store-verb (suc (suc (suc (suc (suc zero))))) l m = (act.Case true, refl)
-store-verb (suc (suc (suc (suc (suc (suc zero)))))) l m = (act.Case false, refl)
-store-verb (suc (suc (suc (suc (suc (suc (suc code))))))) l m = absurd (omega arith)
+low-verb zero l m = absurd (omega arith)
+low-verb (suc zero) l m = (act.Set, refl)
+low-verb (suc (suc zero)) l m = (act.Clear, refl)
+low-verb (suc (suc (suc zero))) l m = (act.Count true, refl)
+low-verb (suc (suc (suc (suc zero)))) l m = (act.Count false, refl)
+low-verb (suc (suc (suc (suc (suc zero))))) l m = (act.Case true, refl)
+low-verb (suc (suc (suc (suc (suc (suc zero)))))) l m = (act.Case false, refl)
+low-verb (suc (suc (suc (suc (suc (suc (suc code))))))) l m = absurd (omega arith)
 
-back-store : (x : Act) → (1 ≤ codeBack (verb.At x)) × (codeBack (verb.At x) ≤ 6)
-back-store act.Set = (omega arith, omega arith)
-back-store act.Clear = (omega arith, omega arith)
-back-store (act.Count true) = (omega arith, omega arith)
-back-store (act.Count false) = (omega arith, omega arith)
-back-store (act.Case true) = (omega arith, omega arith)
-back-store (act.Case false) = (omega arith, omega arith)
+store-verb : (code : ℕ) → WritesA code → (x : Act) × (verbOf code ≡ verb.At x)
+unfolding verbOf
+store-verb code (inl h) = low-verb code (h .0) (h .1)
+store-verb code (inr e) = (act.Edit, rw e)
+
+back-store : (x : Act) → WritesA (codeBack (verb.At x))
+back-store act.Set = inl (omega arith, omega arith)
+back-store act.Clear = inl (omega arith, omega arith)
+back-store (act.Count true) = inl (omega arith, omega arith)
+back-store (act.Count false) = inl (omega arith, omega arith)
+back-store (act.Case true) = inl (omega arith, omega arith)
+back-store (act.Case false) = inl (omega arith, omega arith)
+back-store act.Edit = inr refl
 
 number-nothing : (r : Num) (k : ℤ → Flow) → onNumber r k .write ≡ write.Nothing
 number-nothing (Value v) k = refl
 number-nothing (Failed e) k = refl
 
 module _ (c : Code) (s : State) (d : List ℕ) where
-  pub stores-next : 1 ≤ c .statement (s .at) .code → c .statement (s .at) .code ≤ 6 → (t : State) → nextOf c s d ≡ to t → t ≡ gone s (s .at + 1)
+  pub stores-next : WritesA (c .statement (s .at) .code) → (t : State) → nextOf c s d ≡ to t → t ≡ gone s (s .at + 1)
   unfolding turnOf
-  stores-next l m t e =
-      let x = store-verb (c .statement (s .at) .code) l m in
+  stores-next a t e =
+      let x = store-verb (c .statement (s .at) .code) a in
       onward-to (c .statements) s t (turnOf c (s .at) d .flow)
       (subst (λ (v : Verb). Onward (turnBy c (s .at) d v (c .statement (s .at)) .flow)) (sym (x .1))
       (act-case (λ u. Onward (u .flow)) (λ f w. tt) (λ w. tt) c d (s .at) (x .0) (c .statement (s .at)))) e
 
-  -- What is stored by a statement that is none of codes 1 to 6: nothing.
+  -- What is stored by a statement that does nothing at a place: nothing.
   nothing-by : (v : Verb) → (turnBy c (s .at) d v (c .statement (s .at)) .write ≡ write.Nothing) ⊎ ((x : Act) × (v ≡ verb.At x))
   unfolding turnBy
   nothing-by (verb.At x) = inr (x, refl)
@@ -129,15 +135,16 @@ module _ (c : Code) (s : State) (d : List ℕ) where
   nothing-by verb.Computed = inl (number-nothing (numberOf c d (workedOf c d (c .items (c .statement (s .at) .b)))) (choose (s .at) (c .statement (s .at) .a)))
   nothing-by verb.Bad = inl refl
 
-  pub jumps-keep-data : 7 ≤ c .statement (s .at) .code → dataAfter c s d ≡ d
+  pub jumps-keep-data : (WritesA (c .statement (s .at) .code) → ⊥) → dataAfter c s d ≡ d
   unfolding turnOf applied
   jumps-keep-data l = by (nothing-by (verbOf (c .statement (s .at) .code)))
     where
       none : (x : Act) → verbOf (c .statement (s .at) .code) ≡ verb.At x
           → (verbOf (c .statement (s .at) .code) ≡ verb.Bad) ⊎ (codeBack (verbOf (c .statement (s .at) .code)) ≡ c .statement (s .at) .code)
           → ⊥
-      none x e (inl q) = let z : _≡_ {A = Verb} verb.Bad (verb.At x) = sym q ∙ e in omega (arith, ap codeBack z, back-store x .0)
-      none x e (inr q) = omega (arith, l, sym q ∙ ap codeBack e, back-store x .1)
+      none x e (inl q) =
+          let z : _≡_ {A = Verb} verb.Bad (verb.At x) = sym q ∙ e in omega (arith, ap codeBack z, writes-some (codeBack (verb.At x)) (back-store x))
+      none x e (inr q) = l (subst WritesA (sym (ap codeBack e) ∙ q) (back-store x))
 
       by : (turnBy c (s .at) d (verbOf (c .statement (s .at) .code)) (c .statement (s .at)) .write ≡ write.Nothing)
           ⊎ ((x : Act) × (verbOf (c .statement (s .at) .code) ≡ verb.At x))

@@ -13,7 +13,9 @@ use lib.ListN.{length, take, drop, getD, length-drop}
 use lib.Seq.{length-take-le}
 use borrow.Author.Tests.{ltb-true, ltb-false}
 use Rattle.rules.specs.Moves.{written, shown, fitted}
+use Rattle.rules.specs.Masks.{formatted}
 use Rattle.rules.proofs.Decimals.{length-written, length-shown, length-fitted, length-upcased, length-locased, length-blanks, length-zeros}
+use Rattle.rules.proofs.Masks.{length-formatted}
 use Rattle.rules.specs.declared.Fault.{Fault}
 use Rattle.rules_unit.specs.Codes.{Code}
 use Rattle.rules_unit.specs.Table.{verbOf}
@@ -35,6 +37,8 @@ startOf (write.Move a n from k) = a
 startOf (write.Literal a n place k) = a
 startOf (write.Clear a n decimal) = a
 startOf (write.Case a n up) = a
+startOf (write.Edit a n from k v) = a
+startOf (write.EditLiteral a n place k v) = a
 
 abbrev pub lenOf : Write → ℕ
 lenOf write.Nothing = 0
@@ -44,6 +48,8 @@ lenOf (write.Move a n from k) = n
 lenOf (write.Literal a n place k) = n
 lenOf (write.Clear a n decimal) = n
 lenOf (write.Case a n up) = n
+lenOf (write.Edit a n from k v) = n
+lenOf (write.EditLiteral a n place k v) = n
 
 pub record Touches (w : Write) (p : ℕ) : Type 0 where
   pub from : startOf w ≤ p
@@ -59,6 +65,8 @@ newOf c d (write.Move a n from k) = fitted n (take k (drop from d))
 newOf c d (write.Literal a n place k) = fitted n (take k (drop place (c .literals)))
 newOf c d (write.Clear a n decimal) = cleared decimal n
 newOf c d (write.Case a n up) = cased up (take n (drop a d))
+newOf c d (write.Edit a n from k v) = formatted n (take k (drop from d)) v
+newOf c d (write.EditLiteral a n place k v) = formatted n (take k (drop place (c .literals))) v
 
 pub applied-stored : (c : Code) (d : List ℕ) (w : Write) → applied c d w ≡ stored d (startOf w) (newOf c d w)
 unfolding applied
@@ -69,6 +77,8 @@ applied-stored c d (write.Move a n from k) = refl
 applied-stored c d (write.Literal a n place k) = refl
 applied-stored c d (write.Clear a n decimal) = refl
 applied-stored c d (write.Case a n up) = refl
+applied-stored c d (write.Edit a n from k v) = refl
+applied-stored c d (write.EditLiteral a n place k v) = refl
 
 length-cleared : (decimal : Bool) (n : ℕ) → length (cleared decimal n) ≡ n
 length-cleared true n = length-zeros n
@@ -87,6 +97,8 @@ module _ (c : Code) (d : List ℕ) where
   length-new (write.Literal a n place k) r = length-fitted n (take k (drop place (c .literals)))
   length-new (write.Clear a n decimal) r = length-cleared decimal n
   length-new (write.Case a n up) r = length-cased up (take n (drop a d)) ∙ length-take-le n (drop a d) (omega (arith, length-drop a d))
+  length-new (write.Edit a n from k v) r = length-formatted n (take k (drop from d)) v
+  length-new (write.EditLiteral a n place k v) r = length-formatted n (take k (drop place (c .literals))) v
 
   pub room-fits : (w : Write) → Room c (length d) w → startOf w + lenOf w ≤ length d
   room-fits write.Nothing r = omega arith
@@ -96,6 +108,8 @@ module _ (c : Code) (d : List ℕ) where
   room-fits (write.Literal a n place k) r = r .0
   room-fits (write.Clear a n decimal) r = r
   room-fits (write.Case a n up) r = r
+  room-fits (write.Edit a n from k v) r = r .0
+  room-fits (write.EditLiteral a n place k v) r = r .0
 
   module _ (w : Write) (r : Room c (length d) w) where
     pub applied-length : length (applied c d w) ≡ length d

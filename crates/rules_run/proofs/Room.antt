@@ -11,7 +11,7 @@ use Rattle.rules.specs.declared.Fault.{Fault}
 use Rattle.rules.specs.declared.Fault.the-variants as fault
 use Rattle.rules.specs.declared.Num.{Num}
 use Rattle.rules.specs.declared.Num.the-variants.{Value, Failed}
-use Rattle.rules.specs.Values.{Limit, Top}
+use Rattle.rules.specs.Values.{Val, Limit, Top}
 use Rattle.rules.specs.Arithmetic.{addOf, subOf}
 use Rattle.rules.specs.Moves.{alphaOf}
 use Rattle.rules.proofs.Signed.{pow-le18}
@@ -27,12 +27,14 @@ use Rattle.rules_unit.specs.Table.{verbOf}
 use Rattle.rules_unit.specs.Codes.{Code}
 use Rattle.rules_run.specs.declared.Worked.{Worked}
 use Rattle.rules_run.specs.declared.Worked.the-variants as worked
+use Rattle.rules_run.specs.declared.Write.{Write}
+use Rattle.rules_run.specs.declared.Write.the-variants as write
 use Rattle.rules_run.specs.declared.Flow.{Flow}
 use Rattle.rules_run.specs.declared.Turn.{Turn}
 use Rattle.rules_run.specs.Evaluation.{readAt, workedOf, numberOf}
-use Rattle.rules_run.specs.Turns.{Room, failed, moveNum, moveWorked, onPlace, counted, countAt, caseAt, onNumber, ifZero, choose, actAt, turnBy, turnOf}
+use Rattle.rules_run.specs.Turns.{Room, failed, moveNum, moveWorked, onPlace, counted, countAt, caseAt, editNum, editAt, onNumber, ifZero, choose, actAt, turnBy, turnOf}
 use Rattle.rules_run.proofs.Ranges.{range-up, read-range}
-use Rattle.rules_run.proofs.Bounded.{Bounded, worked-bounded}
+use Rattle.rules_run.proofs.Bounded.{Bounded, worked-bounded, number-bounded}
 
 module _ (c : Code) (d : List ℕ) (limit : Limit (c .dialect .limit)) (bound : Top (c .dialect .top)) where
   -- The turn's store has room.
@@ -84,6 +86,18 @@ module _ (c : Code) (d : List ℕ) (limit : Limit (c .dialect .limit)) (bound : 
   fit-case up true a n p = fit-failed fault.Malformed
   fit-case up false a n p = record { room = p .0 }
 
+  fit-edit-num : (r : Num) (k : ℤ → Write) → InRange (10 ^ 18) r → ((v : ℤ) → Val (10 ^ 18) v → Room c (length d) (k v)) → Fit (editNum r k)
+  fit-edit-num (Value v) k x h = record { room = h v x }
+  fit-edit-num (Failed e) k x h = fit-failed e
+
+  fit-edit : (decimal : Bool) (a n : ℕ) → At decimal a n → (w : Worked) → Bounded (10 ^ 18) c (length d) w → (r : Num) → InRange (10 ^ 18) r → Fit (editAt decimal a n w r)
+  fit-edit true a n p w f r x = fit-failed fault.Malformed
+  fit-edit false a n p (worked.Number v) f r x = fit-failed fault.Malformed
+  fit-edit false a n p (worked.Place true b k) f r x = fit-failed fault.Malformed
+  fit-edit false a n p (worked.Place false b k) f r x = fit-edit-num r (λ v. write.Edit a n b k v) x (λ v y. (p .0, y, f .0))
+  fit-edit false a n p (worked.Text q l) f r x = fit-edit-num r (λ v. write.EditLiteral a n q l v) x (λ v y. (p .0, y, f))
+  fit-edit false a n p (worked.Failed e) f r x = fit-failed e
+
   fit-place : (w : Worked) (k : Bool → ℕ → ℕ → Turn) → Bounded (10 ^ 18) c (length d) w → ((decimal : Bool) (a n : ℕ) → At decimal a n → Fit (k decimal a n)) → Fit (onPlace w k)
   fit-place (worked.Number v) k f h = fit-failed fault.Malformed
   fit-place (worked.Place decimal a n) k f h = h decimal a n f
@@ -99,11 +113,16 @@ module _ (c : Code) (d : List ℕ) (limit : Limit (c .dialect .limit)) (bound : 
   fits : (is : List Item) → Bounded (10 ^ 18) c (length d) (workedOf c d is)
   fits = worked-bounded c d (10 ^ 18) (omega arith) (bound .most) most
 
+  number-in : (is : List Item) → InRange (10 ^ 18) (numberOf c d (workedOf c d is))
+  number-in is = number-bounded c d (10 ^ 18) (omega arith) (bound .most) most (length d) (workedOf c d is) (fits is)
+
   fit-act : (x : Act) (s : Statement) (decimal : Bool) (a n : ℕ) → At decimal a n → Fit (actAt c d x s decimal a n)
   fit-act act.Set s decimal a n p = fit-worked decimal a n p (workedOf c d (c .items (s .b))) (fits (c .items (s .b)))
   fit-act act.Clear s decimal a n p = record { room = p .0 }
   fit-act (act.Count up) s decimal a n p = fit-count up decimal a n p
   fit-act (act.Case upper) s decimal a n p = fit-case upper decimal a n p
+  fit-act act.Edit s decimal a n p =
+      fit-edit decimal a n p (workedOf c d (c .items (s .b))) (fits (c .items (s .b))) (numberOf c d (workedOf c d (c .items (s .c)))) (number-in (c .items (s .c)))
 
   fit-by : (i : ℕ) (v : Verb) (s : Statement) → Fit (turnBy c i d v s)
   unfolding turnBy

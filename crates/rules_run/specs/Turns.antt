@@ -16,6 +16,7 @@ use Rattle.rules.specs.declared.Num.the-variants.{Value, Failed}
 use Rattle.rules.specs.Values.{Val}
 use Rattle.rules.specs.Arithmetic.{addOf, subOf}
 use Rattle.rules.specs.Moves.{written, shown, alphaOf, fitted, upcased, locased, blanks, zeros}
+use Rattle.rules.specs.Masks.{formatted}
 use Rattle.rules_unit.specs.declared.Statement.{Statement}
 use Rattle.rules_unit.specs.declared.Act.{Act}
 use Rattle.rules_unit.specs.declared.Act.the-variants as act
@@ -55,6 +56,8 @@ applied c d (write.Move a n from k) = stored d a (fitted n (take k (drop from d)
 applied c d (write.Literal a n place k) = stored d a (fitted n (take k (drop place (c .literals))))
 applied c d (write.Clear a n decimal) = stored d a (cleared decimal n)
 applied c d (write.Case a n up) = stored d a (cased up (take n (drop a d)))
+applied c d (write.Edit a n from k v) = stored d a (formatted n (take k (drop from d)) v)
+applied c d (write.EditLiteral a n place k v) = stored d a (formatted n (take k (drop place (c .literals))) v)
 
 -- A store that the data has room for, and that the moves can make.
 abbrev pub Room : Code → ℕ → Write → Type 0
@@ -65,6 +68,8 @@ Room c size (write.Move a n from k) = (a + n ≤ size) × (from + k ≤ size)
 Room c size (write.Literal a n place k) = (a + n ≤ size) × (place + k ≤ length (c .literals))
 Room c size (write.Clear a n decimal) = a + n ≤ size
 Room c size (write.Case a n up) = a + n ≤ size
+Room c size (write.Edit a n from k v) = (a + n ≤ size) × Val (10 ^ 18) v × (from + k ≤ size)
+Room c size (write.EditLiteral a n place k v) = (a + n ≤ size) × Val (10 ^ 18) v × (place + k ≤ length (c .literals))
 
 -- ---- turns
 
@@ -130,6 +135,23 @@ countAt c d up decimal a n = cond decimal (moveNum true a n (counted (c .dialect
 abbrev pub caseAt : Bool → Bool → ℕ → ℕ → Turn
 caseAt up decimal a n = cond decimal (failed fault.Malformed) (stores (write.Case a n up))
 
+-- ---- the formatted move
+
+-- What is stored of a number.
+abbrev pub editNum : Num → (ℤ → Write) → Turn
+editNum (Value v) k = stores (k v)
+editNum (Failed e) k = failed e
+
+-- "21 for the mask's place comes after the destination's and before the number's." Here r is what the number comes to.
+abbrev pub editBy : ℕ → ℕ → Worked → Num → Turn
+editBy a n (worked.Number v) r = failed fault.Malformed
+editBy a n (worked.Place decimal from k) r = cond decimal (failed fault.Malformed) (editNum r (λ v. write.Edit a n from k v))
+editBy a n (worked.Text p l) r = editNum r (λ v. write.EditLiteral a n p l v)
+editBy a n (worked.Failed e) r = failed e
+
+abbrev pub editAt : Bool → ℕ → ℕ → Worked → Num → Turn
+editAt decimal a n mask r = cond decimal (failed fault.Malformed) (editBy a n mask r)
+
 -- ---- jumps
 
 abbrev pub onNumber : Num → (ℤ → Flow) → Turn
@@ -154,6 +176,7 @@ actAt c d act.Set s decimal x n = moveWorked c d decimal x n (workedOf c d (c .i
 actAt c d act.Clear s decimal x n = clearAt decimal x n
 actAt c d (act.Count up) s decimal x n = countAt c d up decimal x n
 actAt c d (act.Case upper) s decimal x n = caseAt upper decimal x n
+actAt c d act.Edit s decimal x n = editAt decimal x n (workedOf c d (c .items (s .b))) (numberOf c d (workedOf c d (c .items (s .c))))
 
 -- The statement s at i, of the verb given.
 unfoldable pub turnBy : Code → ℕ → List ℕ → Verb → Statement → Turn

@@ -70,6 +70,22 @@ pub enum Write {
         len: usize,
         upper: bool,
     },
+    // A number by a mask: the count bytes of data that stand at from.
+    Edit {
+        start: usize,
+        len: usize,
+        from: usize,
+        count: usize,
+        value: i64,
+    },
+    // A number by a mask: the count characters of the literals that stand at place.
+    EditLiteral {
+        start: usize,
+        len: usize,
+        place: usize,
+        count: usize,
+        value: i64,
+    },
 }
 
 // Where the run goes on after a statement, or why it does not.

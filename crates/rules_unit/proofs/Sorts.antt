@@ -28,6 +28,7 @@ wrong-suits want.DecimalPlace = refl
 wrong-suits want.AlphaPlace = refl
 wrong-suits want.Source = refl
 wrong-suits want.Number = refl
+wrong-suits want.AlphaSource = refl
 
 -- An expression that suits its use is not Wrong.
 pub suits-right : (w : Want) (k : Sort) → suits w k ≡ true → rightb k ≡ true

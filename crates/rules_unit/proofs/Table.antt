@@ -2,9 +2,10 @@
 --   verb-set     the code 1, which the literal asks for, is SET's
 --   verb-goto, goto-verb    the code 7, which a computed GOTO asks for, is GOTO's, and no other is
 --   verb-code    no two codes do the same: what a statement does tells its code
+--   writes-some  a code whose place a is written is not 0
 --   read-down    the table read down its columns: what a, b and c are, by the code
 -- Assumes nothing.
-use Prim.Native.Nat.{ℕ, _<_}
+use Prim.Native.Nat.{ℕ, _<_, _≤_}
 use native.Mathlib.Omega.{arith}
 use mathlib.Core.Path.{_≡_, refl, sym, ap, _∙_}
 use mathlib.Core.Bool.{Bool, true, false, cond}
@@ -12,14 +13,14 @@ use mathlib.Core.Logic.{_⊎_, inl, inr}
 use lib.Dec.{leb, eqb}
 use borrow.Author.Tests.{eqb-true, eq-eqb}
 use Rattle.rules.proofs.Charts.{same-at}
-use Rattle.rules_unit.specs.declared.Act.the-variants.{Set, Clear, Count, Case}
+use Rattle.rules_unit.specs.declared.Act.the-variants.{Set, Clear, Count, Case, Edit}
 use Rattle.rules_unit.specs.declared.Statement.{Statement}
 use Rattle.rules_unit.specs.declared.Verb.{Verb}
 use Rattle.rules_unit.specs.declared.Verb.the-variants.{At, Goto, IfZero, Call, Return, Stop, Computed, Bad}
-use Rattle.rules_unit.specs.declared.Want.the-variants.{Place, DecimalPlace, AlphaPlace, Source, Number}
+use Rattle.rules_unit.specs.declared.Want.the-variants.{Place, DecimalPlace, AlphaPlace, Source, Number, AlphaSource}
 use Rattle.rules_unit.specs.declared.Role.{Role}
 use Rattle.rules_unit.specs.declared.Role.the-variants.{Unused, Written, Read, Target, Table, Never}
-use Rattle.rules_unit.specs.Table.{verbOf, rowWith, rowOf}
+use Rattle.rules_unit.specs.Table.{verbOf, rowWith, rowOf, WritesA}
 use Rattle.rules_unit.specs.Checks.{isGoto}
 
 pub verb-set : (code : ℕ) → eqb code 1 ≡ true → verbOf code ≡ At Set
@@ -38,6 +39,7 @@ codeBack (At (Count true)) = 3
 codeBack (At (Count false)) = 4
 codeBack (At (Case true)) = 5
 codeBack (At (Case false)) = 6
+codeBack (At Edit) = 13
 codeBack Goto = 7
 codeBack IfZero = 8
 codeBack Call = 9
@@ -51,7 +53,8 @@ unfolding verbOf
 verb-code code =
     by 1 (At Set) _ refl (by 2 (At Clear) _ refl (by 3 (At (Count true)) _ refl (by 4 (At (Count false)) _ refl
     (by 5 (At (Case true)) _ refl (by 6 (At (Case false)) _ refl (by 7 Goto _ refl (by 8 IfZero _ refl
-    (by 9 Call _ refl (by 10 Return _ refl (by 11 Stop _ refl (by 12 Computed _ refl (inl refl))))))))))))
+    (by 9 Call _ refl (by 10 Return _ refl (by 11 Stop _ refl (by 12 Computed _ refl
+    (by 13 (At Edit) _ refl (inl refl)))))))))))))
   where
     Told : Verb → Type 0
     Told v = (v ≡ Bad) ⊎ (codeBack v ≡ code)
@@ -70,7 +73,11 @@ goto-verb s e = by (verb-code (s .code))
     by (inl q) = let z : _≡_ {A = ℕ} 7 0 = ap codeBack (sym e ∙ q) in absurd (omega (arith, z))
     by (inr q) = eq-eqb (s .code) 7 (sym q ∙ ap codeBack e)
 
--- "A destination is the span named by place a of codes 1 to 6": of any sort at 1 and 2, decimal at 3 and 4, alpha at 5 and 6.
+pub writes-some : (code : ℕ) → WritesA code → 1 ≤ code
+writes-some code (inl h) = h .0
+writes-some code (inr e) = omega (arith, e)
+
+-- "A destination is the span named by place a of codes 1 to 6": of any sort at 1 and 2, decimal at 3 and 4, alpha at 5 and 6; alpha too at 13.
 abbrev columnA : ℕ → Role
 columnA code =
     cond (eqb code 0) Never
@@ -79,9 +86,10 @@ columnA code =
     (cond (leb code 6) (Written AlphaPlace)
     (cond (leb code 11) Unused
     (cond (leb code 12) Table
-    Never)))))
+    (cond (leb code 13) (Written AlphaPlace)
+    Never))))))
 
--- A source at 1, and a number at 8 and 12.
+-- A source at 1, a number at 8 and 12, and an alpha source at 13.
 abbrev columnB : ℕ → Role
 columnB code =
     cond (eqb code 0) Never
@@ -90,16 +98,18 @@ columnB code =
     (cond (leb code 8) (Read Number)
     (cond (leb code 11) Unused
     (cond (leb code 12) (Read Number)
-    Never)))))
+    (cond (leb code 13) (Read AlphaSource)
+    Never))))))
 
--- A target at 7, 8 and 9.
+-- A target at 7, 8 and 9, and a number at 13.
 abbrev columnC : ℕ → Role
 columnC code =
     cond (eqb code 0) Never
     (cond (leb code 6) Unused
     (cond (leb code 9) Target
     (cond (leb code 12) Unused
-    Never)))
+    (cond (leb code 13) (Read Number)
+    Never))))
 
 -- For every byte.
 pub read-down : (code : ℕ) → code < 256 → rowOf (verbOf code) ≡ rowWith (columnA code) (columnB code) (columnC code)

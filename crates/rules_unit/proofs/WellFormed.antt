@@ -147,6 +147,16 @@ module _ (c : Code) where
   wanted-tells want.Number (item.Operator o) = something _ (inl tt)
   wanted-tells want.Number item.End = nothing _ (neither no no)
   wanted-tells want.Number item.Bad = nothing _ (neither no no)
+  wanted-tells want.AlphaSource (item.Number place len) = nothing _ (neither no no)
+  wanted-tells want.AlphaSource (item.Reference h field) = by (decimalb c field)
+    where
+      by : (t : Bool) → Tells (suits want.AlphaSource (placeSort t)) (⊥ ⊎ (t ≡ false))
+      by true = nothing _ (neither no true≢false)
+      by false = something _ (inr refl)
+  wanted-tells want.AlphaSource (item.Text place len) = something _ (inl tt)
+  wanted-tells want.AlphaSource (item.Operator o) = nothing _ (neither no no)
+  wanted-tells want.AlphaSource item.End = nothing _ (neither no no)
+  wanted-tells want.AlphaSource item.Bad = nothing _ (neither no no)
 
   -- ---- the test, item by item
 

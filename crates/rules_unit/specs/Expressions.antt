@@ -165,6 +165,11 @@ suits want.Number sort.Number = true
 suits want.Number sort.Text = false
 suits want.Number sort.Decimal = true
 suits want.Number sort.Alpha = false
+suits want.AlphaSource sort.Wrong = false
+suits want.AlphaSource sort.Number = false
+suits want.AlphaSource sort.Text = true
+suits want.AlphaSource sort.Decimal = false
+suits want.AlphaSource sort.Alpha = true
 
 -- An expression of the sort that its use wants.
 abbrev pub useb : Code → Use → Bool

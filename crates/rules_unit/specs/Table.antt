@@ -3,15 +3,18 @@
 --   rowOf v          what its parts are: a row of the table
 --   useOf r x        how the part x, of the role r, uses an expression; Nothing where it uses none
 --   usesOf s         the uses of a statement, one for each part
+--   WritesA code     the codes whose place a is written
 -- What is checked of a part stands in Checks and Sound, by its role. Assumes nothing.
-use Prim.Native.Nat.{ℕ}
+use Prim.Native.Nat.{ℕ, _≤_}
+use mathlib.Core.Path.{_≡_}
+use mathlib.Core.Logic.{_⊎_}
 use mathlib.Core.Bool.{true, false, cond}
 use mathlib.Core.List.{List, [], _∷_}
 use lib.Dec.{eqb}
-use Rattle.rules_unit.specs.declared.Act.the-variants.{Set, Clear, Count, Case}
+use Rattle.rules_unit.specs.declared.Act.the-variants.{Set, Clear, Count, Case, Edit}
 use Rattle.rules_unit.specs.declared.Verb.{Verb}
 use Rattle.rules_unit.specs.declared.Verb.the-variants.{At, Goto, IfZero, Call, Return, Stop, Computed, Bad}
-use Rattle.rules_unit.specs.declared.Want.the-variants.{Place, DecimalPlace, AlphaPlace, Source, Number}
+use Rattle.rules_unit.specs.declared.Want.the-variants.{Place, DecimalPlace, AlphaPlace, Source, Number, AlphaSource}
 use Rattle.rules_unit.specs.declared.Role.{Role}
 use Rattle.rules_unit.specs.declared.Role.the-variants.{Unused, Written, Read, Target, Table, Never}
 use Rattle.rules_unit.specs.declared.Row.{Row}
@@ -48,7 +51,9 @@ verbOf code =
     (cond (eqb code 11) Stop
     -- "12 computed GOTO, number b, a = n from 1 to 255"
     (cond (eqb code 12) Computed
-    Bad)))))))))))
+    -- "13 SET a from c with mask b"
+    (cond (eqb code 13) (At Edit)
+    Bad))))))))))))
 
 -- ---- the parts
 
@@ -61,6 +66,7 @@ rowOf (At Set) = rowWith (Written Place) (Read Source) Unused
 rowOf (At Clear) = rowWith (Written Place) Unused Unused
 rowOf (At (Count up)) = rowWith (Written DecimalPlace) Unused Unused
 rowOf (At (Case upper)) = rowWith (Written AlphaPlace) Unused Unused
+rowOf (At Edit) = rowWith (Written AlphaPlace) (Read AlphaSource) (Read Number)
 rowOf Goto = rowWith Unused Unused Target
 rowOf IfZero = rowWith Unused (Read Number) Target
 rowOf Call = rowWith Unused Unused Target
@@ -68,6 +74,10 @@ rowOf Return = rowWith Unused Unused Unused
 rowOf Stop = rowWith Unused Unused Unused
 rowOf Computed = rowWith Table (Read Number) Unused
 rowOf Bad = rowWith Never Never Never
+
+-- "A destination is the span named by place a of codes 1 to 6", and of 13.
+abbrev pub WritesA : ℕ → Type 0
+WritesA code = ((1 ≤ code) × (code ≤ 6)) ⊎ (code ≡ 13)
 
 -- ---- the uses
 

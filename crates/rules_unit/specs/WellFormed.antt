@@ -111,6 +111,7 @@ Wanted c want.AlphaPlace i = ToAlpha c i
 -- "source b (number or alpha source)"
 Wanted c want.Source i = IsNumber c i ⊎ (IsText i ⊎ ToAlpha c i)
 Wanted c want.Number i = IsNumber c i
+Wanted c want.AlphaSource i = IsText i ⊎ ToAlpha c i
 
 -- ---- expressions
 

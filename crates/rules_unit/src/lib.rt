@@ -107,6 +107,8 @@ pub enum Act {
     Count { up: bool },
     // UPCASE, or LOCASE where it is not upper.
     Case { upper: bool },
+    // SET from number c with mask b.
+    Edit,
 }
 
 // What a statement does, by its code: something at its place, or where the run goes on; Bad for a code that is none.
@@ -137,6 +139,7 @@ pub enum Want {
     AlphaPlace,
     Source,
     Number,
+    AlphaSource,
 }
 
 // How a part of a statement uses an expression: the sort wanted, where it starts, and whether it is written; Nothing where it uses none.

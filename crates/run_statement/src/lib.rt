@@ -13,12 +13,34 @@ ghost use mathlib.Core.Path.{_≡_};
 ghost use Prim.Native.Nat.{_+_, _^_, _≤_, _<_};
 ghost use lib.ListN.{length};
 ghost use Rattle.rules.specs.Values.{Val};
+ghost use Rattle.rules_unit.specs.declared.Act.the-variants as act;
 ghost use Rattle.rules_unit.specs.declared.Verb.the-variants as verb;
 ghost use Rattle.rules_unit.specs.Decode.{Fills, SoundDialect, codeOf};
 ghost use Rattle.rules_unit.specs.Sound.{ShapeSound};
 ghost use Rattle.rules_run.specs.Turns.{ifZero, choose, actAt, turnBy, turnOf};
 
-// ---- SET, CLEAR, INCR, DECR, UPCASE, LOCASE
+// ---- SET, CLEAR, INCR, DECR, UPCASE, LOCASE, SET with a mask
+
+// SET with a mask of a place that was found: the mask is worked out after the place, and the number after the mask.
+fn edit(
+    unit: &[u8],
+    parts: Parts,
+    bytes: &[u8],
+    s: Statement,
+    decimal: bool,
+    start: usize,
+    len: usize,
+) -> Turn
+    requires { ⌜ Fills (now unit) parts ⌝ }
+    requires { ⌜ SoundDialect (parts .dialect) ⌝ }
+    requires { ⌜ length (now bytes) < 65536 ⌝ }
+    ensures { λ r. ⌜ r ≡ actAt (codeOf (now (unit .entry)) parts) (now (bytes .entry)) act.Edit s decimal start len ⌝ }
+{
+    let mask = run_evaluate::worked(unit, parts, bytes, s.b);
+    let w = run_evaluate::worked(unit, parts, bytes, s.c);
+    let n = run_evaluate::number_of(unit, parts, bytes, w);
+    run_moves::edit_at(decimal, start, len, mask, n)
+}
 
 // What a statement answers once its place is found. The source of a SET is worked out here, and so after its place.
 fn at_place(
@@ -49,6 +71,7 @@ fn at_place(
         }),
         Act::Count { up } => run_moves::count_at(unit, parts, bytes, up, decimal, start, len),
         Act::Case { upper } => run_moves::case_at(upper, decimal, start, len),
+        Act::Edit => edit(unit, parts, bytes, s, decimal, start, len),
     }
 }
 

@@ -1,3 +1,4 @@
 pub mod Moving
+pub mod Masks
 pub mod Storing
 pub mod Writes

@@ -1,15 +1,16 @@
--- Laws of moving text inside the data: one byte of either direction, and the spaces behind a text that is too short.
+-- Laws of moving text inside the data: one byte of either direction, the spaces behind a text that is too short, and those before a mask.
 -- Assumes nothing.
 use Prim.Native.Nat.{ℕ, _+_, _-_, _<_, _≤_, min}
 use native.Mathlib.Nat.{add-zero, sub-self, sub-zero, min-eq-left, min-eq-right}
 use native.Mathlib.Numerals.{add-one}
 use native.Mathlib.Omega.{arith}
-use mathlib.Core.Path.{_≡_, sym, ap, _∙_}
+use mathlib.Core.Path.{_≡_, refl, sym, ap, _∙_}
 use mathlib.Core.List.{List, _++_, append-nil}
 use lib.ListN.{length, take, drop, getD, set, replicate, length-replicate}
-use lib.Seq.{drop-cons, drop-drop, take-add, take-take, take-length, set-split}
+use lib.Seq.{drop-cons, drop-drop, take-add, take-take, take-length, set-split, drop-at}
 use borrow.Rule.Slice.PartMut.{putMid, mid-len}
 use Rattle.rules.specs.Moves.{fitted}
+use Rattle.rules.specs.Masks.{rightmost}
 use Rattle.rules.proofs.Sizes.{part-length}
 use Rattle.alpha.proofs.Fitting.{fitted-is}
 use Rattle.rules_run.specs.Turns.{stored}
@@ -105,3 +106,40 @@ module _ (d : List ℕ) where
       ∙ ap (λ (j : ℕ). stored x j ys) a
       ∙ stored-append d start s ys (omega arith)
       ∙ ap (stored d start) (rw f (sym (fitted-is len s ∙ rw (m, take-length s))))
+
+  -- ---- text at the right end
+
+  pub cut-left : (start len from count : ℕ) → len ≤ count → from + count ≤ length d
+      → stored d start (take len (drop (from + (count - len)) d)) ≡ stored d start (rightmost len (take count (drop from d)))
+  cut-left start len from count h k =
+      let s : List ℕ = take count (drop from d) in
+      let n : length s ≡ count = part-length d from count k in
+      let none : len - length s ≡ 0 = omega arith in
+      let some : length s - len ≡ count - len = omega arith in
+      let whole : count - len + len ≡ count = omega arith in
+      let front : List ℕ = take (count - len) (drop from d) in
+      let last : List ℕ = take len (drop (from + (count - len)) d) in
+      let split : front ++ last ≡ s = joined from (count - len) len ∙ ap (λ (j : ℕ). take j (drop from d)) whole in
+      let kept : drop (count - len) s ≡ last = ap (drop (count - len)) (sym split) ∙ drop-at front last (count - len) (part-length d from (count - len) (omega arith)) in
+      ap (stored d start) (sym (rw (none, some) kept))
+
+  -- the part before the text came back as ys, all spaces
+  pub spaced : (start len from count : ℕ) (ys : List ℕ) → count ≤ len → start + len ≤ length d → from + count ≤ length d
+      → ys ≡ replicate (length (take (start + (len - count) - start) (drop start (stored d (start + (len - count)) (take count (drop from d)))))) 32
+      → putMid start (start + (len - count) - start) (stored d (start + (len - count)) (take count (drop from d))) ys
+      ≡ stored d start (rightmost len (take count (drop from d)))
+  spaced start len from count ys h k l q =
+      let s : List ℕ = take count (drop from d) in
+      let a : ℕ = start + (len - count) in
+      let x : List ℕ = stored d a s in
+      let n : length s ≡ count = part-length d from count l in
+      let room : a ≤ length x = omega (arith, stored-length d a s (omega arith)) in
+      let w : a - start ≡ len - length s = omega arith in
+      let f : ys ≡ replicate (len - length s) 32 = q ∙ ap (λ (j : ℕ). replicate j 32) (mid-len start a x room ∙ w) in
+      let m : length ys ≡ len - length s = ap length f ∙ length-replicate (len - length s) 32 in
+      let e : a ≡ start + length ys = omega arith in
+      let none : length s - len ≡ 0 = omega arith in
+      stored-part x start a ys (omega arith) (m ∙ sym w)
+      ∙ ap (λ (j : ℕ). stored (stored d j s) start ys) e
+      ∙ stored-prepend d start ys s (omega arith)
+      ∙ ap (stored d start) (rw (f, none) refl)

@@ -1,25 +1,27 @@
 -- A part of the data that was lent to a writer has come back: what it makes of the data is the rule's store, one law for each kind of store.
 -- Assumes nothing.
-use Prim.Native.Nat.{ℕ, _+_, _-_, _≤_}
+use Prim.Native.Nat.{ℕ, _+_, _-_, _^_, _<_, _≤_}
 use native.Mathlib.Nat.{add-sub-cancel-left}
 use native.Mathlib.Omega.{arith}
-use mathlib.Core.Path.{_≡_, sym, ap, _∙_}
+use mathlib.Core.Path.{_≡_, refl, sym, ap, _∙_}
 use mathlib.Core.Bool.{Bool, true, false, cond}
 use mathlib.Core.List.{List}
 use lib.IntN.{ℤ}
 use lib.ListN.{length, take, drop, replicate, length-drop}
 use lib.Seq.{length-take-le}
 use mir.Syntax.{w64}
-use mir.Val.{SFits, toZ, ofZ}
+use mir.Val.{Fits, SFits, toZ, ofZ}
 use borrow.Rule.Slice.PartMut.{putMid}
 use Rattle.rules.specs.Moves.{written, shown, fitted, upcased, locased}
+use Rattle.rules.specs.Masks.{formatted}
 use Rattle.rules.proofs.Signed.{back}
 use Rattle.rules.proofs.Decimals.{length-written, length-shown, length-fitted, length-upcased, length-locased, length-blanks, length-zeros}
+use Rattle.rules.proofs.Masks.{length-formatted}
 use Rattle.rules_unit.specs.declared.Parts.{Parts}
 use Rattle.rules_unit.specs.Decode.{Fills, literalsAt, codeOf}
 use Rattle.rules_run.specs.Turns.{stored, cased, cleared}
 use Rattle.rules_run.proofs.Stored.{stored-part}
-use Rattle.unit_decode.proofs.Literals.{literal-is}
+use Rattle.unit_decode.proofs.Literals.{literal-end, literal-is}
 
 -- the n bytes of the data from a on, lent as the part from a to a + n, and what came back of them
 module _ (d : List ℕ) (a n : ℕ) (room : a + n ≤ length d) where
@@ -74,3 +76,24 @@ part-literal u p fills place count x y z ex ey ez inside d a n ys h e =
     let new : List ℕ = take count (drop place (codeOf u p .literals)) in
     let is = literal-is u p fills place count x y z ex ey ez inside in
     made d a n h ys (λ k. fitted k new) (length-fitted n new) (e ∙ ap (fitted (length (take (a + n - a) (drop a d)))) is)
+
+-- the same of a mask that is a literal: x is the code's own copy of where the literals start
+module _ (u : List ℕ) (p : Parts) (fills : Fills u p) (place count x : ℕ) (ex : x ≡ literalsAt p) (inside : place + count ≤ length (codeOf u p .literals)) where
+  pub mask-end : x + place + count ≤ length u
+  mask-end = literal-end u p fills place count x place count ex refl refl inside
+
+  pub place-fits : length u < 2 ^ 64 → Fits w64 (x + place)
+  place-fits l = omega (arith, l, mask-end)
+
+  pub mask-fits : length u < 2 ^ 64 → Fits w64 (x + place + count)
+  mask-fits l = omega (arith, l, mask-end)
+
+  pub part-formatted : (d : List ℕ) (a n : ℕ) (ys : List ℕ) {v : ℤ} → a + n ≤ length d → SFits w64 v
+      → ys ≡ formatted (length (take (a + n - a) (drop a d))) (take (x + place + count - (x + place)) (drop (x + place) u)) (toZ w64 (ofZ w64 v))
+      → putMid a (a + n - a) d ys ≡ stored d a (formatted n (take count (drop place (codeOf u p .literals))) v)
+  part-formatted d a n ys {v} h f e =
+      let new : List ℕ = take count (drop place (codeOf u p .literals)) in
+      let is = literal-is u p fills place count x place count ex refl refl inside in
+      let long : ℕ = length (take (a + n - a) (drop a d)) in
+      made d a n h ys (λ k. formatted k new v) (length-formatted n new v)
+      (e ∙ ap (λ (m : List ℕ). formatted long m (toZ w64 (ofZ w64 v))) is ∙ ap (formatted long new) (back f))

@@ -10,6 +10,7 @@ use mir.Syntax.{w64}
 use mir.Val.{toZ, ofZ}
 use Rattle.rules.specs.Values.{Val}
 use Rattle.rules.specs.Moves.{written, shown, fitted}
+use Rattle.rules.specs.Masks.{formatted}
 use Rattle.rules.proofs.Signed.{back, val-fits, again}
 use Rattle.rules_unit.specs.declared.Parts.{Parts}
 use Rattle.rules_unit.specs.Codes.{Code}
@@ -51,9 +52,28 @@ module _ (c : Code) (size : ℕ) (w : Write) (room : Room c size w) where
   pub case-room : (a n : ℕ) (up : Bool) → w ≡ write.Case a n up → a + n ≤ size
   case-room a n up e = subst (Room c size) e room
 
+  pub edit-room : (a n from k : ℕ) (v : ℤ) → w ≡ write.Edit a n from k v → a + n ≤ size
+  edit-room a n from k v e = subst (Room c size) e room .0
+
+  pub edit-value : (a n from k : ℕ) (v : ℤ) → w ≡ write.Edit a n from k v → Val (10 ^ 18) (toZ w64 (ofZ w64 v))
+  edit-value a n from k v e = again (subst (Room c size) e room .1)
+
+  pub edit-mask : (a n from k : ℕ) (v : ℤ) → w ≡ write.Edit a n from k v → from + k ≤ size
+  edit-mask a n from k v e = subst (Room c size) e room .2
+
+  pub edit-literal-room : (a n place k : ℕ) (v : ℤ) → w ≡ write.EditLiteral a n place k v → a + n ≤ size
+  edit-literal-room a n place k v e = subst (Room c size) e room .0
+
+  pub edit-literal-value : (a n place k : ℕ) (v : ℤ) → w ≡ write.EditLiteral a n place k v → Val (10 ^ 18) (toZ w64 (ofZ w64 v))
+  edit-literal-value a n place k v e = again (subst (Room c size) e room .1)
+
 pub literal-source : (u : List ℕ) (p : Parts) (size : ℕ) (w : Write) (a n place k : ℕ) → Room (codeOf u p) size w → w ≡ write.Literal a n place k
     → place + k ≤ length (codeOf u p .literals)
 literal-source u p size w a n place k room e = subst (Room (codeOf u p) size) e room .1
+
+pub edit-literal-mask : (u : List ℕ) (p : Parts) (size : ℕ) (w : Write) (a n place k : ℕ) (v : ℤ) → Room (codeOf u p) size w → w ≡ write.EditLiteral a n place k v
+    → place + k ≤ length (codeOf u p .literals)
+edit-literal-mask u p size w a n place k v room e = subst (Room (codeOf u p) size) e room .2
 
 -- ---- what it makes of the data: ys is what the callee made
 
@@ -90,4 +110,18 @@ module _ (c : Code) (d : List ℕ) (w : Write) (room : Room c (length d) w) wher
   unfolding applied
   applied-case ys a n up e q = rw e q
 
-pub ruleset stores-made = (applied-nothing, applied-number, applied-show, applied-move, applied-literal, applied-clear, applied-case)
+  pub applied-edit : (ys : List ℕ) (a n from k : ℕ) (v : ℤ) → w ≡ write.Edit a n from k v → ys ≡ stored d a (formatted n (take k (drop from d)) (toZ w64 (ofZ w64 v)))
+      → ys ≡ applied c d w
+  unfolding applied
+  applied-edit ys a n from k v e q =
+      let r = subst (Room c (length d)) e room in
+      rw e (q ∙ ap (λ (z : ℤ). stored d a (formatted n (take k (drop from d)) z)) (back (val-fits (r .1))))
+
+  pub applied-edit-literal : (ys : List ℕ) (a n place k : ℕ) (v : ℤ) → w ≡ write.EditLiteral a n place k v
+      → ys ≡ stored d a (formatted n (take k (drop place (c .literals))) (toZ w64 (ofZ w64 v))) → ys ≡ applied c d w
+  unfolding applied
+  applied-edit-literal ys a n place k v e q =
+      let r = subst (Room c (length d)) e room in
+      rw e (q ∙ ap (λ (z : ℤ). stored d a (formatted n (take k (drop place (c .literals))) z)) (back (val-fits (r .1))))
+
+pub ruleset stores-made = (applied-nothing, applied-number, applied-show, applied-move, applied-literal, applied-clear, applied-case, applied-edit, applied-edit-literal)

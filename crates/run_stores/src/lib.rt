@@ -7,6 +7,7 @@ ghost use Prim.Native.Nat.{_+_, _^_, _≤_};
 ghost use lib.ListN.{length, take, drop};
 ghost use Rattle.rules.specs.Values.{Val};
 ghost use Rattle.rules.specs.Moves.{written, shown, fitted};
+ghost use Rattle.rules.specs.Masks.{rightmost, formatted};
 ghost use Rattle.rules_unit.specs.Decode.{Fills, SoundDialect, codeOf};
 ghost use Rattle.rules_run.specs.Turns.{stored, cased, cleared, applied, Room};
 
@@ -129,6 +130,58 @@ fn store_cased(bytes: &mut [u8], start: usize, len: usize, upper: bool)
     alpha::locase(&mut bytes[start..end])
 }
 
+// A mask inside the data: the last of the count bytes at from, stored at the right end of the len bytes at start, with spaces before them.
+fn lay_text(bytes: &mut [u8], start: usize, len: usize, from: usize, count: usize)
+    requires { ⌜ (start + len ≤ length (now bytes)) × (from + count ≤ length (now bytes)) ⌝ }
+    ensures { λ _. ⌜ now (bytes .exit) ≡ stored (now (bytes .entry)) start (rightmost len (take count (drop from (now (bytes .entry))))) ⌝ }
+{
+    if len <= count {
+        let cut = count - len;
+        return shift(bytes, start, from + cut, len);
+    }
+    let gap = len - count;
+    let a = start + gap;
+    shift(bytes, a, from, count);
+    alpha::fill(&mut bytes[start..a], 32)
+}
+
+// A number by a mask inside the data, which the destination may overlap: the mask is read before it is moved, and edited where it then stands.
+fn format_in(bytes: &mut [u8], start: usize, len: usize, from: usize, count: usize, v: i64)
+    requires { ⌜ (start + len ≤ length (now bytes)) × (from + count ≤ length (now bytes)) ⌝ }
+    requires { ⌜ Val (10 ^ 18) v ⌝ }
+    ensures { λ _. ⌜ now (bytes .exit) ≡ stored (now (bytes .entry)) start (formatted len (take count (drop from (now (bytes .entry)))) v) ⌝ }
+{
+    let t = number::powers();
+    let last = from + count;
+    let g = run_masks::plan(&t, len, &bytes[from..last], v);
+    lay_text(bytes, start, len, from, count);
+    let end = start + len;
+    run_masks::finish(&t, g, &mut bytes[start..end])
+}
+
+// A number by a mask that is an alpha literal, which lies in the unit.
+fn format_literal(
+    unit: &[u8],
+    parts: Parts,
+    bytes: &mut [u8],
+    start: usize,
+    len: usize,
+    v: i64,
+    place: usize,
+    count: usize,
+)
+    requires { ⌜ Fills (now unit) parts ⌝ }
+    requires { ⌜ start + len ≤ length (now bytes) ⌝ }
+    requires { ⌜ Val (10 ^ 18) v ⌝ }
+    requires { ⌜ place + count ≤ length (codeOf (now unit) parts .literals) ⌝ }
+    ensures { λ _. ⌜ now (bytes .exit) ≡ stored (now (bytes .entry)) start (formatted len (take count (drop place (codeOf (now (unit .entry)) parts .literals))) v) ⌝ }
+{
+    let from = unit_decode::literals_offset(parts) + place;
+    let to = from + count;
+    let end = start + len;
+    run_masks::format(&mut bytes[start..end], &unit[from..to], v)
+}
+
 // Stores what a statement answered. Data changes here and nowhere else.
 pub fn store(unit: &[u8], parts: Parts, bytes: &mut [u8], w: Write)
     requires { ⌜ Fills (now unit) parts ⌝ }
@@ -158,5 +211,19 @@ pub fn store(unit: &[u8], parts: Parts, bytes: &mut [u8], w: Write)
             decimal,
         } => store_cleared(bytes, start, len, decimal),
         Write::Case { start, len, upper } => store_cased(bytes, start, len, upper),
+        Write::Edit {
+            start,
+            len,
+            from,
+            count,
+            value,
+        } => format_in(bytes, start, len, from, count, value),
+        Write::EditLiteral {
+            start,
+            len,
+            place,
+            count,
+            value,
+        } => format_literal(unit, parts, bytes, start, len, value, place, count),
     }
 }

@@ -371,6 +371,7 @@ pub fn verb_of(code: u8) -> Verb
         10 => Verb::Return,
         11 => Verb::Stop,
         12 => Verb::Computed,
+        13 => Verb::At(Act::Edit),
         _ => Verb::Bad,
     }
 }
@@ -402,6 +403,11 @@ fn act_row(act: Act) -> Row
             Role::Written(Want::AlphaPlace),
             Role::Unused,
             Role::Unused,
+        ),
+        Act::Edit => row_with(
+            Role::Written(Want::AlphaPlace),
+            Role::Read(Want::AlphaSource),
+            Role::Read(Want::Number),
         ),
     }
 }

@@ -125,6 +125,19 @@ fn suits_number(k: Sort) -> bool
     }
 }
 
+// Whether the sort k is that of an alpha source.
+fn suits_alpha_source(k: Sort) -> bool
+    ensures { λ r. ⌜ r ≡ suits want.AlphaSource k ⌝ }
+{
+    match k {
+        Sort::Wrong => false,
+        Sort::Number => false,
+        Sort::Text => true,
+        Sort::Decimal => false,
+        Sort::Alpha => true,
+    }
+}
+
 // Whether an expression of the sort k is of the sort wanted.
 fn suits_use(w: Want, k: Sort) -> bool
     ensures { λ r. ⌜ r ≡ suits w k ⌝ }
@@ -135,6 +148,7 @@ fn suits_use(w: Want, k: Sort) -> bool
         Want::AlphaPlace => suits_alpha_place(k),
         Want::Source => suits_source(k),
         Want::Number => suits_number(k),
+        Want::AlphaSource => suits_alpha_source(k),
     }
 }
 

@@ -181,6 +181,25 @@ fn an_alpha_destination_shares_no_byte_with_a_decimal() {
 }
 
 #[test]
+fn a_formatted_move_writes_its_place_and_reads_mask_and_number() {
+    let rule = |place, mask, number| broken(sample().format(place, mask, number));
+    assert_eq!(rule("%0", "\"ZZ\"", "%3"), 0);
+    assert_eq!(rule("%0", "%4", "1 2 %1(,)"), 0);
+    assert_eq!(rule("%5", "%0", "7 neg"), 0);
+    assert_eq!(rule("%4", "\"ZZ\"", "%3"), 6);
+    assert_eq!(rule("1 5 %4(,)", "\"ZZ\"", "%3"), 6);
+    assert_eq!(rule("1 5 %0(,)", "\"ZZ\"", "%3"), 3);
+    assert_eq!(rule("%0", "1 5 %0(,)", "%3"), 3);
+    assert_eq!(rule("%0", "%3 %2()", "%3"), 1);
+    assert_eq!(rule("%0", "19 1 %4(:)", "%3"), 2);
+    assert_eq!(rule("%0", "\"ZZ\"", "3 %1()"), 3);
+    assert_eq!(rule("%0", "\"ZZ\"", "3 4 %1(,)"), 4);
+    // a before b before c.
+    assert_eq!(rule("%4", "%3 %2()", "3 %1()"), 6);
+    assert_eq!(rule("%0", "%3 %2()", "3 %1()"), 1);
+}
+
+#[test]
 fn the_first_rule_broken_is_answered() {
     // a before b, references left to right, the rules of each in their order.
     assert_eq!(broken(sample().set("%4", "%3 %1()")), 6);

@@ -127,6 +127,37 @@ mod statements {
     }
 
     #[test]
+    fn a_formatted_move_stores_what_the_mask_shows() {
+        assert_eq!(sample().format("%1", "\"Z.X\"", "%0").data(), "07  .71112");
+        assert_eq!(
+            sample().format("%1", "\"-ZZZ.X\"", "1204 neg").data(),
+            "0720.41112"
+        );
+        assert_eq!(
+            sample().format("2 3 %1(,)", "\"X\"", "5").data(),
+            "07a 5z1112"
+        );
+        assert_eq!(sample().format("%3", "\"Z/Z\"", "%0").data(), "        /7");
+        let twice = sample().format("%1", "\"XX\"", "1").format("%1", "%1", "1");
+        assert_eq!(twice.ran(), (0, 2, 2, "07  011112".to_string()));
+    }
+
+    #[test]
+    fn mask_and_number_are_taken_before_the_store() {
+        let fare = Sample::over(
+            "-Z,ZZZ.XX0120450",
+            &[(0, 0, 9, 1), (1, 9, 7, 1), (2, 0, 16, 1)],
+        );
+        let formatted = |place, mask, number| fare.clone().format(place, mask, number).data();
+        assert_eq!(formatted("%0", "%0", "%1"), " 1,204.500120450");
+        assert_eq!(formatted("%0", "%0", "%1 neg"), "-1,204.500120450");
+        assert_eq!(formatted("%2", "\"ZZZZZZZ-\"", "%1"), "         120450 ");
+        assert_eq!(formatted("2 9 %0(,)", "1 8 %0(,)", "5"), "-      .50120450");
+        assert_eq!(formatted("1 8 %0(,)", "2 9 %0(,)", "5"), "     .05X0120450");
+        assert_eq!(formatted("3 6 %0(,)", "%2", "%1"), "-Z0450.XX0120450");
+    }
+
+    #[test]
     fn a_destination_is_found_and_not_read() {
         let sample = Sample::over("?? 1", &[(1, 0, 2, 1), (1, 2, 2, 1)]);
         assert_eq!(sample.clone().set("%0", "5").data(), "05 1");
@@ -217,6 +248,24 @@ mod errors {
         assert_eq!(failing("2 3 %0(,) %2()", "1 0 /"), 22);
         assert_eq!(failing("%0", "\"x\""), 22);
         assert_eq!(failing("99 %2()", "\"x\""), 21);
+    }
+
+    #[test]
+    fn a_formatted_move_works_out_place_mask_and_number() {
+        let failing = |place, mask, number| sample().format(place, mask, number).fault();
+        assert_eq!(failing("99 %1()", "1 0 / %1()", "1 19 #"), (21, 0));
+        assert_eq!(failing("%1", "1 0 / %1()", "1 19 #"), (23, 0));
+        assert_eq!(failing("%1", "99 %1()", "1 19 #"), (21, 0));
+        assert_eq!(failing("%1", "2 3 %0(,) %1()", "1 19 #"), (22, 0));
+        assert_eq!(
+            failing("%1", "999999999999999999 1 + %1()", "1 19 #"),
+            (20, 0)
+        );
+        assert_eq!(failing("%1", "1 19 # %1()", "1 0 /"), (26, 0));
+        assert_eq!(failing("%1", "\"X\"", "1 19 #"), (26, 0));
+        assert_eq!(failing("%1", "\"X\"", "2 3 %0(,)"), (22, 0));
+        assert_eq!(failing("%1", "\"X\"", "99 %2()"), (21, 0));
+        assert_eq!(failing("1 0 / %1()", "99 %1()", "1 19 #"), (23, 0));
     }
 
     #[test]

@@ -38,7 +38,7 @@ const ASKED_MOST: usize = 40;
 /// Compares all that can be asked about a case.
 pub fn compare(case: &Case, reached: &mut Reached) -> Result<(), Difference> {
     let unit = &case.unit[..];
-    let has_passed = check(case)?;
+    let has_passed = check(case, reached)?;
     reached.case(case.kind, has_passed);
     fence(case, reached)?;
     let count = match has_passed {
@@ -46,7 +46,10 @@ pub fn compare(case: &Case, reached: &mut Reached) -> Result<(), Difference> {
         false => 1,
     };
     for i in asked(case, count) {
-        breach(unit, i, reached)?;
+        let rule = breach(unit, i, reached)?;
+        if has_passed {
+            reached.formats.breach(&Sound::of(unit), i, rule);
+        }
         literal(case, i, reached)?;
     }
     let (data, state) = (Lent::bytes(&case.data), Lent::numbers(&case.state));
@@ -73,10 +76,15 @@ fn asked(case: &Case, count: usize) -> impl Iterator<Item = usize> {
     there.chain([case.absent.max(count)])
 }
 
-fn check(case: &Case) -> Result<bool, Difference> {
+fn check(case: &Case, reached: &mut Reached) -> Result<bool, Difference> {
     let (stop, place, image) = match second::check(&case.unit) {
         Ok(parts) => (0, 0, parts.image.len() as u64),
-        Err(refusal) => (refusal.stop.into(), refusal.place as u64, 0),
+        Err(refusal) => {
+            if let stop @ 4..=5 = refusal.stop {
+                reached.formats.refused(&case.unit, stop, refusal.place);
+            }
+            (refusal.stop.into(), refusal.place as u64, 0)
+        }
     };
     let expected = Given::expected(stop, &[stop, place, image], case.room);
     let given = library::check(&case.unit, case.room);
@@ -94,6 +102,9 @@ fn fence(case: &Case, reached: &mut Reached) -> Result<(), Difference> {
     let expected = Given::expected(verdict, &numbers, case.room);
     let given = library::fence(unit, case.room);
     reached.verdict(given.result.min(2));
+    if given.result == 0 {
+        reached.formats.fenced(&Sound::of(unit));
+    }
     same(|| "fence".to_string(), given, expected)
 }
 
@@ -101,14 +112,15 @@ fn second_breach(unit: &[u8], i: usize) -> u64 {
     second::breach(unit, i).map_or(0, |breach| breach.number().into())
 }
 
-fn breach(unit: &[u8], i: usize, reached: &mut Reached) -> Result<(), Difference> {
+fn breach(unit: &[u8], i: usize, reached: &mut Reached) -> Result<u64, Difference> {
     let number = library::breach(unit, i);
     reached.breach(number.min(6));
     same(
         || format!("breach of statement {i}"),
         number,
         second_breach(unit, i),
-    )
+    )?;
+    Ok(number)
 }
 
 fn literal(case: &Case, i: usize, reached: &mut Reached) -> Result<(), Difference> {
@@ -251,9 +263,16 @@ fn step(case: &Case, reached: &mut Reached) -> Result<(), Difference> {
     let mut from = (Lent::bytes(&case.data), Lent::numbers(&case.state));
     for _ in 0..STEPS_MOST {
         let at = from.1.part().first().map_or(0, |&at| at as usize);
+        let before = from.0.clone();
         let ran = run(case, from, 1, reached)?;
         if ran.count == 1 {
             reached.statement(&unit, at);
+            reached
+                .formats
+                .completed(&unit, at, before.part(), ran.data.part());
+        }
+        if (20..=26).contains(&ran.given.result) {
+            reached.formats.failed(&case.unit, at, before.part());
         }
         if ran.given.result != 30 {
             break;

@@ -35,18 +35,30 @@ fn edit_statement(random: &mut Random, draft: &mut Draft) {
         return;
     }
     let shared = random.pick(&draft.statements);
+    let parts = [shared.a, shared.b, shared.c];
     let count = draft.statements.len();
-    let statement = &mut draft.statements[random.below(count)];
-    match random.below(8) {
-        0 => statement.code = random.below(14) as u8,
+    let (i, j) = (random.below(count), random.below(count));
+    let statement = &mut draft.statements[i];
+    match random.below(12) {
+        0 => statement.code = code(random),
         1 => statement.zero = random.pick(&[1, 0x80, 0xFF]),
         2 => statement.a = other(random, statement.a),
         3 => statement.b = other(random, statement.b),
         4 => statement.c = other(random, statement.c),
-        5 => statement.a = random.pick(&[shared.a, shared.b]),
-        6 => statement.b = random.pick(&[shared.a, shared.b]),
-        _ => (statement.a, statement.b) = (statement.b, statement.a),
+        5 => statement.a = random.pick(&parts),
+        6 => statement.b = random.pick(&parts),
+        7 => statement.c = random.pick(&parts),
+        8 => (statement.a, statement.b) = (statement.b, statement.a),
+        9 => (statement.b, statement.c) = (statement.c, statement.b),
+        10 => (statement.a, statement.c) = (statement.c, statement.a),
+        _ => draft.statements.swap(i, j),
     }
+}
+
+/// A code that a statement may have, the one behind them, or another that none has.
+fn code(random: &mut Random) -> u8 {
+    let near = random.below(15) as u8;
+    random.weighed(&[(8, near), (1, 27), (1, 255)])
 }
 
 fn edit_field(random: &mut Random, draft: &mut Draft) {

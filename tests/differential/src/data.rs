@@ -113,10 +113,10 @@ fn bad(random: &mut Random) -> u8 {
 pub fn text(random: &mut Random, bytes: &mut [u8]) {
     const AMOUNT: &[u8] = b"0123456789      00 -+";
     const LETTERS: &[u8] = b"abcxyzpqyABCXYZPY @[`{/:0 9";
-    const LIKE_A_NUMBER: usize = 45;
     let letters = match random.below(100) {
-        0..LIKE_A_NUMBER => AMOUNT,
-        LIKE_A_NUMBER..90 => LETTERS,
+        0..40 => AMOUNT,
+        40..75 => LETTERS,
+        75..90 => mask_characters(random),
         _ => &[],
     };
     for byte in bytes {
@@ -125,6 +125,43 @@ pub fn text(random: &mut Random, bytes: &mut [u8]) {
             letters => random.pick(letters),
         };
     }
+}
+
+/// Characters for a mask: all of the control characters with a space and a letter, or a few of them
+/// that make one like those on paper.
+fn mask_characters(random: &mut Random) -> &'static [u8] {
+    random.pick(&[
+        b"XZ*$-,. x",
+        b"XZ*$-,. x",
+        b"ZZZZ,.X",
+        b"$$$$,.X",
+        b"****,.X",
+        b"XXXX,.-",
+        b"$Z*X,",
+    ])
+}
+
+/// A mask, mostly of some places and sometimes of more than a number has digits, with a minus at an
+/// end or any byte somewhere.
+pub fn mask(random: &mut Random) -> Vec<u8> {
+    let most = random.weighed(&[(4, 3), (8, 9), (3, 24), (1, 60)]);
+    let length = random.within(1..=most);
+    let characters = mask_characters(random);
+    let mut mask: Vec<u8> = (0..length).map(|_| random.pick(characters)).collect();
+    if random.chance(10) {
+        let place = random.pick(b"XZ*$");
+        mask = vec![place; random.within(17..=24)];
+    }
+    for at in [0, mask.len() - 1] {
+        if random.chance(25) {
+            mask[at] = b'-';
+        }
+    }
+    if random.chance(15) {
+        let at = random.below(mask.len());
+        mask[at] = random.byte();
+    }
+    mask
 }
 
 /// A number as text that is moved to decimals: spaces, signs and zeros between up to 20 digits.

@@ -47,7 +47,24 @@ impl<'a> Sound<'a> {
 
     pub fn statement(&self, i: usize) -> Statement {
         let entry = &self.statements[8 * i..][..8];
-        Statement::new(entry[0], word(entry, 2), word(entry, 4), word(entry, 6))
+        Statement {
+            code: entry[0],
+            zero: entry[1],
+            a: word(entry, 2),
+            b: word(entry, 4),
+            c: word(entry, 6),
+        }
+    }
+
+    /// E.
+    pub fn expressions_len(&self) -> usize {
+        self.expressions.len()
+    }
+
+    /// Where statement `i` stands in the unit.
+    pub fn place_of(&self, i: usize) -> usize {
+        let parts = [self.fields, self.expressions, self.literals];
+        self.image + parts.iter().map(|part| part.len()).sum::<usize>() + 8 * i
     }
 
     pub fn field(&self, i: usize) -> Field {
@@ -84,6 +101,7 @@ impl<'a> Sound<'a> {
             code::SET => vec![statement.a, statement.b],
             code::CLEAR..=code::LOCASE => vec![statement.a],
             code::GOTO_IF_ZERO | code::COMPUTED_GOTO => vec![statement.b],
+            code::FORMAT => vec![statement.a, statement.b, statement.c],
             _ => vec![],
         }
     }
@@ -109,22 +127,34 @@ impl<'a> Sound<'a> {
     pub fn destinations(&self) -> Vec<Range<usize>> {
         (0..self.statement_count())
             .map(|i| self.statement(i))
-            .filter(|statement| (code::SET..=code::LOCASE).contains(&statement.code))
-            .map(|statement| self.destination(statement.a))
+            .filter(|statement| matches!(statement.code, code::SET..=code::LOCASE | code::FORMAT))
+            .map(|statement| {
+                let span = self.span(statement.a);
+                span.expect("the bounds of a destination are literals")
+            })
             .collect()
     }
 
-    /// The span of a place whose bounds are literals, some of them with a negate.
-    fn destination(&self, offset: u16) -> Range<usize> {
-        let mut items = self.items(offset);
-        let reference = items.pop().expect("a place has a reference");
-        let mut bounds: Vec<i64> = Vec::new();
-        for item in items {
+    /// The values of some items that are number literals, each with a negate behind it or not; or
+    /// nothing where another item is among them.
+    fn constants(&self, items: &[Item]) -> Option<Vec<i64>> {
+        let mut values: Vec<i64> = Vec::new();
+        for &item in items {
             match item.code {
-                0x01 => bounds.push(self.literal_value(item)),
-                _ => *bounds.last_mut().expect("a negate has a literal before it") *= -1,
+                0x01 => values.push(self.literal_value(item)),
+                0x15 => *values.last_mut()? *= -1,
+                _ => return None,
             }
         }
+        Some(values)
+    }
+
+    /// The span that a statement has found of an expression that ends with a reference, where its
+    /// bounds are literals, some of them with a negate.
+    fn span(&self, offset: u16) -> Option<Range<usize>> {
+        let mut items = self.items(offset);
+        let reference = items.pop().filter(|item| (2..=5).contains(&item.code))?;
+        let bounds = self.constants(&items)?;
         let field = self.field(reference.number);
         let size = field.size() as i64;
         let (start, end) = match (reference.code, bounds[..].first(), bounds[..].last()) {
@@ -134,7 +164,37 @@ impl<'a> Sound<'a> {
             (0x05, Some(pos), Some(length)) => (pos + length, *pos),
             _ => (0, size),
         };
-        field.start() + start as usize..field.start() + end as usize
+        let at = |bound: i64| (field.start() as i64 + bound) as usize;
+        Some(at(start)..at(end))
+    }
+
+    /// What statement `i`, a formatted move that was completed over this data, has named, where
+    /// the bounds of its place and its mask are literals.
+    pub fn formatted(&self, i: usize, data: &[u8]) -> Option<Formatted> {
+        let Statement { a, b, c, .. } = self.statement(i);
+        let destination = self.span(a)?;
+        let (mask_span, mask) = match self.items(b)[..] {
+            [item] if item.code == 0x06 => {
+                let end = item.number + item.length;
+                (None, self.literals[item.number..end].to_vec())
+            }
+            _ => {
+                let span = self.span(b)?;
+                (Some(span.clone()), data[span].to_vec())
+            }
+        };
+        let number_span = self.span(c);
+        let number = match &number_span {
+            Some(span) => Some(decimal_value(&data[span.clone()])),
+            None => self.constants(&self.items(c)).map(|values| values[0]),
+        };
+        Some(Formatted {
+            destination,
+            mask,
+            mask_span,
+            number,
+            number_span,
+        })
     }
 
     fn literal_value(&self, item: Item) -> i64 {
@@ -165,6 +225,30 @@ impl<'a> Sound<'a> {
     /// D.
     pub fn image_len(&self) -> usize {
         self.image
+    }
+}
+
+/// What a formatted move has named.
+pub struct Formatted {
+    pub destination: Range<usize>,
+    pub mask: Vec<u8>,
+    /// Where the mask stands in the data, if it is no literal.
+    pub mask_span: Option<Range<usize>>,
+    /// The number, where it is a literal or a reference with literal bounds.
+    pub number: Option<i64>,
+    /// Where the number stands in the data, if it is such a reference.
+    pub number_span: Option<Range<usize>>,
+}
+
+/// The value of a valid decimal.
+fn decimal_value(characters: &[u8]) -> i64 {
+    let digit = |character: &u8| i64::from(character & 0x0F);
+    let magnitude = characters
+        .iter()
+        .fold(0, |value, character| 10 * value + digit(character));
+    match characters.last() {
+        Some(b'p'..=b'y') => -magnitude,
+        _ => magnitude,
     }
 }
 
@@ -206,6 +290,34 @@ mod tests {
         assert!(second::check(&unit).is_ok());
         let destinations = Sound::of(&unit).destinations();
         assert_eq!(destinations, [1..3, 9..12, 6..9, 1..6]);
+    }
+
+    #[test]
+    fn a_formatted_move_names_place_mask_and_number() {
+        let mut draft = Draft {
+            image: b"Z.X.02r".to_vec(),
+            fields: vec![Field::new(ALPHA, 0, 4, 1), Field::new(DECIMAL, 4, 3, 1)],
+            expressions:
+                b"\x02\0\0\0\x01\0\0\x01\x01\0\x01\x01\x04\0\0\0\x02\0\x01\0\x01\0\0\x01\x15\0"
+                    .to_vec(),
+            literals: b"13".to_vec(),
+            statements: vec![Statement::new(13, 0, 4, 16)],
+        };
+        draft.statements.push(Statement::new(13, 0, 4, 20));
+        let unit = draft.unit();
+        assert!(second::check(&unit).is_ok());
+        let sound = Sound::of(&unit);
+        assert_eq!(sound.destinations(), [0..4, 0..4]);
+        let first = sound.formatted(0, &draft.image).unwrap();
+        assert_eq!((first.destination, first.mask_span), (0..4, Some(0..3)));
+        assert_eq!(
+            (&first.mask[..], first.number_span),
+            (&b"Z.X"[..], Some(4..7))
+        );
+        assert_eq!(first.number, Some(-22));
+        let second = sound.formatted(1, &draft.image).unwrap();
+        assert_eq!((second.number, second.number_span), (Some(-1), None));
+        assert_eq!(unit[sound.place_of(1)], 13);
     }
 
     #[test]

@@ -71,6 +71,7 @@ pub mod code {
     pub const RETURN: u8 = 10;
     pub const STOP: u8 = 11;
     pub const COMPUTED_GOTO: u8 = 12;
+    pub const FORMAT: u8 = 13;
 }
 
 impl Statement {

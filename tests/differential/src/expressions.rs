@@ -1,6 +1,6 @@
 //! Random expressions of a wanted sort, well-formed, with bounds in and out of range.
 
-use crate::data::{amount, text};
+use crate::data::{amount, mask, text};
 use crate::draft::{Draft, Field};
 use crate::random::Random;
 
@@ -27,6 +27,8 @@ pub enum Sort {
     Place { is_decimal: bool, is_written: bool },
     /// A lone alpha literal.
     AlphaLiteral,
+    /// A lone alpha literal with a mask in it.
+    MaskLiteral,
 }
 
 impl Sort {
@@ -40,6 +42,8 @@ impl Sort {
                 Sort::Place { is_decimal, .. },
             ) => made == is_decimal,
             (Sort::Place { is_decimal, .. }, Sort::Number) => is_decimal,
+            (Sort::AlphaLiteral, Sort::MaskLiteral) => true,
+            (Sort::MaskLiteral, Sort::AlphaLiteral) => true,
             _ => self == wanted,
         }
     }
@@ -86,6 +90,7 @@ impl<'a> Maker<'a> {
         match sort {
             Sort::Number => self.value(DEPTH),
             Sort::AlphaLiteral => self.alpha_literal(),
+            Sort::MaskLiteral => self.mask_literal(),
             Sort::Place {
                 is_decimal,
                 is_written,
@@ -208,6 +213,13 @@ impl<'a> Maker<'a> {
             }
         };
         self.alpha_at(place, length);
+    }
+
+    /// A lone alpha literal with a mask in it.
+    fn mask_literal(&mut self) {
+        let bytes = mask(self.random);
+        let place = self.literal_place(&bytes);
+        self.alpha_at(place, bytes.len());
     }
 
     /// The item of an alpha literal, whose bytes stand among the literals.

@@ -1,6 +1,6 @@
 //! Units at the limits of document 01, and one past them.
 
-use crate::data::amount;
+use crate::data::{amount, mask};
 use crate::draft::{code, Draft, Field, Statement, ALPHA, DECIMAL, RECORD};
 use crate::expressions::{Maker, GREATEST};
 use crate::random::Random;
@@ -11,7 +11,7 @@ type Make = fn(&mut Random) -> Draft;
 
 /// A unit at some limit.
 pub fn limit_unit(random: &mut Random) -> Draft {
-    let makers: [(usize, Make); 8] = [
+    let makers: [(usize, Make); 11] = [
         (1, sizes),
         (12, held),
         (10, nesting),
@@ -20,6 +20,9 @@ pub fn limit_unit(random: &mut Random) -> Draft {
         (2, long_table),
         (14, spans),
         (12, amounts),
+        (12, masks),
+        (2, long_masks),
+        (10, mask_errors),
     ];
     random.weighed(&makers)(random)
 }
@@ -297,6 +300,126 @@ fn use_span(maker: &mut Maker, offset: u16, is_decimal: bool) {
     }
     let statement = Statement::new(used, offset, 0, 0);
     maker.draft.statements.push(statement);
+}
+
+/// Adds a formatted move to an alpha place from a number with a mask, by their offsets.
+fn format(maker: &mut Maker, [place, mask, number]: [u16; 3]) {
+    let format = Statement::new(code::FORMAT, place, mask, number);
+    maker.draft.statements.push(format);
+}
+
+/// Adds an expression and gives its offset.
+fn added(maker: &mut Maker, items: impl FnOnce(&mut Maker)) -> u16 {
+    let offset = maker.draft.expressions.len() as u16;
+    items(maker);
+    maker.draft.expressions.push(0);
+    offset
+}
+
+/// Formatted moves with a mask of about 18 places and with any, from a number that just fills the
+/// places of the mask, or has one digit more, with a minus or without.
+fn masks(random: &mut Random) -> Draft {
+    let mut draft = base(random);
+    let short = wide(&draft) + 1;
+    let long = draft.fields.len();
+    draft
+        .fields
+        .push(Field::new(ALPHA, draft.image.len(), 26, 1));
+    draft.image.extend([b'?'; 26]);
+    let mut maker = Maker::new(random, draft, false);
+    for _ in 0..maker.random.within(1..=3) {
+        let alpha = maker.random.pick(&[short, long]);
+        let characters = match maker.random.below(3) {
+            0 => vec![maker.random.pick(b"XZ*$"); maker.random.within(16..=21)],
+            _ => mask(maker.random),
+        };
+        let places = characters
+            .iter()
+            .filter(|&character| b"XZ*$".contains(character));
+        let power = 10_i64.pow(places.count().min(17) as u32);
+        let change = maker.random.pick(&[-1, 0, 0, 1]);
+        let value = maker
+            .random
+            .pick(&[power + change, -power - change, GREATEST as i64]);
+        let place = added(&mut maker, |maker| maker.refer(2, alpha));
+        let literal = maker.draft.literals.len();
+        maker.draft.literals.extend(&characters);
+        let mask = added(&mut maker, |maker| {
+            maker.alpha_at(literal, characters.len())
+        });
+        let number = added(&mut maker, |maker| maker.constant(value));
+        format(&mut maker, [place, mask, number]);
+    }
+    maker.draft
+}
+
+/// A formatted move of which any part may give a run error: the place by its subscript, the mask by
+/// its own, and the number.
+fn mask_errors(random: &mut Random) -> Draft {
+    let draft = base(random);
+    let decimal = wide(&draft);
+    let alpha = decimal + 1;
+    let mut maker = Maker::new(random, draft, false);
+    let [place, mask] = [(); 2].map(|()| {
+        added(&mut maker, |maker| {
+            let form = maker.random.pick(&[2, 3, 3]);
+            if form == 3 {
+                faulty_number(maker, decimal);
+            }
+            maker.refer(form, alpha);
+        })
+    });
+    let number = added(&mut maker, |maker| faulty_number(maker, decimal));
+    format(&mut maker, [place, mask, number]);
+    maker.draft
+}
+
+/// A number that is 1, is far away from any field, or gives 20, 21, 22, 23 or 26. What gives 22 is
+/// a decimal that reaches into the alpha behind it.
+fn faulty_number(maker: &mut Maker, decimal: usize) {
+    let greatest = GREATEST as i64;
+    let (x, y, item) = match maker.random.below(10) {
+        0..3 => return maker.constant(1),
+        3 => return maker.constant(9_999),
+        4 | 5 => (greatest, 1, 0x10),
+        6 => (1, 0, 0x13),
+        7 => (1, 19, 0x14),
+        8 => (17, 20, 0x04),
+        _ => (9_999, 9_999, 0x04),
+    };
+    maker.constant(x);
+    maker.constant(y);
+    match item {
+        0x04 => maker.refer(item, decimal),
+        _ => maker.draft.expressions.push(item),
+    }
+}
+
+/// A formatted move within one field, as long as the data may be, whose bytes are the mask.
+fn long_masks(random: &mut Random) -> Draft {
+    let length = random.weighed(&[(3, 300), (1, 16_382), (1, 16_383)]);
+    let pattern = mask(random);
+    let mut image: Vec<u8> = pattern.into_iter().cycle().take(length).collect();
+    if random.chance(50) {
+        image.fill(random.pick(b"XZ*$"));
+    }
+    let draft = Draft {
+        fields: vec![Field::new(ALPHA, 0, length, 1)],
+        image,
+        ..Draft::default()
+    };
+    let mut maker = Maker::new(random, draft, false);
+    let start = maker.random.within(1..=length);
+    let mask = added(&mut maker, |maker| maker.refer(2, 0));
+    let place = added(&mut maker, |maker| {
+        maker.constant(start as i64);
+        maker.constant(length as i64);
+        maker.refer(4, 0);
+    });
+    let number = added(&mut maker, |maker| maker.constant(-120_450));
+    let place = maker.random.pick(&[place, mask]);
+    format(&mut maker, [place, mask, number]);
+    maker.draft
 }
 
 /// SETs of decimals from text with 17 to 20 digits, or from text with signs and bad characters.

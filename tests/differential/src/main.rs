@@ -4,8 +4,8 @@
 //!     differential case SEED NUMBER      one case again, told in full
 //!
 //! The exit status is 0 when all answers are the same, 1 when some differ, and 2 when nothing was
-//! asked. With --reached it is also 1 when a stop, a statement, an item, a fence answer or a breach
-//! was not reached.
+//! asked. With --reached it is also 1 when a stop, a statement, an item, a fence answer, a breach or
+//! a way of a formatted move was not reached.
 
 mod cases;
 mod compare;
@@ -14,6 +14,7 @@ mod data;
 mod decode;
 mod draft;
 mod expressions;
+mod formats;
 mod library;
 mod limits;
 mod promises;

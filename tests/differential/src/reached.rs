@@ -2,6 +2,7 @@
 
 use crate::cases::{Kind, KINDS};
 use crate::decode::Sound;
+use crate::formats::Formats;
 use std::fmt;
 
 /// The stops of document 01.
@@ -21,7 +22,7 @@ pub struct Reached {
     /// Runs, by stop.
     stops: [u64; 31],
     /// Statements completed one at a time, by code.
-    codes: [u64; 13],
+    codes: [u64; 14],
     /// Items in those statements, by code.
     items: [u64; 32],
     /// Answers of the fence check: yes, no, refused.
@@ -38,6 +39,8 @@ pub struct Reached {
     fenced_runs: u64,
     /// Statements completed by all runs.
     completed: u64,
+    /// What formatted moves have reached.
+    pub formats: Formats,
 }
 
 impl Reached {
@@ -104,6 +107,7 @@ impl Reached {
         self.allowed_more += other.allowed_more;
         self.fenced_runs += other.fenced_runs;
         self.completed += other.completed;
+        self.formats.add(&other.formats);
     }
 
     /// What was never reached.
@@ -115,7 +119,7 @@ impl Reached {
             }
         };
         look("stop", &self.stops, &STOPS);
-        look("statement code", &self.codes, &range::<12>(1));
+        look("statement code", &self.codes, &range::<13>(1));
         look("item", &self.items, &ITEMS);
         look("fence answer", &self.verdicts, &range::<3>(0));
         look("breach", &self.breaches, &range::<7>(0));
@@ -130,6 +134,8 @@ impl Reached {
             &others,
             &range::<4>(0),
         );
+        let formats = self.formats.reached().filter(|(_, count)| *count == 0);
+        missing.extend(formats.map(|(way, _)| format!("of a formatted move: {way}")));
         missing
     }
 }
@@ -153,7 +159,7 @@ impl fmt::Display for Reached {
         }
         let decimal = |i: usize| i.to_string();
         row(f, "stops", &self.stops, &STOPS, decimal)?;
-        row(f, "statements", &self.codes, &range::<12>(1), decimal)?;
+        row(f, "statements", &self.codes, &range::<13>(1), decimal)?;
         row(f, "items", &self.items, &ITEMS, |i| format!("{i:02X}"))?;
         let verdict = |i: usize| ["yes", "no", "refused"][i].to_string();
         row(f, "fence", &self.verdicts, &range::<3>(0), verdict)?;
@@ -171,7 +177,12 @@ impl fmt::Display for Reached {
         write!(
             f,
             "{fenced_runs} runs inside the fence, {completed} statements completed"
-        )
+        )?;
+        write!(f, "\nformatted moves")?;
+        for (way, count) in self.formats.reached() {
+            write!(f, "  {way}: {count}")?;
+        }
+        Ok(())
     }
 }
 

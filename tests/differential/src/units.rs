@@ -64,6 +64,7 @@ fn statement(maker: &mut Maker, count: usize) {
         code::GOTO | code::CALL => Statement::new(code, 0, 0, target),
         code::GOTO_IF_ZERO => Statement::new(code, 0, maker.expression(Sort::Number), target),
         code::COMPUTED_GOTO => return computed_goto(maker, count),
+        code::FORMAT => formatted_move(maker),
         _ => Statement::new(code, 0, 0, 0),
     };
     maker.draft.statements.push(new);
@@ -87,6 +88,7 @@ fn code_of(maker: &mut Maker, count: usize) -> u8 {
         (5, code::RETURN),
         (2, code::STOP),
         (6 * room, code::COMPUTED_GOTO),
+        (18 * alphas, code::FORMAT),
     ])
 }
 
@@ -116,6 +118,34 @@ fn source(maker: &mut Maker, is_decimal: bool) -> u16 {
         (20, Sort::AlphaLiteral),
     ]);
     maker.expression(sort)
+}
+
+/// A formatted move. Some have the destination for a mask as well.
+fn formatted_move(maker: &mut Maker) -> Statement {
+    let a = written(maker, false);
+    let b = match maker.random.below(100) {
+        0..12 => a,
+        12..40 => maker.expression(Sort::Place {
+            is_decimal: false,
+            is_written: false,
+        }),
+        _ => maker.expression(Sort::MaskLiteral),
+    };
+    Statement::new(code::FORMAT, a, b, printed(maker))
+}
+
+/// The number of a formatted move: any, or a small one before some zeros, with a minus or without.
+fn printed(maker: &mut Maker) -> u16 {
+    if maker.random.chance(65) {
+        return maker.expression(Sort::Number);
+    }
+    let offset = maker.draft.expressions.len() as u16;
+    let power = 10_i64.pow(maker.random.below(19) as u32);
+    let value = maker.random.below(4) as i64 * power;
+    let value = maker.random.pick(&[value, -value]);
+    maker.constant(value);
+    maker.draft.expressions.push(0);
+    offset
 }
 
 /// Adds a computed GOTO and its table, which may fill the unit to its last statement.

@@ -82,7 +82,7 @@ fn refusals_have_their_places() {
         Some((3, 1))
     );
     assert_eq!(refusal(&one((2, 9, 0, 0), b"")), Some((4, 0)));
-    assert_eq!(refusal(&one((13, 0, 0, 0), b"")), Some((5, 0)));
+    assert_eq!(refusal(&one((27, 0, 0, 0), b"")), Some((5, 0)));
 }
 
 #[test]

@@ -32,6 +32,12 @@ enum-known-act-2 c = search needs
 case-at-requires : tie.Need-case-at-requires
 case-at-requires c κs = search needs
 
+enum-told-3 : tie.Need-enum-told-3
+enum-told-3 c = search needs
+
+edit-requires : tie.Need-edit-requires
+edit-requires c κs = search needs
+
 returns : tie.Need-returns
 returns c = search at-set depth 3
 
@@ -43,6 +49,9 @@ returns-3 c = search at-as depth 3
 
 returns-4 : tie.Need-returns-4
 returns-4 c = search at-as depth 3
+
+returns-5 : tie.Need-returns-5
+returns-5 c = search at-as depth 3
 
 pub at-place-spec : {M : Type 1} → statement M
 at-place-spec =
@@ -57,7 +66,10 @@ at-place-spec =
     count-at-requires
     enum-known-act-2
     case-at-requires
+    enum-told-3
+    edit-requires
     returns
     returns-2
     returns-3
-    returns-4)
+    returns-4
+    returns-5)

@@ -1,7 +1,7 @@
 -- `run_stores::store` meets its contract: each arm knows the store, which has room, and its callee makes of the data what the rule makes.
 -- Assumes nothing.
 use borrow.Author.Needs.{needs}
-use Rattle.run_stores.proofs.Writes.{number-room, number-short, number-value, show-room, show-value, move-room, move-source, literal-room, literal-source, clear-room, case-room, stores-made}
+use Rattle.run_stores.proofs.Writes.{number-room, number-short, number-value, show-room, show-value, move-room, move-source, literal-room, literal-source, clear-room, case-room, edit-room, edit-value, edit-mask, edit-literal-room, edit-literal-value, edit-literal-mask, stores-made}
 use Rattle.run_stores.proofs.store.Statement.{statement}
 use Rattle.run_stores.proofs.store.Tie as tie
 
@@ -44,6 +44,19 @@ enum-known-w-6 c = search needs
 store-cased-requires : tie.Need-store-cased-requires
 store-cased-requires c κs = search case-room depth 3
 
+enum-known-w-7 : tie.Need-enum-known-w-7
+enum-known-w-7 c = search needs
+
+format-in-requires : tie.Need-format-in-requires
+format-in-requires c κs = ((search edit-room depth 3, search edit-mask depth 3), search edit-value depth 3)
+
+enum-known-w-8 : tie.Need-enum-known-w-8
+enum-known-w-8 c = search needs
+
+format-literal-requires : tie.Need-format-literal-requires
+format-literal-requires c κs =
+    (search needs, (search edit-literal-room depth 3, (search edit-literal-value depth 3, search edit-literal-mask depth 3)))
+
 returns : tie.Need-returns
 returns c = search stores-made depth 3
 
@@ -83,6 +96,18 @@ same-length-6 c = search needs
 returns-7 : tie.Need-returns-7
 returns-7 c = search stores-made depth 3
 
+same-length-7 : tie.Need-same-length-7
+same-length-7 c = search needs
+
+returns-8 : tie.Need-returns-8
+returns-8 c = search stores-made depth 3
+
+same-length-8 : tie.Need-same-length-8
+same-length-8 c = search needs
+
+returns-9 : tie.Need-returns-9
+returns-9 c = search stores-made depth 3
+
 pub store-spec : {M : Type 1} → statement M
 store-spec =
     tie.close
@@ -100,6 +125,10 @@ store-spec =
     store-cleared-requires
     enum-known-w-6
     store-cased-requires
+    enum-known-w-7
+    format-in-requires
+    enum-known-w-8
+    format-literal-requires
     returns
     same-length
     returns-2
@@ -112,4 +141,8 @@ store-spec =
     same-length-5
     returns-6
     same-length-6
-    returns-7)
+    returns-7
+    same-length-7
+    returns-8
+    same-length-8
+    returns-9)

@@ -29,6 +29,12 @@ enum-told-4 c = search needs
 row-with-requires-4 : tie.Need-row-with-requires-4
 row-with-requires-4 c κs = search needs
 
+enum-told-5 : tie.Need-enum-told-5
+enum-told-5 c = search needs
+
+row-with-requires-5 : tie.Need-row-with-requires-5
+row-with-requires-5 c κs = search needs
+
 returns : tie.Need-returns
 returns c = search act-as depth 3
 
@@ -40,6 +46,9 @@ returns-3 c = search act-as depth 3
 
 returns-4 : tie.Need-returns-4
 returns-4 c = search act-as depth 3
+
+returns-5 : tie.Need-returns-5
+returns-5 c = search act-as depth 3
 
 pub act-row-spec : {M : Type 1} → statement M
 act-row-spec =
@@ -53,7 +62,10 @@ act-row-spec =
     row-with-requires-3
     enum-told-4
     row-with-requires-4
+    enum-told-5
+    row-with-requires-5
     returns
     returns-2
     returns-3
-    returns-4)
+    returns-4
+    returns-5)

@@ -55,7 +55,11 @@ returns-12 c = rw (c .match .keys12)
 
 returns-13 : tie.Need-returns-13
 unfolding verbOf
-returns-13 c = search walk-match depth 26
+returns-13 c = rw (c .match .keys13)
+
+returns-14 : tie.Need-returns-14
+unfolding verbOf
+returns-14 c = search walk-match depth 28
 
 pub verb-of-spec : {M : Type 1} → statement M
 verb-of-spec =
@@ -73,4 +77,5 @@ verb-of-spec =
     returns-10
     returns-11
     returns-12
-    returns-13)
+    returns-13
+    returns-14)

@@ -1,0 +1,6 @@
+pub mod Classes
+pub mod Digits
+pub mod Editing
+pub mod Tallying
+pub mod Plans
+pub mod Laying

@@ -1,0 +1,21 @@
+-- `run_masks::spot` meets its contract: a blank mask has none.
+-- Assumes nothing.
+use borrow.Author.Needs.{needs}
+use Rattle.rules.specs.Masks.{spotOf}
+use Rattle.rules.proofs.Walk.{walk, walk-if}
+use Rattle.run_masks.proofs.spot.Statement.{statement}
+use Rattle.run_masks.proofs.spot.Tie as tie
+
+returns : tie.Need-returns
+unfolding spotOf
+returns c = search (walk, walk-if) depth 4
+
+last-spot-requires : tie.Need-last-spot-requires
+last-spot-requires c κs = search needs
+
+returns-2 : tie.Need-returns-2
+unfolding spotOf
+returns-2 c = search (walk, walk-if) depth 4
+
+pub spot-spec : {M : Type 1} → statement M
+spot-spec = tie.close (tie.spec returns last-spot-requires returns-2)
