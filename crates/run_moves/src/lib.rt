@@ -1,5 +1,4 @@
-// What a statement does at a place that is found: what SET moves or formats there, what INCR and DECR count, what UPCASE and LOCASE change. Data is only
-// read here.
+// What a statement does at a place that is found: what SET moves there, what INCR and DECR count, what UPCASE and LOCASE change. Data is only read here.
 use rules::Fault;
 use rules::Num;
 use rules_run::Turn;
@@ -14,7 +13,7 @@ ghost use Rattle.rules.specs.Values.{Val};
 ghost use Rattle.rules_unit.specs.Decode.{Fills, SoundDialect, codeOf};
 ghost use Rattle.rules_run.specs.declared.Worked.the-variants as worked;
 ghost use Rattle.rules_run.specs.Evaluation.{Within};
-ghost use Rattle.rules_run.specs.Turns.{moveNumber, moveNum, moveWorked, counted, countAt, caseAt, editBy, editAt};
+ghost use Rattle.rules_run.specs.Turns.{moveNumber, moveNum, moveWorked, counted, countAt, caseAt};
 
 // ---- SET
 
@@ -208,60 +207,4 @@ pub fn case_at(upper: bool, decimal: bool, start: usize, len: usize) -> Turn
         len: len,
         upper: upper,
     })
-}
-
-// ---- SET with a mask
-
-// What was worked out is formatted by a place as mask, which is alpha, or its fault stands.
-fn edit_place(start: usize, len: usize, decimal: bool, from: usize, count: usize, n: Num) -> Turn
-    ensures { λ r. ⌜ r ≡ editBy start len (worked.Place decimal from count) n ⌝ }
-{
-    if decimal {
-        return rules_run::failed(Fault::Malformed);
-    }
-    match n {
-        Num::Value(v) => rules_run::stores(Write::Edit {
-            start,
-            len,
-            from,
-            count,
-            value: v,
-        }),
-        Num::Failed(e) => rules_run::failed(e),
-    }
-}
-
-// The same by an alpha literal as mask.
-fn edit_literal(start: usize, len: usize, place: u16, count: u16, n: Num) -> Turn
-    ensures { λ r. ⌜ r ≡ editBy start len (worked.Text place count) n ⌝ }
-{
-    match n {
-        Num::Value(v) => rules_run::stores(Write::EditLiteral {
-            start,
-            len,
-            place: unit_decode::long(place),
-            count: unit_decode::long(count),
-            value: v,
-        }),
-        Num::Failed(e) => rules_run::failed(e),
-    }
-}
-
-// SET of an alpha place that was found, from what a number comes to, with a mask. The mask's faults come before the number's.
-pub fn edit_at(decimal: bool, start: usize, len: usize, mask: Worked, n: Num) -> Turn
-    ensures { λ r. ⌜ r ≡ editAt decimal start len mask n ⌝ }
-{
-    if decimal {
-        return rules_run::failed(Fault::Malformed);
-    }
-    match mask {
-        Worked::Number(_) => rules_run::failed(Fault::Malformed),
-        Worked::Place {
-            decimal: number,
-            start: from,
-            len: count,
-        } => edit_place(start, len, number, from, count, n),
-        Worked::Text { place, len: count } => edit_literal(start, len, place, count, n),
-        Worked::Failed(e) => rules_run::failed(e),
-    }
 }

@@ -1,3 +1,4 @@
+pub mod Edits
 pub mod Places
 pub mod Jumps
 pub mod Statements

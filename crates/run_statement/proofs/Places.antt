@@ -18,7 +18,7 @@ use Rattle.rules_run.specs.declared.Worked.{Worked}
 use Rattle.rules_run.specs.declared.Worked.the-variants as worked
 use Rattle.rules_run.specs.declared.Turn.{Turn}
 use Rattle.rules_run.specs.Evaluation.{workedOf, numberOf, Within}
-use Rattle.rules_run.specs.Turns.{failed, moveWorked, onPlace, editAt, actAt}
+use Rattle.rules_run.specs.Turns.{failed, moveWorked, onPlace, actAt}
 use Rattle.rules_run.proofs.Bounded.{worked-within, place-within}
 use Rattle.rules_unit.specs.declared.Act.{Act}
 use Rattle.rules_unit.specs.declared.Act.the-variants as act
@@ -50,11 +50,9 @@ module _ (c : Code) (d : List ℕ) (x : Act) (s : Statement) (decimal : Bool) (a
   pub at-as : (y : Act) → x ≡ y → t ≡ actAt c d y s decimal a n → t ≡ actAt c d x s decimal a n
   at-as y h q = rw h q
 
--- m is what the callee found of the mask, y of the number
-pub edit-by : (u : List ℕ) (p : Parts) (d : List ℕ) (s : Statement) (decimal : Bool) (a n : ℕ) (t : Turn) (m y : Worked) (r : Num)
-    → m ≡ workedOf (codeOf u p) d (codeOf u p .items (s .b)) → y ≡ workedOf (codeOf u p) d (codeOf u p .items (s .c)) → r ≡ numberOf (codeOf u p) d y
-    → t ≡ editAt decimal a n m r → t ≡ actAt (codeOf u p) d act.Edit s decimal a n
-edit-by u p d s decimal a n t m y r e f g q = q ∙ rw (e, g, f)
+-- the number of what the callee found
+pub number-by : (c : Code) (d : List ℕ) (is : List Item) (x : Worked) (r : Num) → x ≡ workedOf c d is → r ≡ numberOf c d x → r ≡ numberOf c d (workedOf c d is)
+number-by c d is x r e h = h ∙ ap (numberOf c d) e
 
 -- ---- where a place lies
 

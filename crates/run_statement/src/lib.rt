@@ -10,6 +10,7 @@ use rules_unit::Parts;
 use rules_unit::Statement;
 use rules_unit::Verb;
 ghost use mathlib.Core.Path.{_≡_};
+ghost use mathlib.Core.Bool.{false};
 ghost use Prim.Native.Nat.{_+_, _^_, _≤_, _<_};
 ghost use lib.ListN.{length};
 ghost use Rattle.rules.specs.Values.{Val};
@@ -17,11 +18,81 @@ ghost use Rattle.rules_unit.specs.declared.Act.the-variants as act;
 ghost use Rattle.rules_unit.specs.declared.Verb.the-variants as verb;
 ghost use Rattle.rules_unit.specs.Decode.{Fills, SoundDialect, codeOf};
 ghost use Rattle.rules_unit.specs.Sound.{ShapeSound};
-ghost use Rattle.rules_run.specs.Turns.{ifZero, choose, actAt, turnBy, turnOf};
+ghost use Rattle.rules_run.specs.declared.Worked.the-variants as worked;
+ghost use Rattle.rules_run.specs.Evaluation.{workedOf, numberOf};
+ghost use Rattle.rules_run.specs.Turns.{editBy, ifZero, choose, actAt, turnBy, turnOf};
 
 // ---- SET, CLEAR, INCR, DECR, UPCASE, LOCASE, SET with a mask
 
-// SET with a mask of a place that was found: the mask is worked out after the place, and the number after the mask.
+// The number that the expression at an offset comes to. Both ways of a mask call it, so that the compiler leaves it out of the loop of the run, where
+// if_zero and computed, which are worked out more often, have their own.
+fn number_at(unit: &[u8], parts: Parts, bytes: &[u8], e: u16) -> Num
+    requires { ⌜ Fills (now unit) parts ⌝ }
+    requires { ⌜ SoundDialect (parts .dialect) ⌝ }
+    requires { ⌜ length (now bytes) < 65536 ⌝ }
+    ensures { λ r. ⌜ r ≡ numberOf (codeOf (now (unit .entry)) parts) (now (bytes .entry)) (workedOf (codeOf (now (unit .entry)) parts) (now (bytes .entry)) (codeOf (now (unit .entry)) parts .items e)) ⌝ }
+{
+    let w = run_evaluate::worked(unit, parts, bytes, e);
+    run_evaluate::number_of(unit, parts, bytes, w)
+}
+
+// A number formatted by an alpha place as mask.
+fn edit_place(
+    unit: &[u8],
+    parts: Parts,
+    bytes: &[u8],
+    s: Statement,
+    start: usize,
+    len: usize,
+    from: usize,
+    count: usize,
+) -> Turn
+    requires { ⌜ Fills (now unit) parts ⌝ }
+    requires { ⌜ SoundDialect (parts .dialect) ⌝ }
+    requires { ⌜ length (now bytes) < 65536 ⌝ }
+    ensures { λ r. ⌜ r ≡ editBy start len (worked.Place false from count) (numberOf (codeOf (now (unit .entry)) parts) (now (bytes .entry)) (workedOf (codeOf (now (unit .entry)) parts) (now (bytes .entry)) (codeOf (now (unit .entry)) parts .items (s .c)))) ⌝ }
+{
+    match number_at(unit, parts, bytes, s.c) {
+        Num::Value(v) => rules_run::stores(Write::Edit {
+            start,
+            len,
+            from,
+            count,
+            value: v,
+        }),
+        Num::Failed(e) => rules_run::failed(e),
+    }
+}
+
+// A number formatted by an alpha literal as mask.
+fn edit_literal(
+    unit: &[u8],
+    parts: Parts,
+    bytes: &[u8],
+    s: Statement,
+    start: usize,
+    len: usize,
+    place: u16,
+    count: u16,
+) -> Turn
+    requires { ⌜ Fills (now unit) parts ⌝ }
+    requires { ⌜ SoundDialect (parts .dialect) ⌝ }
+    requires { ⌜ length (now bytes) < 65536 ⌝ }
+    ensures { λ r. ⌜ r ≡ editBy start len (worked.Text place count) (numberOf (codeOf (now (unit .entry)) parts) (now (bytes .entry)) (workedOf (codeOf (now (unit .entry)) parts) (now (bytes .entry)) (codeOf (now (unit .entry)) parts .items (s .c)))) ⌝ }
+{
+    match number_at(unit, parts, bytes, s.c) {
+        Num::Value(v) => rules_run::stores(Write::EditLiteral {
+            start,
+            len,
+            place: unit_decode::long(place),
+            count: unit_decode::long(count),
+            value: v,
+        }),
+        Num::Failed(e) => rules_run::failed(e),
+    }
+}
+
+// SET with a mask of a place that was found, which is alpha: the mask is worked out after the place, and the number after the mask.
 fn edit(
     unit: &[u8],
     parts: Parts,
@@ -36,10 +107,33 @@ fn edit(
     requires { ⌜ length (now bytes) < 65536 ⌝ }
     ensures { λ r. ⌜ r ≡ actAt (codeOf (now (unit .entry)) parts) (now (bytes .entry)) act.Edit s decimal start len ⌝ }
 {
-    let mask = run_evaluate::worked(unit, parts, bytes, s.b);
-    let w = run_evaluate::worked(unit, parts, bytes, s.c);
-    let n = run_evaluate::number_of(unit, parts, bytes, w);
-    run_moves::edit_at(decimal, start, len, mask, n)
+    if decimal {
+        return rules_run::failed(Fault::Malformed);
+    }
+    match run_evaluate::worked(unit, parts, bytes, s.b) {
+        Worked::Number(_) => rules_run::failed(Fault::Malformed),
+        Worked::Place {
+            decimal: number,
+            start: from,
+            len: count,
+        } => {
+            if number {
+                return rules_run::failed(Fault::Malformed);
+            }
+            edit_place(unit, parts, bytes, s, start, len, from, count)
+        }
+        Worked::Text { place, len: count } => edit_literal(
+            unit,
+            parts,
+            bytes,
+            s,
+            start,
+            len,
+            place,
+            count,
+        ),
+        Worked::Failed(e) => rules_run::failed(e),
+    }
 }
 
 // What a statement answers once its place is found. The source of a SET is worked out here, and so after its place.

@@ -45,22 +45,29 @@ uses-end c us k h = rw (drop-of-length-le us h)
 pub use-as : (r q : Role) (x : ℕ) (y : Use) → r ≡ q → y ≡ useOf q x → y ≡ useOf r x
 use-as r q x y e w = rw e w
 
+module _ (s : Statement) (r : Row) (k : ℕ) where
+  pub use-a : (x : Use) → x ≡ useOf (r .a) (s .a) → k ≡ 0 → x ≡ getD (usesBy r s) k used.Nothing
+  use-a x e h = rw h e
+
+  pub use-b : (x : Use) → x ≡ useOf (r .b) (s .b) → k ≡ 1 → x ≡ getD (usesBy r s) k used.Nothing
+  use-b x e h = rw h e
+
+  pub use-c : (x : Use) → x ≡ useOf (r .c) (s .c) → k ≡ 2 → x ≡ getD (usesBy r s) k used.Nothing
+  use-c x e h = rw h e
+
+  pub use-none : (k ≡ 0 → ⊥) → (k ≡ 1 → ⊥) → (k ≡ 2 → ⊥) → used.Nothing ≡ getD (usesBy r s) k used.Nothing
+  use-none h g f = let past : 3 ≤ k = omega arith in sym (List·getD-eq-default (usesBy r s) used.Nothing past)
+
 -- v and r are the verb and the row that the code has asked for
-module _ (s : Statement) (v : Verb) (r : Row) (ev : v ≡ verbOf (s .code)) (er : r ≡ rowOf v) (k : ℕ) where
+module _ (s : Statement) (v : Verb) (r : Row) (ev : v ≡ verbOf (s .code)) (er : r ≡ rowOf v) where
   as-row : usesBy r s ≡ usesOf s
   as-row = ap (λ (x : Row). usesBy x s) (er ∙ ap rowOf ev)
 
-  pub use-a : (x : Use) → x ≡ useOf (r .a) (s .a) → k ≡ 0 → x ≡ getD (usesOf s) k used.Nothing
-  use-a x e h = rw h (e ∙ ap (λ (y : List Use). getD y 0 used.Nothing) as-row)
+  pub use-own : (k : ℕ) (x : Use) → x ≡ getD (usesBy r s) k used.Nothing → x ≡ getD (usesOf s) k used.Nothing
+  use-own k x e = e ∙ ap (λ (y : List Use). getD y k used.Nothing) as-row
 
-  pub use-b : (x : Use) → x ≡ useOf (r .b) (s .b) → k ≡ 1 → x ≡ getD (usesOf s) k used.Nothing
-  use-b x e h = rw h (e ∙ ap (λ (y : List Use). getD y 1 used.Nothing) as-row)
-
-  pub use-c : (x : Use) → x ≡ useOf (r .c) (s .c) → k ≡ 2 → x ≡ getD (usesOf s) k used.Nothing
-  use-c x e h = rw h (e ∙ ap (λ (y : List Use). getD y 2 used.Nothing) as-row)
-
-pub use-none : (s : Statement) (k : ℕ) → (k ≡ 0 → ⊥) → (k ≡ 1 → ⊥) → (k ≡ 2 → ⊥) → used.Nothing ≡ getD (usesOf s) k used.Nothing
-use-none s k h g f = let past : 3 ≤ k = omega arith in sym (List·getD-eq-default (usesOf s) used.Nothing past)
+  pub uses-own : (c : Code) (z : Bool) → z ≡ usesb c (usesBy r s) → z ≡ usesb c (usesOf s)
+  uses-own c z e = e ∙ ap (usesb c) as-row
 
 -- the loop over the uses: k is the next one, x that use, r what is found of it, and z what the whole loop answers
 module _ (u : List ℕ) (p : Parts) (us : List Use) (k : ℕ) (z : Bool) (left : usesb (codeOf u p) (drop k us) ≡ z) where

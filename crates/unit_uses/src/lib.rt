@@ -1,6 +1,7 @@
 // The expressions of a statement: their uses, and whether each is of the sort that its use wants.
 use rules_unit::Parts;
 use rules_unit::Role;
+use rules_unit::Row;
 use rules_unit::Sort;
 use rules_unit::Statement;
 use rules_unit::Use;
@@ -12,7 +13,7 @@ ghost use Rattle.rules_unit.specs.declared.Use.the-variants as used;
 ghost use Rattle.rules_unit.specs.declared.Want.the-variants as want;
 ghost use Rattle.rules_unit.specs.Decode.{Fills, codeOf};
 ghost use Rattle.rules_unit.specs.Expressions.{suits, useb, usesb};
-ghost use Rattle.rules_unit.specs.Table.{useOf, usesOf};
+ghost use Rattle.rules_unit.specs.Table.{useOf, usesBy, usesOf};
 ghost use Rattle.unit_sorts.specs.Notes.{NotedOf};
 
 // How many uses a statement has, with those that are Nothing: one for each part.
@@ -40,11 +41,10 @@ fn use_of(role: Role, x: u16) -> Use
     }
 }
 
-// The use k of a statement, from 0, in the order in which they are worked out; Nothing where there is none.
-pub fn use_at(s: Statement, k: usize) -> Use
-    ensures { λ r. ⌜ r ≡ getD (usesOf s) k used.Nothing ⌝ }
+// The use k of a statement whose row is given, from 0, in the order in which they are worked out; Nothing where there is none.
+fn use_by(row: Row, s: Statement, k: usize) -> Use
+    ensures { λ r. ⌜ r ≡ getD (usesBy row s) k used.Nothing ⌝ }
 {
-    let row = unit_decode::row_of(unit_decode::verb_of(s.code));
     let a = row.a;
     let b = row.b;
     let c = row.c;
@@ -58,6 +58,13 @@ pub fn use_at(s: Statement, k: usize) -> Use
         return use_of(c, s.c);
     }
     Use::Nothing
+}
+
+// The use k of a statement, by its row in the table of statements.
+pub fn use_at(s: Statement, k: usize) -> Use
+    ensures { λ r. ⌜ r ≡ getD (usesOf s) k used.Nothing ⌝ }
+{
+    use_by(unit_decode::row_of(unit_decode::verb_of(s.code)), s, k)
 }
 
 // Whether the sort k is that of a place.
@@ -169,19 +176,30 @@ fn use_good(unit: &[u8], parts: Parts, notes: &mut [u8], u: Use) -> bool
     }
 }
 
-// Whether the expressions of a statement are well formed and of the sorts that it wants. What is found of them is noted.
+// Whether the expressions of a statement whose row is given are well formed and of the sorts that it wants. What is found of them is noted.
+fn uses_good_by(unit: &[u8], parts: Parts, notes: &mut [u8], row: Row, s: Statement) -> bool
+    requires { ⌜ Fills (now unit) parts ⌝ }
+    requires { ⌜ NotedOf (now unit) parts (now notes) ⌝ }
+    ensures { λ r. ⌜ r ≡ usesb (codeOf (now (unit .entry)) parts) (usesBy row s) ⌝ }
+    ensures { λ _. ⌜ NotedOf (now (unit .entry)) parts (now (notes .exit)) ⌝ }
+{
+    let mut k: usize = 0;
+    while k < COUNT {
+        if !use_good(unit, parts, notes, use_by(row, s, k)) {
+            return false;
+        }
+        k += 1;
+    }
+    true
+}
+
+// The same of a statement, whose row is looked up once.
 pub fn uses_good(unit: &[u8], parts: Parts, notes: &mut [u8], s: Statement) -> bool
     requires { ⌜ Fills (now unit) parts ⌝ }
     requires { ⌜ NotedOf (now unit) parts (now notes) ⌝ }
     ensures { λ r. ⌜ r ≡ usesb (codeOf (now (unit .entry)) parts) (usesOf s) ⌝ }
     ensures { λ _. ⌜ NotedOf (now (unit .entry)) parts (now (notes .exit)) ⌝ }
 {
-    let mut k: usize = 0;
-    while k < COUNT {
-        if !use_good(unit, parts, notes, use_at(s, k)) {
-            return false;
-        }
-        k += 1;
-    }
-    true
+    let row = unit_decode::row_of(unit_decode::verb_of(s.code));
+    uses_good_by(unit, parts, notes, row, s)
 }

@@ -1,7 +1,7 @@
--- `unit_uses::use_at` meets its contract: a statement has a use for each of its three parts, in order.
+-- `unit_uses::use_at` meets its contract: the row is the statement's own.
 -- Assumes nothing.
 use borrow.Author.Needs.{needs}
-use Rattle.unit_uses.proofs.Uses.{use-a, use-b, use-c, use-none}
+use Rattle.unit_uses.proofs.Uses.{use-own}
 use Rattle.unit_uses.proofs.use_at.Statement.{statement}
 use Rattle.unit_uses.proofs.use_at.Tie as tie
 
@@ -11,37 +11,11 @@ verb-of-requires c κs = search needs
 row-of-requires : tie.Need-row-of-requires
 row-of-requires c κs = search needs
 
-use-of-requires : tie.Need-use-of-requires
-use-of-requires c κs = search needs
+use-by-requires : tie.Need-use-by-requires
+use-by-requires c κs = search needs
 
 returns : tie.Need-returns
-returns c = search use-a depth 3
-
-use-of-requires-2 : tie.Need-use-of-requires-2
-use-of-requires-2 c κs = search needs
-
-returns-2 : tie.Need-returns-2
-returns-2 c = search use-b depth 3
-
-use-of-requires-3 : tie.Need-use-of-requires-3
-use-of-requires-3 c κs = search needs
-
-returns-3 : tie.Need-returns-3
-returns-3 c = search use-c depth 3
-
-returns-4 : tie.Need-returns-4
-returns-4 c = search use-none depth 3
+returns c = search use-own depth 3
 
 pub use-at-spec : {M : Type 1} → statement M
-use-at-spec =
-    tie.close
-    (tie.spec
-    verb-of-requires
-    row-of-requires
-    use-of-requires
-    returns
-    use-of-requires-2
-    returns-2
-    use-of-requires-3
-    returns-3
-    returns-4)
+use-at-spec = tie.close (tie.spec verb-of-requires row-of-requires use-by-requires returns)

@@ -1,68 +1,25 @@
--- `unit_uses::uses_good` meets its contract: each turn tests the next use.
--- The invariant: what is left gives the answer of the whole, and what is noted stays so. The measure: the uses that are left.
+-- `unit_uses::uses_good` meets its contract: the row is the statement's own.
 -- Assumes nothing.
 use borrow.Author.Needs.{needs}
-use Prim.Native.Nat.{_-_}
-use mathlib.Core.Path.{_≡_, refl}
-use lib.ListN.{length, drop}
-use Rattle.rules_unit.specs.Table.{usesOf}
-use Rattle.rules_unit.specs.Decode.{codeOf}
-use Rattle.rules_unit.specs.Expressions.{usesb}
-use Rattle.unit_sorts.specs.Notes.{NotedOf}
-use Rattle.unit_uses.proofs.Uses.{uses-refused, uses-on, uses-over}
+use Rattle.unit_uses.proofs.Uses.{uses-own}
 use Rattle.unit_uses.proofs.uses_good.Statement.{statement}
 use Rattle.unit_uses.proofs.uses_good.Tie as tie
 
-abbrev Inv-loop : tie.InvT-loop
-Inv-loop unit parts notes₀ s k₀ notes k =
-    (usesb (codeOf unit parts) (drop k (usesOf s)) ≡ usesb (codeOf unit parts) (usesOf s)) × NotedOf unit parts notes × (length notes ≡ length notes₀)
+verb-of-requires : tie.Need-verb-of-requires
+verb-of-requires c κs = search needs
 
-abbrev μ-loop : tie.MeasureT-loop
-μ-loop unit parts notes₀ s k₀ notes k = 3 - k
+row-of-requires : tie.Need-row-of-requires
+row-of-requires c κs = search needs
 
-loop-holds : tie.Need-loop-holds Inv-loop μ-loop
-loop-holds c = (refl, search needs, search needs)
+uses-good-by-requires : tie.Need-uses-good-by-requires
+uses-good-by-requires c κs = search needs
 
-use-at-requires : tie.Need-use-at-requires Inv-loop μ-loop
-use-at-requires c κs = search needs
-
-use-good-requires : tie.Need-use-good-requires Inv-loop μ-loop
-use-good-requires c κs = search needs
-
-same-length : tie.Need-same-length Inv-loop μ-loop
+same-length : tie.Need-same-length
 same-length c = search needs
 
-returns : tie.Need-returns Inv-loop μ-loop
-returns c = (search uses-refused depth 3, search needs)
-
-add-k : tie.Need-add-k Inv-loop μ-loop
-add-k c = search needs
-
-loop-less : tie.Need-loop-less Inv-loop μ-loop
-loop-less c = search needs
-
-loop-again : tie.Need-loop-again Inv-loop μ-loop
-loop-again c = (search uses-on depth 3, search needs, search needs)
-
-same-length-2 : tie.Need-same-length-2 Inv-loop μ-loop
-same-length-2 c = search needs
-
-returns-2 : tie.Need-returns-2 Inv-loop μ-loop
-returns-2 c = (search uses-over depth 3, search needs)
+returns : tie.Need-returns
+returns c = (search uses-own depth 3, search needs)
 
 pub uses-good-spec : {M : Type 1} → statement M
 uses-good-spec =
-    tie.close
-    (tie.spec
-    Inv-loop
-    μ-loop
-    loop-holds
-    use-at-requires
-    use-good-requires
-    same-length
-    returns
-    add-k
-    loop-less
-    loop-again
-    same-length-2
-    returns-2)
+    tie.close (tie.spec verb-of-requires row-of-requires uses-good-by-requires same-length returns)
