@@ -154,9 +154,10 @@ uint64_t dibol_breach(const uint8_t *unit, size_t unit_len, size_t statement);
 
 /* The length of the alpha literal of a statement, counted from 0. There is one
    if the statement is a SET whose source is an alpha literal and nothing more;
-   otherwise, and if the unit is refused, the length is 0. `answer` gets two
-   numbers: where the literal starts in the unit, and its length; both are 0 if
-   there is none. */
+   otherwise, and if the unit is refused, the length is 0. A formatted move
+   (statement 13) has none: a literal there is its mask, and no source. `answer`
+   gets two numbers: where the literal starts in the unit, and its length; both
+   are 0 if there is none. */
 uint64_t dibol_literal(const uint8_t *unit, size_t unit_len, size_t statement,
                        uint64_t *answer, size_t answer_len);
 

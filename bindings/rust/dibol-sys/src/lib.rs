@@ -56,8 +56,9 @@ extern "C" {
     /// The number, 1 to 6, of the fence rule that a statement breaks first, or 0 for none.
     pub fn dibol_breach(unit: *const u8, unit_len: usize, statement: usize) -> u64;
 
-    /// The alpha literal of a statement. It gives the length, 0 where there is none; the answer is
-    /// its offset in the unit and its length.
+    /// The alpha literal of a statement. It gives the length, 0 where there is none, as for a
+    /// formatted move, whose literal is a mask and no source; the answer is its offset in the unit
+    /// and its length.
     pub fn dibol_literal(
         unit: *const u8,
         unit_len: usize,

@@ -151,7 +151,8 @@ impl<'a> Unit<'a> {
     }
 
     /// The alpha literal of a statement, counted from 0: that stretch of the unit itself if the
-    /// statement is a SET whose source is a lone alpha literal, and an empty stretch otherwise.
+    /// statement is a SET whose source is a lone alpha literal, and an empty stretch otherwise. A
+    /// formatted move (statement 13) has none: a literal there is its mask, and no source.
     pub fn literal(&self, statement: usize) -> &'a [u8] {
         let mut answer = [0; 2];
         // SAFETY: both pointers are those of slices, lent for their lengths.
