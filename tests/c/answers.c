@@ -1,5 +1,5 @@
-/* The exact answers of the C library: document 01's example, every refusal, every run error, the
- * fence and its rules, literals, words. */
+/* The exact answers of the C library: document 01's example, every refusal, every run error, a
+ * formatted move, the fence and its rules, literals, words. */
 #include "expect.h"
 
 #define LENGTH(array) (sizeof(array) / sizeof *(array))
@@ -80,12 +80,13 @@ static coded unit_of(const parts *p)
 static const char IMAGE[] = "0102wxyz0";
 static const entry FIELDS[] = {{1, 0, 2, 2}, {0, 4, 4, 1}, {2, 0, 8, 1}, {1, 8, 1, 1}};
 
-/* The greatest value at 0, the ten digits from 18 on, text at 28, and an amount with two minuses.
- */
+/* The greatest value at 0, the ten digits from 18 on, text at 28, an amount with two minuses, and a
+ * mask. */
 static const char LITERALS[] = "999999999999999999"
                                "0123456789"
                                "ab"
-                               "1-2-";
+                               "1-2-"
+                               "Z.X-";
 
 /* Items. A field is named by its last byte. */
 #define GREATEST "\1\0\0\22"
@@ -99,9 +100,11 @@ static const char LITERALS[] = "999999999999999999"
 #define START_END(f) "\4\0" f
 #define AB "\6\0\34\0\2"
 #define AMOUNT "\6\0\36\0\4"
+#define MASK "\6\0\42\0\4"
 #define ADD "\20"
 #define DIVIDE "\23"
 #define ROUND "\24"
+#define NEGATE "\25"
 #define CLOSE "\0"
 
 /* A unit of some statements over these fields. */
@@ -246,6 +249,18 @@ static void run_errors(void)
     ran(&unit, 26, 0, 0, IMAGE);
 }
 
+/* A formatted move stores what its mask shows, and the mask is not the literal of its statement. */
+static void a_formatted_move(void)
+{
+    const coded unit = ONE(FIELD("\1") CLOSE MASK CLOSE FIELD("\0") NEGATE CLOSE, 13, 0, 4, 10);
+    uint64_t answer[2] = {99, 99};
+
+    ran(&unit, 0, 1, 1, "0102 .1-0");
+    SAME(dibol_literal(unit.bytes, unit.len, 0, answer, 2), 0);
+    SAME(answer[0], 0);
+    SAME(answer[1], 0);
+}
+
 static void pausing(void)
 {
     const entry loop[] = {{3, 0, 0, 0}, {7, 0, 0, 0}};
@@ -373,6 +388,7 @@ int main(void)
     refusals();
     refused_calls();
     run_errors();
+    a_formatted_move();
     pausing();
     starting_anew();
     foreign_states();

@@ -35,10 +35,11 @@ fn coded(image: &[u8], fields: &[Entry], e: &[u8], p: &[u8], statements: &[Entry
 }
 
 /// A unit of one statement over a decimal (field 0), an alpha (1) and a record over both (2), with
-/// the literals `120` and `ab`.
+/// the literals `120` and `ab` and the mask `Z.X-`.
 fn one(statement: Entry, expressions: &[u8]) -> Vec<u8> {
     let fields = [(DECIMAL, 0, 2, 2), (ALPHA, 4, 4, 1), (RECORD, 0, 8, 1)];
-    coded(b"0102wxyz", &fields, expressions, b"120ab", &[statement])
+    let literals = b"120abZ.X-";
+    coded(b"0102wxyz", &fields, expressions, literals, &[statement])
 }
 
 fn refusal(unit: &[u8]) -> Option<(u64, usize)> {
@@ -147,6 +148,20 @@ fn a_run_error_leaves_the_data() {
     assert_eq!((outcome.stop, outcome.place), (Stop::ZeroDivisor, 0));
     assert_eq!((outcome.count, outcome.state), (0, State::START));
     assert_eq!(data, unit.image());
+}
+
+#[test]
+fn a_formatted_move_stores_what_its_mask_shows() {
+    // SET field 1 from minus field 0 with the mask, which is not the literal of its statement.
+    let expressions = b"\x02\0\x01\0\x06\0\x05\0\x04\0\x02\0\0\x15\0";
+    let bytes = one((13, 0, 4, 10), expressions);
+    let unit = Unit::check(&bytes).unwrap();
+    let mut data = unit.image().to_vec();
+    let outcome = unit.run(&mut data, State::START, 9);
+    assert_eq!((outcome.stop, outcome.place), (Stop::End, 1));
+    assert_eq!(outcome.count, 1);
+    assert_eq!(data, b"0102 .1-");
+    assert!(unit.literal(0).is_empty());
 }
 
 #[test]
