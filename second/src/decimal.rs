@@ -57,6 +57,7 @@ fn digit(character: u8) -> i64 {
 #[cfg(test)]
 mod tests {
     use super::*;
+    use crate::sample::written;
 
     #[test]
     fn values_are_read() {
@@ -88,9 +89,7 @@ mod tests {
 
     /// What stands in a place of `length` characters after the number has moved there.
     fn moved(value: i64, length: usize) -> String {
-        let mut place = vec![b'?'; length];
-        write(&mut place, value);
-        String::from_utf8(place).unwrap()
+        written(length, |place| write(place, value))
     }
 
     #[test]

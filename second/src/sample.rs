@@ -1,4 +1,4 @@
-//! Units for the tests, built from their parts.
+//! Units for the tests, built from their parts, and places to write.
 
 use crate::bench::{image, BENCH_ALLOWANCE};
 use crate::check::check;
@@ -194,6 +194,13 @@ impl Sample {
 
 pub fn answer(unit: &[u8]) -> (u8, usize) {
     check(unit).map_or_else(|refusal| (refusal.stop, refusal.place), |_| (0, 0))
+}
+
+/// What stands in a place of `length` bytes after it was written.
+pub fn written(length: usize, write: impl FnOnce(&mut [u8])) -> String {
+    let mut place = vec![b'?'; length];
+    write(&mut place);
+    String::from_utf8(place).unwrap()
 }
 
 fn entry(first: u8, numbers: [u16; 3]) -> Vec<u8> {

@@ -84,6 +84,7 @@ pub fn write_within(data: &mut [u8], place: Range<usize>, source: Range<usize>) 
 #[cfg(test)]
 mod tests {
     use super::*;
+    use crate::sample::written;
 
     #[test]
     fn text_is_read_as_a_number() {
@@ -120,9 +121,7 @@ mod tests {
 
     /// What stands in a place of `length` bytes after the number has moved there.
     fn moved(value: i64, length: usize) -> String {
-        let mut place = vec![b'?'; length];
-        write_number(&mut place, value);
-        String::from_utf8(place).unwrap()
+        written(length, |place| write_number(place, value))
     }
 
     #[test]
@@ -139,23 +138,16 @@ mod tests {
     }
 
     #[test]
-    fn text_is_cut_or_filled() {
-        let mut place = *b"?????";
-        write_text(&mut place, b"ab");
-        assert_eq!(&place, b"ab   ");
-        write_text(&mut place, b"cdefghij");
-        assert_eq!(&place, b"cdefg");
-    }
-
-    #[test]
-    fn formatted_data_is_cut_or_filled_on_the_left() {
-        let mut place = *b"?????";
-        write_right(&mut place, b"ab");
-        assert_eq!(&place, b"   ab");
-        write_right(&mut place, b"cdefghij");
-        assert_eq!(&place, b"fghij");
-        write_right(&mut place, b"klmno");
-        assert_eq!(&place, b"klmno");
+    fn text_is_cut_or_filled_on_the_right_and_formatted_data_on_the_left() {
+        for (text, moved, formatted) in [
+            ("ab", "ab   ", "   ab"),
+            ("klmno", "klmno", "klmno"),
+            ("cdefghij", "cdefg", "fghij"),
+        ] {
+            let text = text.as_bytes();
+            assert_eq!(written(5, |place| write_text(place, text)), moved);
+            assert_eq!(written(5, |place| write_right(place, text)), formatted);
+        }
     }
 
     #[test]

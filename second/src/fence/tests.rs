@@ -183,20 +183,22 @@ fn an_alpha_destination_shares_no_byte_with_a_decimal() {
 #[test]
 fn a_formatted_move_writes_its_place_and_reads_mask_and_number() {
     let rule = |place, mask, number| broken(sample().format(place, mask, number));
-    assert_eq!(rule("%0", "\"ZZ\"", "%3"), 0);
-    assert_eq!(rule("%0", "%4", "1 2 %1(,)"), 0);
+    let (place, mask, number) = ("%0", "\"ZZ\"", "%3");
+    assert_eq!(rule(place, mask, number), 0);
+    assert_eq!(rule(place, "%4", "1 2 %1(,)"), 0);
     assert_eq!(rule("%5", "%0", "7 neg"), 0);
-    assert_eq!(rule("%4", "\"ZZ\"", "%3"), 6);
-    assert_eq!(rule("1 5 %4(,)", "\"ZZ\"", "%3"), 6);
-    assert_eq!(rule("1 5 %0(,)", "\"ZZ\"", "%3"), 3);
-    assert_eq!(rule("%0", "1 5 %0(,)", "%3"), 3);
-    assert_eq!(rule("%0", "%3 %2()", "%3"), 1);
-    assert_eq!(rule("%0", "19 1 %4(:)", "%3"), 2);
-    assert_eq!(rule("%0", "\"ZZ\"", "3 %1()"), 3);
-    assert_eq!(rule("%0", "\"ZZ\"", "3 4 %1(,)"), 4);
+    for (place, wanted) in [("%4", 6), ("1 5 %4(,)", 6), ("1 5 %0(,)", 3)] {
+        assert_eq!(rule(place, mask, number), wanted, "{place}");
+    }
+    for (mask, wanted) in [("1 5 %0(,)", 3), ("%3 %2()", 1), ("19 1 %4(:)", 2)] {
+        assert_eq!(rule(place, mask, number), wanted, "{mask}");
+    }
+    for (number, wanted) in [("3 %1()", 3), ("3 4 %1(,)", 4)] {
+        assert_eq!(rule(place, mask, number), wanted, "{number}");
+    }
     // a before b before c.
     assert_eq!(rule("%4", "%3 %2()", "3 %1()"), 6);
-    assert_eq!(rule("%0", "%3 %2()", "3 %1()"), 1);
+    assert_eq!(rule(place, "%3 %2()", "3 %1()"), 1);
 }
 
 #[test]

@@ -1,17 +1,11 @@
 //! Tests of masks.
 
 use super::*;
+use crate::sample::written;
 use crate::text::write_right;
 
 fn shown(mask: &str, value: i64) -> String {
     String::from_utf8(edited(mask.as_bytes(), value)).unwrap()
-}
-
-/// What stands in an alpha place of `length` bytes after a formatted move.
-fn stored(value: i64, mask: &str, length: usize) -> String {
-    let mut place = vec![b'?'; length];
-    write_right(&mut place, &edited(mask.as_bytes(), value));
-    String::from_utf8(place).unwrap()
 }
 
 /// Holds each mask with its number to what it shows.
@@ -21,9 +15,19 @@ fn hold(rows: &[(&str, i64, &str)]) {
     }
 }
 
+/// Holds a formatted move of each number, with its mask, to what it stores in an alpha place of so
+/// many bytes.
+fn hold_stored(rows: &[(i64, &str, usize, &str)]) {
+    for &(value, mask, length, wanted) in rows {
+        let shown = edited(mask.as_bytes(), value);
+        let stored = written(length, |place| write_right(place, &shown));
+        assert_eq!(stored, wanted, "{mask} of {value}");
+    }
+}
+
 #[test]
 fn the_examples_of_the_manual() {
-    for (value, mask, length, wanted) in [
+    hold_stored(&[
         (123, "XXXXXXXX", 8, "00000123"),
         (123, "ZZZZZZZ", 8, "     123"),
         (123, "********", 8, "*****123"),
@@ -36,9 +40,7 @@ fn the_examples_of_the_manual() {
         (1234, "*,***.XX", 8, "***12.34"),
         (1234, "Z,ZZZ.XX", 8, "   12.34"),
         (123_456_789, "$$$$$$$$.XX", 15, "    $1234567.89"),
-    ] {
-        assert_eq!(stored(value, mask, length), wanted, "{mask} of {value}");
-    }
+    ]);
 }
 
 /// The classes of a mask's characters: place, comma, point, sign or mark.
@@ -195,11 +197,13 @@ fn the_money_sign_stands_once_before_what_is_significant() {
 
 #[test]
 fn the_left_is_cut_or_filled_and_what_is_cut_does_not_move() {
-    assert_eq!(stored(-1204, "-$$,$$$", 4), ",204");
-    assert_eq!(stored(-1204, "-$$,$$$", 6), "$1,204");
-    assert_eq!(stored(-1204, "-$$,$$$", 7), "-$1,204");
-    assert_eq!(stored(-1204, "-$$,$$$", 9), "  -$1,204");
-    assert_eq!(stored(-1204, "Z,ZZZ-", 1), "-");
+    hold_stored(&[
+        (-1204, "-$$,$$$", 4, ",204"),
+        (-1204, "-$$,$$$", 6, "$1,204"),
+        (-1204, "-$$,$$$", 7, "-$1,204"),
+        (-1204, "-$$,$$$", 9, "  -$1,204"),
+        (-1204, "Z,ZZZ-", 1, "-"),
+    ]);
 }
 
 #[test]
