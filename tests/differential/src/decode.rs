@@ -294,16 +294,8 @@ mod tests {
 
     #[test]
     fn a_formatted_move_names_place_mask_and_number() {
-        let mut draft = Draft {
-            image: b"Z.X.02r".to_vec(),
-            fields: vec![Field::new(ALPHA, 0, 4, 1), Field::new(DECIMAL, 4, 3, 1)],
-            expressions:
-                b"\x02\0\0\0\x01\0\0\x01\x01\0\x01\x01\x04\0\0\0\x02\0\x01\0\x01\0\0\x01\x15\0"
-                    .to_vec(),
-            literals: b"13".to_vec(),
-            statements: vec![Statement::new(13, 0, 4, 16)],
-        };
-        draft.statements.push(Statement::new(13, 0, 4, 20));
+        let mut draft = Draft::formatted_move(0, 26, 4);
+        draft.statements.push(Statement::new(13, 0, 26, 38));
         let unit = draft.unit();
         assert!(second::check(&unit).is_ok());
         let sound = Sound::of(&unit);

@@ -136,6 +136,26 @@ impl Draft {
     }
 }
 
+#[cfg(test)]
+impl Draft {
+    /// A formatted move over A and D, whose parts are the expressions at these offsets: A at 0, D at
+    /// 4, A(9) at 8, 1 / 0 at 16, A(1,3) at 26 and -1 at 38. E is 44.
+    pub fn formatted_move(a: u16, b: u16, c: u16) -> Draft {
+        Draft {
+            image: b"Z.X.02r".to_vec(),
+            fields: vec![Field::new(ALPHA, 0, 4, 1), Field::new(DECIMAL, 4, 3, 1)],
+            expressions: b"\x02\0\0\0\x02\0\x01\0\
+                \x01\0\0\x01\x03\0\0\0\
+                \x01\0\x01\x01\x01\0\x02\x01\x13\0\
+                \x01\0\x01\x01\x01\0\x03\x01\x04\0\0\0\
+                \x01\0\x01\x01\x15\0"
+                .to_vec(),
+            literals: b"9103".to_vec(),
+            statements: vec![Statement::new(code::FORMAT, a, b, c)],
+        }
+    }
+}
+
 fn entry(unit: &mut Vec<u8>, first: u8, zero: u8, numbers: [u16; 3]) {
     unit.extend([first, zero]);
     for number in numbers {

@@ -7,8 +7,8 @@ use second::State;
 use std::cmp::Ordering;
 use std::ops::Range;
 
-/// The ways, in words.
-const WAYS: [&str; 64] = [
+/// The ways of the whole move, in words.
+const WAYS: [&str; 40] = [
     "mask a literal",
     "mask a field",
     "mask over its destination",
@@ -46,52 +46,40 @@ const WAYS: [&str; 64] = [
     "point suppressed",
     "minus shown",
     "no minus shown",
-    "a gives 20",
-    "a gives 21",
-    "a gives 22",
-    "a gives 23",
-    "a gives 26",
-    "b gives 20",
-    "b gives 21",
-    "b gives 22",
-    "b gives 23",
-    "b gives 26",
-    "c gives 20",
-    "c gives 21",
-    "c gives 22",
-    "c gives 23",
-    "c gives 26",
-    "a before another of b",
-    "a before another of c",
-    "b before another of c",
     "5 for the zero byte",
     "5 in a table",
-    "4 for a outside",
-    "4 for b outside",
-    "4 for c outside",
-    "4 for a of another sort",
-    "4 for b of another sort",
-    "4 for c of another sort",
     "inside the fence",
 ];
 
-/// The fence rules that a formatted move may break: it has no decimal destination.
-const BREACHES: [usize; 5] = [1, 2, 3, 4, 6];
+/// The parts, in the order in which they are worked out.
+const PARTS: [&str; 3] = ["a", "b", "c"];
 
-/// Counts of what formatted moves have reached.
-#[derive(Clone)]
-pub struct Formats {
-    ways: [u64; WAYS.len()],
-    /// By the rule that they break.
-    breaches: [u64; 7],
+/// The run errors that a part may give.
+const FAULTS: [u8; 5] = [20, 21, 22, 23, 26];
+
+/// The fence rules that a formatted move may break: it has no decimal destination.
+const BREACHES: [u64; 5] = [1, 2, 3, 4, 6];
+
+/// All ways, in words: those of the whole move, of each part and of the fence.
+fn ways() -> Vec<String> {
+    let mut ways = WAYS.map(str::to_string).to_vec();
+    for (i, part) in PARTS.iter().enumerate() {
+        let behind = PARTS[i + 1..].iter();
+        ways.extend(FAULTS.map(|fault| format!("{part} gives {fault}")));
+        ways.extend(behind.map(|other| format!("{part} before another of {other}")));
+        ways.extend(["outside", "of another sort"].map(|how| format!("4 for {part} {how}")));
+    }
+    ways.extend(BREACHES.map(|rule| format!("rule {rule} broken")));
+    ways
 }
+
+/// Each way, with how often formatted moves have reached it.
+#[derive(Clone)]
+pub struct Formats(Vec<(String, u64)>);
 
 impl Default for Formats {
     fn default() -> Formats {
-        Formats {
-            ways: [0; WAYS.len()],
-            breaches: [0; 7],
-        }
+        Formats(ways().into_iter().map(|way| (way, 0)).collect())
     }
 }
 
@@ -101,8 +89,8 @@ fn shares(one: &Range<usize>, other: &Range<usize>) -> bool {
 
 impl Formats {
     fn count(&mut self, way: &str) {
-        let known = WAYS.iter().position(|known| *known == way);
-        self.ways[known.expect("the way is listed")] += 1;
+        let known = self.0.iter_mut().find(|(known, _)| known == way);
+        known.expect("the way is listed").1 += 1;
     }
 
     fn count_if(&mut self, is_so: bool, way: &str) {
@@ -113,23 +101,21 @@ impl Formats {
 
     /// Adds what another thread has counted.
     pub fn add(&mut self, other: &Formats) {
-        let mine = self.ways.iter_mut().chain(&mut self.breaches);
-        let theirs = other.ways.iter().chain(&other.breaches);
-        mine.zip(theirs).for_each(|(sum, more)| *sum += more);
+        for ((_, sum), (_, more)) in self.0.iter_mut().zip(&other.0) {
+            *sum += more;
+        }
     }
 
     /// Each way with how often it was reached.
-    pub fn reached(&self) -> impl Iterator<Item = (String, u64)> + '_ {
-        let ways = WAYS.iter().map(|way| way.to_string()).zip(self.ways);
-        let breach = |rule: &usize| (format!("rule {rule} broken"), self.breaches[*rule]);
-        ways.chain(BREACHES.iter().map(breach))
+    pub fn reached(&self) -> impl Iterator<Item = (&str, u64)> {
+        self.0.iter().map(|(way, count)| (way.as_str(), *count))
     }
 
     /// Counts the rule of the fence that statement `i` breaks, 0 for none, if it is a formatted move.
     pub fn breach(&mut self, unit: &Sound, i: usize, rule: u64) {
         let is_there = i < unit.statement_count();
-        if is_there && unit.statement(i).code == code::FORMAT {
-            self.breaches[rule as usize] += 1;
+        if rule > 0 && is_there && unit.statement(i).code == code::FORMAT {
+            self.count(&format!("rule {rule} broken"));
         }
     }
 
@@ -241,7 +227,7 @@ impl Formats {
             probe(Statement::new(code::CLEAR, b, 0, 0)).filter(|_| !is_literal),
             probe(Statement::new(code::GOTO_IF_ZERO, 0, c, 0)),
         ];
-        let given = ["a", "b", "c"].into_iter().zip(faults);
+        let given = PARTS.into_iter().zip(faults);
         let given: Vec<(&str, u8)> = given
             .filter_map(|(part, fault)| Some((part, fault?)))
             .collect();
@@ -278,13 +264,12 @@ impl Formats {
         let serves = |statement| passes(&probed(unit, sound, i, statement), i);
         let is_number = |part| serves(Statement::new(code::GOTO_IF_ZERO, 0, part, 0));
         let is_alpha = |part| serves(Statement::new(code::UPCASE, part, 0, 0));
-        for (name, part) in [("a", a), ("b", b), ("c", c)] {
+        let is_other = [is_number(a), is_number(b), is_alpha(c)];
+        for ((name, part), is_other) in PARTS.into_iter().zip([a, b, c]).zip(is_other) {
             let is_outside = usize::from(part) >= sound.expressions_len();
             self.count_if(is_outside, &format!("4 for {name} outside"));
+            self.count_if(is_other, &format!("4 for {name} of another sort"));
         }
-        self.count_if(is_number(a), "4 for a of another sort");
-        self.count_if(is_number(b), "4 for b of another sort");
-        self.count_if(is_alpha(c), "4 for c of another sort");
     }
 
     /// Counts a unit that the fence says yes to, if it has a formatted move.
@@ -355,45 +340,30 @@ fn passes(unit: &[u8], i: usize) -> bool {
 #[cfg(test)]
 mod tests {
     use super::*;
-    use crate::draft::{Draft, Field, ALPHA, DECIMAL};
-
-    /// A formatted move whose parts are the expressions at these offsets: A at 0, D at 4, A(9) at 8,
-    /// and 1 / 0 at 16. E is 26.
-    fn draft(a: u16, b: u16, c: u16) -> Draft {
-        Draft {
-            image: b"Z.X02r".to_vec(),
-            fields: vec![Field::new(ALPHA, 0, 3, 1), Field::new(DECIMAL, 3, 3, 1)],
-            expressions: [
-                &b"\x02\0\0\0\x02\0\x01\0"[..],
-                b"\x01\0\0\x01\x03\0\0\0",
-                b"\x01\0\x01\x01\x01\0\x02\x01\x13\0",
-            ]
-            .concat(),
-            literals: b"910".to_vec(),
-            statements: vec![Statement::new(code::FORMAT, a, b, c)],
-        }
-    }
+    use crate::draft::Draft;
 
     /// The ways that were counted.
     fn counted(count: impl FnOnce(&mut Formats)) -> Vec<String> {
         let mut formats = Formats::default();
         count(&mut formats);
         let reached = formats.reached().filter(|(_, count)| *count > 0);
-        reached.map(|(way, _)| way).collect()
+        reached.map(|(way, _)| way.to_string()).collect()
     }
 
     #[test]
     fn each_way_is_listed_once() {
-        for (i, way) in WAYS.iter().enumerate() {
-            assert!(!WAYS[..i].contains(way), "{way}");
+        let ways = ways();
+        for (i, way) in ways.iter().enumerate() {
+            assert!(!ways[..i].contains(way), "{way}");
         }
     }
 
     #[test]
     fn a_completed_move_is_counted_by_what_it_shows() {
-        let unit = draft(0, 0, 4).unit();
+        let draft = Draft::formatted_move(0, 0, 4);
+        let unit = draft.unit();
         let sound = Sound::of(&unit);
-        let ways = counted(|formats| formats.completed(&sound, 0, b"Z.X02r", b"2.202r"));
+        let ways = counted(|formats| formats.completed(&sound, 0, &draft.image, b"2.2.02r"));
         let wanted = [
             "mask a field",
             "mask over its destination",
@@ -411,7 +381,7 @@ mod tests {
     #[test]
     fn an_error_is_that_of_its_part() {
         let failed = |a, b, c| {
-            let draft = draft(a, b, c);
+            let draft = Draft::formatted_move(a, b, c);
             counted(|formats| formats.failed(&draft.unit(), 0, &draft.image))
         };
         assert_eq!(failed(8, 0, 4), ["a gives 21"]);
@@ -428,15 +398,19 @@ mod tests {
             assert_eq!((refusal.stop, refusal.place), (stop, 0));
             counted(|formats| formats.refused(&unit, stop, 0))
         };
-        assert_eq!(refused(draft(26, 0, 4), 4), ["4 for a outside"]);
-        assert_eq!(refused(draft(4, 0, 4), 4), ["4 for a of another sort"]);
-        assert_eq!(refused(draft(0, 4, 4), 4), ["4 for b of another sort"]);
-        assert_eq!(refused(draft(0, 0, 0), 4), ["4 for c of another sort"]);
-        assert_eq!(refused(draft(0, 0, 99), 4), ["4 for c outside"]);
-        let mut damaged = draft(0, 0, 4);
+        for (a, b, c, way) in [
+            (44, 0, 4, "4 for a outside"),
+            (4, 0, 4, "4 for a of another sort"),
+            (0, 4, 4, "4 for b of another sort"),
+            (0, 0, 0, "4 for c of another sort"),
+            (0, 0, 99, "4 for c outside"),
+        ] {
+            assert_eq!(refused(Draft::formatted_move(a, b, c), 4), [way]);
+        }
+        let mut damaged = Draft::formatted_move(0, 0, 4);
         damaged.statements[0].zero = 1;
         assert_eq!(refused(damaged, 5), ["5 for the zero byte"]);
-        let mut table = draft(0, 0, 4);
+        let mut table = Draft::formatted_move(0, 0, 4);
         let head = Statement::new(code::COMPUTED_GOTO, 1, 4, 0);
         table.statements.insert(0, head);
         assert_eq!(refused(table, 5), ["5 in a table"]);
