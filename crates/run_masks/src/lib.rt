@@ -425,13 +425,17 @@ fn last_spot(t: &[u64; 19], p: Picture, first: Sight, m: &[u8]) -> usize
     at
 }
 
-// Where the money sign is shown, 0 where it is not.
+// Where the money sign is shown, 0 where it is not. Most masks have none, and are not looked through for its place.
 fn spot(t: &[u64; 19], p: Picture, first: Sight, m: &[u8]) -> usize
     requires { ⌜ Powers (now t) ⌝ }
     requires { ⌜ p .digits < 10 ^ 18 ⌝ }
+    requires { ⌜ (p .moneys ≡ tallyOf (now m) .moneys) × (first .lead ≡ 32) ⌝ }
     ensures { λ r. ⌜ r ≡ spotOf p first (now (m .entry)) ⌝ }
 {
     if p.blank {
+        return 0;
+    }
+    if p.moneys == 0 {
         return 0;
     }
     last_spot(t, p, first, m)

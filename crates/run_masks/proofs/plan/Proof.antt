@@ -8,7 +8,7 @@ use lib.ListN.{length}
 use Rattle.rules.specs.Masks.{lastDigits, pictureBy}
 use Rattle.rules.specs.Values.{isNeg}
 use Rattle.rules.proofs.Signed.{back}
-use Rattle.run_masks.proofs.Plans.{plan-made}
+use Rattle.run_masks.proofs.Plans.{own-moneys, plan-made}
 use Rattle.run_masks.proofs.Tallying.{picture-small}
 use Rattle.run_masks.proofs.plan.Statement.{statement}
 use Rattle.run_masks.proofs.plan.Tie as tie
@@ -37,7 +37,11 @@ without-requires : tie.Need-without-requires
 without-requires c κs = search needs
 
 spot-requires : tie.Need-spot-requires
-spot-requires c κs = (c .before .before .before .before .before .pre .0, small (c .before .before))
+spot-requires c κs =
+    let f = c .before in
+    let p = f .before in
+    let s = p .before .before .before in
+    (s .pre .0, (small p, own-moneys (s .args .m .now) (p .before .tally .result) (p .picture .result) (f .first-sight .result) (length (s .args .m .now)) (lastDigits (natAbs (s .args .v)) (p .before .tally .result .places)) (isNeg (s .args .v)) (p .before .tally .ensures) (p-is p) (f .first-sight .ensures)))
 
 sub-skip : tie.Need-sub-skip
 sub-skip c = search needs
