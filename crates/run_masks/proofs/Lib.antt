@@ -1,5 +1,3 @@
-pub mod Classes
-pub mod Digits
 pub mod Editing
 pub mod Tallying
 pub mod Plans

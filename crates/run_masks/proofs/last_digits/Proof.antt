@@ -1,7 +1,7 @@
 -- `run_masks::last_digits` meets its contract: past the table every digit is left; in it the entry is the power of ten.
 -- Assumes nothing.
 use borrow.Author.Needs.{needs}
-use Rattle.run_masks.proofs.Digits.{entry-some, left-all, left-cut}
+use Rattle.run_characters.proofs.Digits.{entry-some, left-all, left-cut}
 use Rattle.run_masks.proofs.last_digits.Statement.{statement}
 use Rattle.run_masks.proofs.last_digits.Tie as tie
 
