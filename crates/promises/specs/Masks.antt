@@ -66,6 +66,10 @@ corners =
     -- the money sign stands on a place or a comma, and never on a mark
     ∷ text (formatted 3 (bytes "$X$") (pos 5)) is text (bytes "$X5")
     ∷ text (formatted 3 (bytes "$,$") (pos 5)) is text (bytes " $5")
+    -- marks left of a money sign, whatever letters they are; and no minus for an amount that has none
+    ∷ text (formatted 4 (bytes "Z*$-") (pos 15)) is text (bytes "Z*5 ")
+    -- where all is blank a point is none, and takes the fill of the place before it, which is no longer the `*`
+    ∷ text (formatted 4 (bytes "*Z..") (pos 0)) is text (bytes "*   ")
     ∷ []
 
 pub corners-hold : AllHold corners

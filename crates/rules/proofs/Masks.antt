@@ -30,7 +30,7 @@ use Rattle.rules.specs.declared.Sight.{Sight}
 use Rattle.rules.specs.declared.Plan.{Plan}
 use Rattle.rules.specs.Values.{Val, isNeg}
 use Rattle.rules.specs.Moves.{blanks}
-use Rattle.rules.specs.Masks.{placeb, moreBy, tallied, tallyOf, lastDigits, negativeb, digitsLeft, pictureOf, firstSight, sightAt, lessBy, moneysRight, edgeb, commab, classBy, classOf, digitOf, isPlace, sightedBy, sighted, skipped, spotOf, visibleBy, characterBy, characterOf, editFrom, edited, formatted, planOf, finished, rightmost}
+use Rattle.rules.specs.Masks.{placeb, moreBy, tallied, tallyOf, lastDigits, negativeb, digitsLeft, pictureOf, firstSight, sightAt, lessBy, moneysRight, edgeb, commab, classBy, classOf, digitOf, holdsDigit, sightedBy, sighted, skipped, spotOf, visibleBy, characterBy, characterOf, editFrom, edited, formatted, planOf, finished, rightmost}
 use Rattle.rules.proofs.Signed.{pow-pos10}
 use Rattle.rules.proofs.Decimals.{length-blanks}
 
@@ -109,7 +109,7 @@ minus-place true = refl
 minus-place false = refl
 
 place-by : (a e b x y d f : Bool)
-    → isPlace (cond a (cond e class.Sign class.Mark) (cond b class.Place (cond x (cond y class.Comma class.Mark) (cond d (cond f class.Point class.Mark) class.Mark)))) ≡ cond a false b
+    → holdsDigit (cond a (cond e class.Sign class.Mark) (cond b class.Place (cond x (cond y class.Comma class.Mark) (cond d (cond f class.Point class.Mark) class.Mark)))) ≡ cond a false b
 place-by true true b x y d f = refl
 place-by true false b x y d f = refl
 place-by false e true x y d f = refl
@@ -124,7 +124,7 @@ minus-no c right true h = rw (eqb-true c 45 h) (sym (minus-place (eqb right 0)))
 minus-no c right false h = refl
 
 -- a character is a digit place by its class exactly where the tally counts it as one
-pub class-place : (p : Picture) (w : Sight) (c right : ℕ) → isPlace (classBy p w c right) ≡ placeb c right
+pub class-place : (p : Picture) (w : Sight) (c right : ℕ) → holdsDigit (classBy p w c right) ≡ placeb c right
 class-place p w c right =
     place-by (eqb c 45) (edgeb p w) (placeb c right) (eqb c 44) (commab p w right) (eqb c 46) (eqb right 0) ∙ minus-no c right (eqb c 45) refl
 
@@ -132,7 +132,7 @@ exact-next : (p : Picture) (w : Sight) (c : ℕ) (cs : List ℕ) → Exact w (c 
 unfolding sighted sightedBy classOf tallyOf tallied
 exact-next p w c cs e =
     let right : lessBy (eqb c 36) (w .moneys) ≡ tallyOf cs .moneys = ap (lessBy (eqb c 36)) (e .moneys) ∙ less-more (eqb c 36) (tallyOf cs .moneys) in
-    let place : isPlace (classBy p w c (lessBy (eqb c 36) (w .moneys))) ≡ placeb c (tallyOf cs .moneys) = class-place p w c (lessBy (eqb c 36) (w .moneys)) ∙ ap (placeb c) right in
+    let place : holdsDigit (classBy p w c (lessBy (eqb c 36) (w .moneys))) ≡ placeb c (tallyOf cs .moneys) = class-place p w c (lessBy (eqb c 36) (w .moneys)) ∙ ap (placeb c) right in
     record {
       left = omega (arith, e .left);
       moneys = right;

@@ -134,12 +134,12 @@ beginsBy p w c class.Mark = false
 abbrev pub significantBy : Picture → Sight → ℕ → Class → Bool
 significantBy p w c k = cond (w .significant) true (beginsBy p w c k)
 
-abbrev pub isPlace : Class → Bool
-isPlace class.Place = true
-isPlace class.Point = false
-isPlace class.Comma = false
-isPlace class.Sign = false
-isPlace class.Mark = false
+abbrev pub holdsDigit : Class → Bool
+holdsDigit class.Place = true
+holdsDigit class.Point = false
+holdsDigit class.Comma = false
+holdsDigit class.Sign = false
+holdsDigit class.Mark = false
 
 -- the digit place met last
 abbrev pub leadBy : Bool → Sight → ℕ → ℕ
@@ -150,9 +150,9 @@ unfoldable pub sightedBy : Picture → Sight → ℕ → Class → Sight
 sightedBy p w c k =
     record {
       left = w .left - 1;
-      places = lessBy (isPlace k) (w .places);
+      places = lessBy (holdsDigit k) (w .places);
       moneys = moneysRight w c;
-      lead = leadBy (isPlace k) w c;
+      lead = leadBy (holdsDigit k) w c;
       significant = significantBy p w c k;
     }
 

@@ -6,7 +6,7 @@ ghost use mathlib.Core.Path.{_≡_};
 ghost use Prim.Native.Nat.{_+_, _-_, _^_, _<_};
 ghost use mathlib.Core.Bool.{cond};
 ghost use Rattle.rules.specs.Arithmetic.{Powers};
-ghost use Rattle.rules.specs.Masks.{placeb, lessBy, moneysRight, edgeb, commab, classBy, classOf, digitOf, beginsBy, placeBegins, significantBy, isPlace, leadBy, sightedBy, canBeMoney, moneyBy, fillBy, visibleBy, characterBy};
+ghost use Rattle.rules.specs.Masks.{placeb, lessBy, moneysRight, edgeb, commab, classBy, classOf, digitOf, beginsBy, placeBegins, significantBy, holdsDigit, leadBy, sightedBy, canBeMoney, moneyBy, fillBy, visibleBy, characterBy};
 
 // One less, and 0 for none.
 fn one_less(n: usize) -> usize
@@ -164,7 +164,7 @@ fn is_significant(t: &[u64; 19], p: Picture, w: Sight, c: u8, k: Class) -> bool
 
 // Whether a class is a digit place.
 fn holds_digit(k: Class) -> bool
-    ensures { λ r. ⌜ r ≡ isPlace k ⌝ }
+    ensures { λ r. ⌜ r ≡ holdsDigit k ⌝ }
 {
     match k {
         Class::Place => true,

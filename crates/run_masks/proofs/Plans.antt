@@ -16,7 +16,7 @@ use Rattle.rules.specs.declared.Picture.{Picture}
 use Rattle.rules.specs.declared.Sight.{Sight}
 use Rattle.rules.specs.declared.Plan.{Plan}
 use Rattle.rules.specs.Values.{isNeg}
-use Rattle.rules.specs.Masks.{moreBy, tallied, tallyOf, lastDigits, pictureBy, pictureOf, sightBy, firstSight, classOf, isPlace, leadBy, sightedBy, sighted, skipped, canBeMoney, moneyb, spotFrom, spotOf, editFrom, planOf, finished}
+use Rattle.rules.specs.Masks.{moreBy, tallied, tallyOf, lastDigits, pictureBy, pictureOf, sightBy, firstSight, classOf, holdsDigit, leadBy, sightedBy, sighted, skipped, canBeMoney, moneyb, spotFrom, spotOf, editFrom, planOf, finished}
 use Rattle.rules.proofs.Walk.{cond-same}
 
 -- ---- the money sign
@@ -29,7 +29,7 @@ module _ (p : Picture) (w : Sight) (c : ℕ) (l : eqb (w .lead) 36 ≡ false) (e
 
   lead-on : eqb (sighted p w c .lead) 36 ≡ false
   unfolding sighted sightedBy
-  lead-on = lead-other (isPlace (classOf p w c))
+  lead-on = lead-other (holdsDigit (classOf p w c))
 
   not-money : moneyb p w c ≡ false
   unfolding moneyb

@@ -200,7 +200,7 @@ fn last_spot(t: &[u64; 19], p: Picture, first: Sight, m: &[u8]) -> usize
     at
 }
 
-// Where the money sign is shown, 0 where it is not. Most masks have none, and are not looked through for its place.
+// Where the money sign is shown, 0 where it is not. A mask without one is not looked through for its place.
 fn spot(t: &[u64; 19], p: Picture, first: Sight, m: &[u8]) -> usize
     requires { ⌜ Powers (now t) ⌝ }
     requires { ⌜ p .digits < 10 ^ 18 ⌝ }

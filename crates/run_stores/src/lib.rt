@@ -166,9 +166,9 @@ fn format_literal(
     bytes: &mut [u8],
     start: usize,
     len: usize,
-    v: i64,
     place: usize,
     count: usize,
+    v: i64,
 )
     requires { ⌜ Fills (now unit) parts ⌝ }
     requires { ⌜ start + len ≤ length (now bytes) ⌝ }
@@ -224,6 +224,6 @@ pub fn store(unit: &[u8], parts: Parts, bytes: &mut [u8], w: Write)
             place,
             count,
             value,
-        } => format_literal(unit, parts, bytes, start, len, value, place, count),
+        } => format_literal(unit, parts, bytes, start, len, place, count, value),
     }
 }
