@@ -3,7 +3,7 @@
 -- Assumes nothing.
 use mathlib.Core.Bool.{Bool, true, false, cond}
 use mathlib.Core.List.{List, [], _∷_}
-use Prim.Native.Nat.{ℕ, suc, _+_, _-_, _*_, _^_, _<_}
+use Prim.Native.Nat.{ℕ, suc, _+_, _-_, _*_, _^_, _≤_, _<_}
 use native.Mathlib.Nat.{pow-le-pow-right, lt-of-lt-of-le}
 use native.Mathlib.Omega.{arith}
 use lib.Dec.{ltb, eqb, lit<}
@@ -12,10 +12,10 @@ use lib.ListN.{length}
 use borrow.Author.Tests.{ltb-true, ltb-false}
 use Rattle.rules.specs.declared.Num.the-variants.{Value, Failed}
 use Rattle.rules.specs.declared.Fault.the-variants as fault
-use Rattle.rules.specs.Values.{Val, signed, isFrom, readFrom, readOf}
+use Rattle.rules.specs.Values.{Val, signed, isFrom, readFrom, paddedRead, readOf}
 use Rattle.rules.specs.Moves.{alphaFrom, alphaOf}
 use Rattle.rules.proofs.Walk.{cond-case}
-use Rattle.rules.proofs.Signed.{abs-signed}
+use Rattle.rules.proofs.Signed.{abs-signed, pow-pos10}
 use Rattle.rules.proofs.Decimals.{from-digit, more-digits}
 use Rattle.rules.proofs.Range.{InRange}
 
@@ -39,13 +39,20 @@ module _ (limit : ℕ) where
       (λ e. range-from sign (acc * 10 + (b - 48)) (i + 1) x xs (more-digits acc i (b - 48) h (from-digit 48 b e)) (omega arith))
       (λ e. tt)
 
+  -- Spaces before it change nothing.
+  range-padded : (sign : ℕ) (s : List ℕ) → length s ≤ limit → InRange (10 ^ limit) (paddedRead sign s)
+  unfolding paddedRead
+  range-padded sign [] h = record { small = pow-pos10 limit }
+  range-padded sign (b ∷ bs) h =
+      cond-case (InRange (10 ^ limit)) (eqb b 32) (paddedRead sign bs) (readFrom sign 0 b bs) (λ e. range-padded sign bs (omega arith)) (λ e. range-from sign 0 0 b bs (lit< tt) (omega arith))
+
 -- For any digit limit: the bound is 10 to the limit.
 pub range-read : (limit sign : ℕ) (s : List ℕ) → InRange (10 ^ limit) (readOf limit sign s)
 unfolding readOf
 range-read limit sign [] = tt
 range-read limit sign (b ∷ bs) =
-    cond-case (InRange (10 ^ limit)) (ltb limit (length (b ∷ bs))) (Failed fault.TooLong) (readFrom sign 0 b bs) (λ e. tt)
-    (λ e. range-from limit sign 0 0 b bs (lit< tt) (omega (arith, ltb-false limit (suc (length bs)) e)))
+    cond-case (InRange (10 ^ limit)) (ltb limit (length (b ∷ bs))) (Failed fault.TooLong) (paddedRead sign (b ∷ bs)) (λ e. tt)
+    (λ e. range-padded limit sign (b ∷ bs) (ltb-false limit (suc (length bs)) e))
 
 -- ---- alpha to number
 

@@ -18,8 +18,9 @@ use Rattle.rules.specs.declared.Fault.{Fault}
 use Rattle.rules.specs.declared.Fault.the-variants as fault
 use Rattle.rules.specs.declared.Num.{Num}
 use Rattle.rules.specs.declared.Num.the-variants.{Value, Failed}
-use Rattle.rules.specs.Values.{signed, isFrom, Valid, readFrom, readOf}
+use Rattle.rules.specs.Values.{signed, isFrom, Valid, readFrom, paddedRead, readOf}
 use Rattle.rules.specs.Arithmetic.{kept, divOf, rounded, roundOf}
+use Rattle.rules.proofs.Walk.{cond-case}
 use Rattle.rules.proofs.Valid.{reads-valid, valid-reads}
 
 not-failed : (v : ℤ) (f : Fault) → Value v ≡ Failed f → ⊥
@@ -79,6 +80,12 @@ from-22 sign acc b (x ∷ xs) f = by (isFrom 48 b) (from-22 sign (acc * 10 + (b 
     by true rest q = rest q
     by false rest q = cc
 
+padded-22 : (sign : ℕ) (s : List ℕ) (f : Fault) → paddedRead sign s ≡ Failed f → f ≡ fault.BadDigit
+unfolding paddedRead
+padded-22 sign [] f = λ q. absurd (not-failed (pos 0) f q)
+padded-22 sign (b ∷ bs) f =
+    cond-case (λ (r : Num). r ≡ Failed f → f ≡ fault.BadDigit) (eqb b 32) (paddedRead sign bs) (readFrom sign 0 b bs) (λ e. padded-22 sign bs f) (λ e. from-22 sign 0 b bs f)
+
 not-same : fault.BadDigit ≡ fault.TooLong → ⊥
 not-same e = let z : _≡_ {A = ℕ} 0 1 = cc in omega arith
 
@@ -91,14 +98,14 @@ module _ (limit sign : ℕ) where
   read-20 [] = (λ q. absurd (not-same (failed-same fault.BadDigit fault.TooLong q)), λ h. absurd (omega (arith, h)))
   read-20 (b ∷ bs) = (by (ltb limit (length (b ∷ bs))) refl, λ h. rw (lt-ltb limit (length (b ∷ bs)) h))
     where
-      by : (t : Bool) → ltb limit (length (b ∷ bs)) ≡ t → cond t (Failed fault.TooLong) (readFrom sign 0 b bs) ≡ Failed fault.TooLong → limit < length (b ∷ bs)
+      by : (t : Bool) → ltb limit (length (b ∷ bs)) ≡ t → cond t (Failed fault.TooLong) (paddedRead sign (b ∷ bs)) ≡ Failed fault.TooLong → limit < length (b ∷ bs)
       by true e q = ltb-true limit (length (b ∷ bs)) e
-      by false e q = absurd (not-same (sym (from-22 sign 0 b bs fault.TooLong q)))
+      by false e q = absurd (not-same (sym (padded-22 sign (b ∷ bs) fault.TooLong q)))
 
   short-22 : (s : List ℕ) (f : Fault) → length s ≤ limit → readOf limit sign s ≡ Failed f → f ≡ fault.BadDigit
   unfolding readOf
   short-22 [] f h q = cc
-  short-22 (b ∷ bs) f h q = from-22 sign 0 b bs f (rw (le-ltb limit (length (b ∷ bs)) h) at q)
+  short-22 (b ∷ bs) f h q = padded-22 sign (b ∷ bs) f (rw (le-ltb limit (length (b ∷ bs)) h) at q)
 
   pub read-22 : (s : List ℕ) → (readOf limit sign s ≡ Failed fault.BadDigit) ↔ (length s ≤ limit) × (Valid limit sign s → ⊥)
   read-22 s = (λ q. (by q (ltb limit (length s)) refl, λ v. let w = valid-reads v in not-failed (w .0) fault.BadDigit (sym (w .1) ∙ q)), λ h. of (readOf limit sign s) refl h)

@@ -1,5 +1,5 @@
 -- What the moves write (document 01, "Moves and arithmetic"): how long each text is, that a written number reads back as the digits that were
--- kept with their sign, and that what is written to a decimal is valid.
+-- kept with their sign, and that what is written to a decimal is valid and has no spaces.
 -- Assumes nothing.
 use mathlib.Core.Path.{_≡_, refl, sym, ap, _∙_}
 use mathlib.Core.Bool.{Bool, true, false, cond}
@@ -10,17 +10,17 @@ use native.Mathlib.Nat.{pow-suc, mod-lt, div-one, add-mul, mul-assoc, mul-comm, 
 use native.Mathlib.Numerals.{add-one}
 use native.Mathlib.Omega.{arith}
 use lib.Arith.{mod-mul}
-use lib.Dec.{ltb, leb, lit<}
+use lib.Dec.{ltb, leb, eqb, lit<}
 use lib.IntN.{ℤ, natAbs}
 use lib.ListN.{length, getD, length-replicate, getD-replicate, length-map}
-use borrow.Author.Tests.{ltb-true, leb-true, lt-ltb, le-ltb, le-leb, lt-leb}
+use borrow.Author.Tests.{ltb-true, leb-true, lt-ltb, le-ltb, le-leb, lt-leb, ne-eqb}
 use Rattle.rules.proofs.Tests.{both}
 use Rattle.rules.specs.Tests.{_&&_}
 use Rattle.rules.specs.declared.Num.the-variants.{Value}
-use Rattle.rules.specs.Values.{Letters, signed, isNeg, isFrom, Valid, lastDigit, readFrom, readOf}
+use Rattle.rules.specs.Values.{Letters, signed, isNeg, isFrom, Figures, lastDigit, readFrom, paddedRead, readOf}
 use Rattle.rules.specs.Moves.{placed, zeroAt, digitAt, written, shownAt, width, shown, fitted, upper, lower, upcased, locased, blanks, zeros}
 use Rattle.rules.proofs.Signed.{pow-pos10}
-use Rattle.rules.proofs.Valid.{reads-valid}
+use Rattle.rules.proofs.Valid.{reads-figures}
 
 -- ---- lengths
 
@@ -51,7 +51,7 @@ pub length-blanks : (n : ℕ) → length (blanks n) ≡ n
 length-blanks n = length-replicate {A = ℕ} n 32
 
 pub length-zeros : (n : ℕ) → length (zeros n) ≡ n
-length-zeros n = length-replicate {A = ℕ} n 48
+length-zeros n = length-replicate {A = ℕ} n _
 
 -- ---- one of ten characters
 
@@ -111,24 +111,35 @@ module _ {sign : ℕ} (letters : Letters sign) where
       rw (from-yes 48 (48 + d) (omega arith) (omega arith), add-sub-cancel-left 48 d)
       (read-digits t k m (acc * 10 + d) ∙ ap (λ (x : ℕ). Value (signed t x)) (next-digit acc m (suc k)))
 
+  -- The first character that is written is no space.
+  first-figure : (t : Bool) (k d : ℕ) → eqb (zeroAt (cond t sign 48) k + d) 32 ≡ false
+  first-figure true zero d = ne-eqb (sign + d) 32 (λ q. omega (arith, letters .above))
+  first-figure false zero d = ne-eqb (48 + d) 32 (λ q. omega arith)
+  first-figure t (suc k) d = ne-eqb (48 + d) 32 (λ q. omega arith)
+
   -- A number that was written reads as its last n digits, with its sign.
   pub read-written : (limit n : ℕ) (v : ℤ) → 1 ≤ n → n ≤ limit → readOf limit sign (written sign n v) ≡ Value (signed (isNeg v) (natAbs v % 10 ^ n))
-  unfolding readOf placed
+  unfolding readOf paddedRead placed
   read-written limit zero v h l = absurd (omega arith)
   read-written limit (suc k) v h l =
       let m = natAbs v in
       let x = m % 10 ^ suc k in
       let t = isNeg v && ltb 0 x in
-      rw (length-placed (digitAt (cond t sign 48) m) k, le-ltb limit (suc k) l)
+      rw (length-placed (digitAt (cond t sign 48) m) k, le-ltb limit (suc k) l, first-figure t k (m / 10 ^ k % 10))
       (read-digits t k m 0 ∙ ap (λ (y : ℕ). Value (signed t y)) (omega arith) ∙ ap Value (sign-kept (isNeg v) x))
 
-  -- So what is written is valid.
-  pub written-valid : (limit n : ℕ) (v : ℤ) → 1 ≤ n → n ≤ limit → Valid limit sign (written sign n v)
-  written-valid limit n v h l = reads-valid (read-written limit n v h l)
+  -- "Writing never makes such spaces.", nor anything else that is not valid.
+  pub written-figures : (limit n : ℕ) (v : ℤ) → 1 ≤ n → n ≤ limit → Figures limit sign (written sign n v)
+  unfolding placed
+  written-figures limit zero v h l = absurd (omega arith)
+  written-figures limit (suc k) v h l =
+      let m = natAbs v in
+      let t = isNeg v && ltb 0 (m % 10 ^ suc k) in
+      reads-figures (rw (length-placed (digitAt (cond t sign 48) m) k) l) (read-digits t k m 0)
 
--- And so is what CLEAR writes.
-pub zeros-valid : (limit sign n : ℕ) → 1 ≤ n → n ≤ limit → Valid limit sign (zeros n)
-zeros-valid limit sign n h l =
+-- What CLEAR writes to a decimal has no spaces either.
+pub zeros-figures : (limit sign n : ℕ) → 1 ≤ n → n ≤ limit → Figures limit sign (zeros n)
+zeros-figures limit sign n h l =
     record {
       some = omega (arith, length-zeros n);
       most = omega (arith, length-zeros n);
@@ -137,4 +148,4 @@ zeros-valid limit sign n h l =
     }
   where
     at : (j : ℕ) → j < n → isFrom 48 (getD (zeros n) j 0) ≡ true
-    at j k = rw (getD-replicate {A = ℕ} n j 48 0 k)
+    at j k = rw (getD-replicate {A = ℕ} n j _ 0 k)

@@ -10,4 +10,5 @@ pub mod Answers
 pub mod Shown
 pub mod Charts
 pub mod Causes
+pub mod Blanks
 pub mod Masks

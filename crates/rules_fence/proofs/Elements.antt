@@ -12,7 +12,7 @@ use lib.IntN.{ℤ}
 use lib.ListN.{length, take, drop}
 use borrow.Author.Tests.{ltb-true, ltb-false, leb-true, leb-false}
 use Rattle.rules.specs.declared.Num.the-variants.{Value}
-use Rattle.rules.specs.Values.{Valid}
+use Rattle.rules.specs.Values.{Valid, Figures}
 use Rattle.rules.proofs.Valid.{valid-reads}
 use Rattle.rules.proofs.Sizes.{part-length}
 use Rattle.rules.proofs.ValidParts.{part-valid, keep-valid}
@@ -60,9 +60,9 @@ module _ (c : Code) (s : SoundCode c) where
         valid-reads
         (rw w at (part-valid (a - elementAt c f k) n (v .valid f k h t (i .low)) o (omega (arith, i .from, i .to, part-length d (elementAt c f k) (sizeOf c f) u))))
 
-    -- New characters at a fenced destination, that are a valid decimal where it is decimal.
+    -- New characters at a fenced destination, that are a decimal without spaces where it is decimal.
     module _ (f a n : ℕ) (new : List ℕ) (h : f < c .fields) (r : SpanFenced c true f a n) (q : length new ≡ n) (o : 1 ≤ n)
-        (w : decimalb c f ≡ true → Valid (c .dialect .limit) (c .dialect .sign) new) where
+        (w : decimalb c f ≡ true → Figures (c .dialect .limit) (c .dialect .sign) new) where
       room : a + length new ≤ length d
       room = omega (arith, span-inside h r)
 

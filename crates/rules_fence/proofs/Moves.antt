@@ -1,6 +1,6 @@
 -- What a statement stores at a fenced destination over valid data (document 01, "Fence rules"), and which faults it may give.
 --   MildFlow M f            the flow f is not 21, and M holds where it is 22
---   Aimed c d span w        the store w is none, or one at the span, and what it puts in a decimal span is valid
+--   Aimed c d span w        the store w is none, or one at the span, and what it puts in a decimal span is valid and has no spaces
 --   TurnOk c d span M t     both of the turn t
 -- Assumes nothing.
 use Prim.Native.Nat.{ℕ, _≤_}
@@ -13,9 +13,9 @@ use Rattle.rules.specs.declared.Fault.{Fault}
 use Rattle.rules.specs.declared.Fault.the-variants as fault
 use Rattle.rules.specs.declared.Num.{Num}
 use Rattle.rules.specs.declared.Num.the-variants.{Value, Failed}
-use Rattle.rules.specs.Values.{Valid, Letters}
+use Rattle.rules.specs.Values.{Figures, Letters}
 use Rattle.rules.specs.Moves.{alphaOf}
-use Rattle.rules.proofs.Decimals.{written-valid, zeros-valid}
+use Rattle.rules.proofs.Decimals.{written-figures, zeros-figures}
 use Rattle.rules_unit.specs.declared.Sort.{Sort}
 use Rattle.rules_unit.specs.Codes.{Code}
 use Rattle.rules_unit.specs.Expressions.{alphaSort}
@@ -48,7 +48,7 @@ MildFlow M (flow.Bad e) = MildFault M e
 
 pub data Aimed (c : Code) (d : List ℕ) (span : Span) (w : Write) : Type 0 where
   still : w ≡ write.Nothing → Aimed c d span w
-  aims : (decimal : Bool) → PlaceOk c true span decimal (startOf w) (lenOf w) → (decimal ≡ true → Valid (c .dialect .limit) (c .dialect .sign) (newOf c d w)) → Aimed c d span w
+  aims : (decimal : Bool) → PlaceOk c true span decimal (startOf w) (lenOf w) → (decimal ≡ true → Figures (c .dialect .limit) (c .dialect .sign) (newOf c d w)) → Aimed c d span w
 
 pub record TurnOk (c : Code) (d : List ℕ) (span : Span) (M : Type 0) (t : Turn) : Type 0 where
   pub aimed : Aimed c d span (t .write)
@@ -100,7 +100,7 @@ module _ (c : Code) (d : List ℕ) (span : Span) (M : Type 0) where
     read-mild k = mild-value false (span-reads c s d e v (k .known) (k .kind) (k .some) (k .fenced))
 
     number-ok : (decimal : Bool) (a n : ℕ) → PlaceOk c true span decimal a n → (z : ℤ) → TurnOk c d span M (moveNumber decimal a n z)
-    number-ok true a n k z = record { aimed = aims true k (λ t. written-valid letters (c .dialect .limit) n z (k .some) (short k)); mild = tt }
+    number-ok true a n k z = record { aimed = aims true k (λ t. written-figures letters (c .dialect .limit) n z (k .some) (short k)); mild = tt }
     number-ok false a n k z = alpha-store (write.Show a n z) k
 
     num-ok : (decimal : Bool) (a n : ℕ) → PlaceOk c true span decimal a n → (r : Num) → MildNum M r → TurnOk c d span M (moveNum decimal a n r)
@@ -123,7 +123,7 @@ module _ (c : Code) (d : List ℕ) (span : Span) (M : Type 0) where
     source-ok kind sp decimal a n k (worked.Failed x) q o m = failed-ok x (mild-plain M x o)
 
     pub clear-ok : (decimal : Bool) (a n : ℕ) → PlaceOk c true span decimal a n → TurnOk c d span M (clearAt decimal a n)
-    clear-ok true a n k = record { aimed = aims true k (λ t. zeros-valid (c .dialect .limit) (c .dialect .sign) n (k .some) (short k)); mild = tt }
+    clear-ok true a n k = record { aimed = aims true k (λ t. zeros-figures (c .dialect .limit) (c .dialect .sign) n (k .some) (short k)); mild = tt }
     clear-ok false a n k = alpha-store (write.Clear a n false) k
 
     pub count-ok : (up decimal : Bool) (a n : ℕ) → PlaceOk c true span decimal a n → TurnOk c d span M (countAt c d up decimal a n)

@@ -13,7 +13,7 @@ use Rattle.rules.specs.declared.Fault.{Fault}
 use Rattle.rules.specs.declared.Fault.the-variants as fault
 use Rattle.rules.specs.declared.Num.{Num}
 use Rattle.rules.specs.declared.Num.the-variants.{Value, Failed}
-use Rattle.rules.specs.Values.{signed, isFrom, readFrom, readOf}
+use Rattle.rules.specs.Values.{signed, isFrom, readFrom, paddedRead, readOf}
 use Rattle.rules.specs.Arithmetic.{kept, rounded, roundOf}
 use Rattle.rules.specs.Moves.{alphaFrom, alphaOf}
 use Rattle.rules_unit.specs.declared.Op.{Op}
@@ -68,13 +68,18 @@ module _ (p : Fault → Bool) where
   from-passes h sign acc b (x ∷ xs) =
       pass-cond (isFrom 48 b) (readFrom sign (acc * 10 + (b - 48)) x xs) (Failed fault.BadDigit) (from-passes h sign (acc * 10 + (b - 48)) x xs) h
 
+  padded-passes : p fault.BadDigit ≡ true → (sign : ℕ) (s : List ℕ) → passes p (paddedRead sign s) ≡ true
+  unfolding paddedRead
+  padded-passes h sign [] = refl
+  padded-passes h sign (b ∷ bs) = pass-cond (eqb b 32) (paddedRead sign bs) (readFrom sign 0 b bs) (padded-passes h sign bs) (from-passes h sign 0 b bs)
+
   module _ (long : p fault.TooLong ≡ true) (bad : p fault.BadDigit ≡ true) where
     -- What reading a decimal answers.
     pub read-passes : (limit sign : ℕ) (s : List ℕ) → passes p (readOf limit sign s) ≡ true
     unfolding readOf
     read-passes limit sign [] = bad
     read-passes limit sign (b ∷ bs) =
-        pass-cond (ltb limit (suc (length bs))) (Failed fault.TooLong) (readFrom sign 0 b bs) long (from-passes bad sign 0 b bs)
+        pass-cond (ltb limit (suc (length bs))) (Failed fault.TooLong) (paddedRead sign (b ∷ bs)) long (padded-passes bad sign (b ∷ bs))
 
     after-passes : (top : ℕ) (minus : Bool) (acc : ℕ) (s : List ℕ) → passes p (alphaFrom top minus acc s) ≡ true
     unfolding alphaFrom

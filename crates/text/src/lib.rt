@@ -2,9 +2,9 @@
 use rules::Fault;
 use rules::Num;
 ghost use mathlib.Core.Path.{_≡_};
-ghost use Prim.Native.Nat.{_^_, _≤_, _<_};
-ghost use lib.ListN.{length};
-ghost use Rattle.rules.specs.Values.{Val, Top, Limit, Letters, lastDigit, readOf};
+ghost use Prim.Native.Nat.{_+_, _^_, _≤_, _<_};
+ghost use lib.ListN.{length, getD, drop};
+ghost use Rattle.rules.specs.Values.{Val, Top, Limit, Letters, lastDigit, readFrom, readOf};
 ghost use Rattle.rules.specs.Arithmetic.{Powers};
 ghost use Rattle.rules.specs.Moves.{placed, digitAt, written, width, shownAt, shown, alphaOf};
 
@@ -29,22 +29,15 @@ fn last_digit(sign: u64, acc: u64, b: u64) -> Num
     Num::Failed(Fault::BadDigit)
 }
 
-// Reads a decimal: 20 where it is longer than limit, 22 where it is not valid.
-pub fn read(limit: usize, sign: u64, s: &[u8]) -> Num
-    requires { ⌜ Limit limit ⌝ }
+// Reads the characters of a decimal that stand at `from` and behind it; 22 where they are not valid. Its caller has passed over spaces before them.
+fn figures(sign: u64, s: &[u8], from: usize) -> Num
+    requires { ⌜ (from < length (now s)) × (length (now s) ≤ 18) ⌝ }
     requires { ⌜ Letters sign ⌝ }
-    ensures { λ r. ⌜ r ≡ readOf limit sign (now (s .entry)) ⌝ }
+    ensures { λ r. ⌜ r ≡ readFrom sign 0 (getD (now (s .entry)) from 0) (drop (from + 1) (now (s .entry))) ⌝ }
 {
-    let n = s.len();
-    if n == 0 {
-        return Num::Failed(Fault::BadDigit);
-    }
-    if limit < n {
-        return Num::Failed(Fault::TooLong);
-    }
-    let end = n - 1;
+    let end = s.len() - 1;
     let mut acc: u64 = 0;
-    let mut i = 0;
+    let mut i = from;
     while i < end {
         let b = number::of_byte(s[i]);
         if b < 48 {
@@ -57,6 +50,29 @@ pub fn read(limit: usize, sign: u64, s: &[u8]) -> Num
         i += 1;
     }
     last_digit(sign, acc, number::of_byte(s[end]))
+}
+
+// Reads a decimal, of which leading spaces are zeros: 20 where it is longer than limit, spaces counted, and 22 where it is not valid.
+pub fn read(limit: usize, sign: u64, s: &[u8]) -> Num
+    requires { ⌜ Limit limit ⌝ }
+    requires { ⌜ Letters sign ⌝ }
+    ensures { λ r. ⌜ r ≡ readOf limit sign (now (s .entry)) ⌝ }
+{
+    let n = s.len();
+    if n == 0 {
+        return Num::Failed(Fault::BadDigit);
+    }
+    if limit < n {
+        return Num::Failed(Fault::TooLong);
+    }
+    let mut from = 0;
+    while from < n {
+        if s[from] != 32 {
+            return figures(sign, s, from);
+        }
+        from += 1;
+    }
+    Num::Value(0)
 }
 
 // The last digits of m, as many as there is room for, from the right.

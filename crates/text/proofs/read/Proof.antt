@@ -1,26 +1,22 @@
--- `text::read` meets its contract: each character is read as the rule reads it, and each way out answers what the rule answers there.
--- The invariant: what is still to be read, after the digits of acc, answers as the whole does, and acc has at most i digits.
--- The measure: the characters before the last that are still to be read.
+-- `text::read` meets its contract: leading spaces are passed over, and what stands behind them is read as the rule reads it.
+-- The invariant: what is left behind the spaces answers as the whole does.
+-- The measure: the characters still to be looked at.
 -- Assumes nothing.
-use mathlib.Core.Path.{_≡_, ap, sym, _∙_}
-use Prim.Native.Nat.{_+_, _-_, _^_, _≤_, _<_}
-use native.Mathlib.Nat.{pow-le-pow-right, lt-of-lt-of-le}
+use mathlib.Core.Path.{_≡_, sym, _∙_}
+use Prim.Native.Nat.{_-_}
 use native.Mathlib.Omega.{arith}
 use borrow.Author.Needs.{needs}
-use lib.Dec.{lit<}
-use lib.ListN.{length, getD, drop}
-use Rattle.rules.specs.Values.{lastDigit, readFrom, readOf}
-use Rattle.rules.proofs.Decimals.{from-yes, from-low, from-high, more-digits}
-use Rattle.text.proofs.Reading.{read-empty, read-long, read-start, read-bad, read-more, read-last}
+use lib.ListN.{drop}
+use Rattle.rules.specs.Values.{paddedRead, readOf}
+use Rattle.text.proofs.Reading.{read-empty, read-long, read-start, padded-on, padded-figures, padded-empty}
 use Rattle.text.proofs.read.Statement.{statement}
 use Rattle.text.proofs.read.Tie as tie
 
 abbrev Inv-loop : tie.InvT-loop
-Inv-loop limit sign s n end acc₀ i₀ acc i =
-    (i ≤ end) × (acc < 10 ^ i) × (readOf limit sign s ≡ readFrom sign acc (getD s i 0) (drop (i + 1) s))
+Inv-loop limit sign s n from₀ from = readOf limit sign s ≡ paddedRead sign (drop from s)
 
 abbrev μ-loop : tie.MeasureT-loop
-μ-loop limit sign s n end acc₀ i₀ acc i = end - i
+μ-loop limit sign s n from₀ from = n - from
 
 returns : tie.Need-returns Inv-loop μ-loop
 returns c = let a = c .before .before .args in sym (read-empty (a .limit) (a .sign) (a .s .now) (c .if1 .taken))
@@ -28,72 +24,38 @@ returns c = let a = c .before .before .args in sym (read-empty (a .limit) (a .si
 returns-2 : tie.Need-returns-2 Inv-loop μ-loop
 returns-2 c = let a = c .before .before .before .args in sym (read-long (a .limit) (a .sign) (a .s .now) (c .if2 .taken))
 
-sub-end : tie.Need-sub-end Inv-loop μ-loop
-sub-end c = omega arith
-
 loop-holds : tie.Need-loop-holds Inv-loop μ-loop
-loop-holds c =
-    let a = c .before .before .before .args in
-    (omega arith, lit< tt, read-start (a .limit) (a .sign) (a .s .now) (c .before .if1 .left) (c .if2 .left))
+loop-holds c = let a = c .before .before .before .args in read-start (a .limit) (a .sign) (a .s .now) (c .before .if1 .left) (c .if2 .left)
 
-shared-slice-read-of-byte : tie.Need-shared-slice-read-of-byte Inv-loop μ-loop
-shared-slice-read-of-byte c = omega arith
+shared-slice-read-if3 : tie.Need-shared-slice-read-if3 Inv-loop μ-loop
+shared-slice-read-if3 c = search needs
 
-of-byte-requires : tie.Need-of-byte-requires Inv-loop μ-loop
-of-byte-requires c κs = search needs
+figures-requires : tie.Need-figures-requires Inv-loop μ-loop
+figures-requires c κs = search needs
 
 returns-3 : tie.Need-returns-3 Inv-loop μ-loop
 returns-3 c =
     let l = c .before .before .before .before in
     let a = l .before .before .before .before .args in
-    sym (l .loop .inv .2 ∙ read-bad (a .sign) (l .loop .acc) (a .s .now) (l .loop .i) (omega arith) (from-low 48 _ (rw (c .before .of-byte .ensures) at (c .if3 .taken))))
+    c .figures .ensures ∙ sym (l .loop .inv ∙ padded-figures (a .sign) (a .s .now) (l .loop .from) (c .before .before .before .loop-test .taken) (λ e. omega arith))
 
-returns-4 : tie.Need-returns-4 Inv-loop μ-loop
-returns-4 c =
-    let l = c .before .before .before .before .before in
-    let a = l .before .before .before .before .args in
-    sym (l .loop .inv .2 ∙ read-bad (a .sign) (l .loop .acc) (a .s .now) (l .loop .i) (omega arith) (from-high 48 _ (rw (c .before .before .of-byte .ensures) at (c .if4 .taken))))
-
-small : (c : tie.At-loop Inv-loop μ-loop) → c .loop .acc < 10 ^ 17
-small c = lt-of-lt-of-le (c .loop .inv .1) (pow-le-pow-right (lit< tt) {i = c .loop .i} {j = 17} (omega arith))
-
-mul-acc : tie.Need-mul-acc Inv-loop μ-loop
-mul-acc c = omega (arith, small (c .before .before .before .before .before))
-
-add-acc : tie.Need-add-acc Inv-loop μ-loop
-add-acc c = omega (arith, small (c .before .before .before .before .before))
-
-add-i : tie.Need-add-i Inv-loop μ-loop
-add-i c = omega arith
+add-from : tie.Need-add-from Inv-loop μ-loop
+add-from c = omega arith
 
 loop-less : tie.Need-loop-less Inv-loop μ-loop
 loop-less c = omega arith
 
 loop-again : tie.Need-loop-again Inv-loop μ-loop
 loop-again c =
-    let l = c .before .before .before .before .before in
+    let l = c .before .before .before in
     let a = l .before .before .before .before .args in
-    let b : c .before .before .of-byte .result ≡ getD (a .s .now) (l .loop .i) 0 = c .before .before .of-byte .ensures in
-    rw b
-    (omega arith, more-digits _ _ _ (l .loop .inv .1) (omega arith), l .loop .inv .2 ∙ read-more (a .sign) (l .loop .acc) (a .s .now) (l .loop .i) (omega arith) (from-yes 48 (getD (a .s .now) (l .loop .i) 0) (omega arith) (omega arith)))
+    l .loop .inv ∙ padded-on (a .sign) (a .s .now) (l .loop .from) (c .before .before .loop-test .taken) (c .if3 .left)
 
-shared-slice-read-of-byte-2 : tie.Need-shared-slice-read-of-byte-2 Inv-loop μ-loop
-shared-slice-read-of-byte-2 c = omega arith
-
-of-byte-requires-2 : tie.Need-of-byte-requires-2 Inv-loop μ-loop
-of-byte-requires-2 c κs = search needs
-
-last-digit-requires : tie.Need-last-digit-requires Inv-loop μ-loop
-last-digit-requires c κs = (c .before .before .before .before .before .before .before .pre .1, small (c .before .before .before))
-
-returns-5 : tie.Need-returns-5 Inv-loop μ-loop
-returns-5 c =
-    let l = c .before .before .before .before in
+returns-4 : tie.Need-returns-4 Inv-loop μ-loop
+returns-4 c =
+    let l = c .before in
     let a = l .before .before .before .before .args in
-    let e : length (a .s .now) - 1 ≡ l .loop .i = omega arith in
-    let b : c .before .of-byte2 .result ≡ getD (a .s .now) (l .loop .i) 0 = c .before .of-byte2 .ensures ∙ ap (λ k. getD (a .s .now) k 0) e in
-    c .last-digit .ensures ∙ ap (lastDigit (a .sign) (l .loop .acc)) b
-    ∙ sym (l .loop .inv .2 ∙ read-last (a .sign) (l .loop .acc) (a .s .now) (l .loop .i) (omega arith))
+    sym (l .loop .inv ∙ padded-empty (a .sign) (a .s .now) (l .loop .from) (c .loop-test .left))
 
 pub read-spec : {M : Type 1} → statement M
-read-spec = tie.close (tie.spec Inv-loop μ-loop returns returns-2 sub-end loop-holds shared-slice-read-of-byte of-byte-requires returns-3 returns-4 mul-acc add-acc add-i loop-less loop-again shared-slice-read-of-byte-2 of-byte-requires-2 last-digit-requires returns-5)
+read-spec = tie.close (tie.spec Inv-loop μ-loop returns returns-2 loop-holds shared-slice-read-if3 figures-requires returns-3 add-from loop-less loop-again returns-4)
