@@ -7,7 +7,7 @@ use mathlib.Core.Path.{refl}
 use mathlib.Core.List.{List, [], _∷_}
 use lib.IntN.{pos}
 use Rattle.rules.specs.declared.Num.the-variants.{Value}
-use Rattle.rules.specs.Values.{readFrom, readOf}
+use Rattle.rules.specs.Values.{readFrom, paddedRead, readOf}
 use Rattle.rules.specs.Arithmetic.{addOf, divOf, roundOf}
 use Rattle.rules.specs.Moves.{placed, alphaFrom, alphaOf, fitted}
 use Rattle.rules_unit.specs.Table.{verbOf}
@@ -50,5 +50,5 @@ rows =
     ∷ []
 
 pub bench-values : AllHold rows
-unfolding readOf readFrom placed alphaFrom fitted digitsb numberb digitsFrom literalNumber calc stepBy within startEndSpan posLengthSpan spanOf placeBy place lastOf workedFrom workedOf stored applied verbOf turnBy turnOf
+unfolding readOf paddedRead readFrom placed alphaFrom fitted digitsb numberb digitsFrom literalNumber calc stepBy within startEndSpan posLengthSpan spanOf placeBy place lastOf workedFrom workedOf stored applied verbOf turnBy turnOf
 bench-values = refl

@@ -1,5 +1,5 @@
 -- Corners of the written rules, computed: at each the rule is told from what it might be taken for. The papers' own examples stand in BenchValues,
--- Manual, Example and Slips.
+-- Manual, Example and Slips, the corners of edit masks in Masks, and those of spaces in a decimal in Blanks.
 --
 --   corners       values, moves and arithmetic, by their rules
 --   operators     each operator of an expression, by its code (hex)
@@ -15,7 +15,7 @@ use mathlib.Core.List.{List, [], _∷_, _++_}
 use lib.IntN.{pos}
 use lib.ListN.{replicate}
 use Rattle.rules.specs.declared.Num.the-variants.{Value}
-use Rattle.rules.specs.Values.{readFrom, readOf}
+use Rattle.rules.specs.Values.{readFrom, paddedRead, readOf}
 use Rattle.rules.specs.Arithmetic.{addOf, subOf, mulOf, divOf, roundOf, eqOf, neOf, ltOf, gtOf, geOf, leOf, andOf}
 use Rattle.rules.specs.Moves.{placed, widthFrom, shown, alphaFrom, alphaOf, upcased, locased}
 use Rattle.rules_unit.specs.declared.Form.the-variants as form
@@ -43,7 +43,7 @@ corners =
     ∷ answer (readOf limit sign (bytes "y")) is number (minus 9)
     ∷ answer (readOf limit sign (bytes "z")) is stop 22
     ∷ answer (readOf limit sign (bytes "o")) is stop 22
-    ∷ answer (readOf limit sign (bytes " 1")) is stop 22
+    ∷ answer (readOf limit sign (bytes "/1")) is stop 22
     ∷ answer (readOf limit sign (bytes "1:")) is stop 22
     -- "A decimal span of more than 18 characters then gives 20"
     ∷ answer (readOf limit sign (bytes "000000000000000001")) is number (pos 1)
@@ -103,7 +103,7 @@ corners =
     ∷ []
 
 pub corners-hold : AllHold corners
-unfolding readOf readFrom placed widthFrom alphaFrom
+unfolding readOf paddedRead readFrom placed widthFrom alphaFrom
 corners-hold = refl
 
 -- ---- operators
@@ -187,7 +187,7 @@ references =
     ∷ []
 
 pub references-hold : AllHold references
-unfolding reference readOf readFrom digitsb numberb digitsFrom literalNumber calc stepBy within subscriptSpan startEndSpan posLengthSpan spanOf placeBy place lastOf workedFrom workedOf
+unfolding reference readOf paddedRead readFrom digitsb numberb digitsFrom literalNumber calc stepBy within subscriptSpan startEndSpan posLengthSpan spanOf placeBy place lastOf workedFrom workedOf
 references-hold = refl
 
 -- ---- items

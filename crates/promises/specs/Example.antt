@@ -7,7 +7,7 @@ use mathlib.Core.Path.{_≡_, refl}
 use mathlib.Core.List.{List, [], _∷_}
 use Prim.Native.Nat.{ℕ}
 use lib.ListN.{take}
-use Rattle.rules.specs.Values.{readFrom, readOf}
+use Rattle.rules.specs.Values.{readFrom, paddedRead, readOf}
 use Rattle.rules.specs.Moves.{placed}
 use Rattle.rules_unit.specs.Decode.{markOf, partsOf, kindOf, fieldAt, referenceAt, itemBy, itemAt, itemsIn, itemsAt, statementAt}
 use Rattle.rules_unit.specs.Table.{verbOf}
@@ -45,5 +45,5 @@ pub record Example : Type 0 where
   pub leaves : ran .bytes ≡ bytes "42"
 
 pub example : Example
-unfolding readOf readFrom placed markOf partsOf kindOf fieldAt referenceAt itemBy itemAt itemsIn itemsAt statementAt verbOf sortFrom sortAt usesb filledb rangesb entryb goodFields rowb shapeb foundOf statementsFrom partsCheck checkOf within spanOf placeBy place lastOf workedFrom workedOf returnsb soundb stored applied turnBy turnOf movedBy runFrom runChecked runOf
+unfolding readOf paddedRead readFrom placed markOf partsOf kindOf fieldAt referenceAt itemBy itemAt itemsIn itemsAt statementAt verbOf sortFrom sortAt usesb filledb rangesb entryb goodFields rowb shapeb foundOf statementsFrom partsCheck checkOf within spanOf placeBy place lastOf workedFrom workedOf returnsb soundb stored applied turnBy turnOf movedBy runFrom runChecked runOf
 example = record { stops = refl; reached = refl; completed = refl; leaves = refl }

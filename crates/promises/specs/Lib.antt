@@ -16,3 +16,4 @@ pub mod Demand3
 pub mod Slips
 pub mod Fences
 pub mod Masks
+pub mod Blanks

@@ -10,7 +10,7 @@ use mathlib.Core.List.{List, [], _∷_, _++_}
 use Prim.Native.Nat.{ℕ, zero, suc}
 use lib.IntN.{pos}
 use Rattle.rules.specs.declared.Num.the-variants.{Value}
-use Rattle.rules.specs.Values.{readFrom, readOf}
+use Rattle.rules.specs.Values.{readFrom, paddedRead, readOf}
 use Rattle.rules.specs.Arithmetic.{mulOf}
 use Rattle.rules.specs.Moves.{placed, widthFrom, shown, alphaFrom, alphaOf, fitted}
 use Rattle.rules.specs.Masks.{tallied, tallyOf, pictureOf, firstSight, classOf, digitOf, sightedBy, sighted, moneyb, spotFrom, spotOf, characterOf, editFrom, edited, formatted}
@@ -49,7 +49,7 @@ examples =
     ∷ []
 
 pub manual-examples : AllHold examples
-unfolding readOf readFrom placed alphaFrom widthFrom fitted digitsb numberb digitsFrom literalNumber calc stepBy within startEndSpan posLengthSpan spanOf placeBy place lastOf workedFrom workedOf
+unfolding readOf paddedRead readFrom placed alphaFrom widthFrom fitted digitsb numberb digitsFrom literalNumber calc stepBy within startEndSpan posLengthSpan spanOf placeBy place lastOf workedFrom workedOf
 manual-examples = refl
 
 -- ---- 3.2.5
@@ -117,5 +117,5 @@ subscripts =
     ∷ []
 
 pub manual-subscripts : AllHold subscripts
-unfolding readOf readFrom digitsb numberb digitsFrom literalNumber calc stepBy within subscriptSpan spanOf placeBy place lastOf workedFrom workedOf
+unfolding readOf paddedRead readFrom digitsb numberb digitsFrom literalNumber calc stepBy within subscriptSpan spanOf placeBy place lastOf workedFrom workedOf
 manual-subscripts = refl

@@ -4,7 +4,7 @@
 -- Assumes nothing.
 use mathlib.Core.Path.{refl}
 use mathlib.Core.List.{List, [], _∷_}
-use Rattle.rules.specs.Values.{readFrom, readOf}
+use Rattle.rules.specs.Values.{readFrom, paddedRead, readOf}
 use Rattle.rules.specs.Moves.{placed, widthFrom, alphaFrom, fitted}
 use Rattle.rules.specs.Masks.{tallied, tallyOf, pictureOf, firstSight, classOf, digitOf, sightedBy, sighted, moneyb, spotFrom, spotOf, characterOf, editFrom, edited, formatted}
 use Rattle.rules_unit.specs.declared.Item.the-variants as item
@@ -57,5 +57,5 @@ moves =
     ∷ []
 
 pub moves-hold : AllHold moves
-unfolding readOf readFrom placed widthFrom alphaFrom fitted verbOf digitsb numberb textb digitsFrom literalNumber calc reference stepBy within subscriptSpan spanOf placeBy place lastOf workedFrom workedOf stored applied turnBy formatted edited editFrom characterOf spotOf spotFrom moneyb sighted sightedBy digitOf classOf firstSight pictureOf tallyOf tallied
+unfolding readOf paddedRead readFrom placed widthFrom alphaFrom fitted verbOf digitsb numberb textb digitsFrom literalNumber calc reference stepBy within subscriptSpan spanOf placeBy place lastOf workedFrom workedOf stored applied turnBy formatted edited editFrom characterOf spotOf spotFrom moneyb sighted sightedBy digitOf classOf firstSight pictureOf tallyOf tallied
 moves-hold = refl

@@ -1,4 +1,4 @@
--- The units of the examples, in their bytes, and how an example is asked: what the tables of Slips, Fences, Tour, Refusals, Corners and Moves are made of.
+-- The units of the examples, in their bytes, and how an example is asked: what the tables of Slips, Fences, Tour, Refusals, Corners, Moves and Blanks are made of.
 -- Assumes nothing.
 use mathlib.Core.Bool.{Bool}
 use mathlib.Core.List.{List, [], _∷_, _++_}
@@ -29,7 +29,7 @@ use Rattle.rules_run.specs.States.{soundb, started}
 use Rattle.rules_run.specs.Stops.{stopNumber}
 use Rattle.rules_run.specs.Turns.{applied, turnBy}
 use Rattle.rules_run.specs.Runs.{runOf}
-use Rattle.promises.specs.Rows.{Answer, number, text, refusal, stop, dialect, bytes, unitOver, accessed, unit}
+use Rattle.promises.specs.Rows.{Answer, number, text, refusal, stop, dialect, bytes, alone, unitOver, accessed, unit}
 
 -- ---- the slips
 
@@ -267,13 +267,13 @@ threeParts a b c zero = a
 threeParts a b c (suc zero) = b
 threeParts a b c (suc (suc e)) = c
 
--- What a turn leaves over them; where it goes on, if it is not the next.
-abbrev leftBy : Code → Turn → Answer
-leftBy c t = gone (t .flow)
+-- What a turn leaves of the data d; where it goes on, if it is not the next.
+abbrev leftBy : Code → List ℕ → Turn → Answer
+leftBy c d t = gone (t .flow)
   where
     gone : Flow → Answer
     gone (flow.Bad f) = stop (faultNumber f)
-    gone flow.Next = text (applied c movedData (t .write))
+    gone flow.Next = text (applied c d (t .write))
     gone (flow.Goto i) = number (pos i)
     gone (flow.Call i) = number (pos i)
     gone flow.Return = stop 0
@@ -281,14 +281,27 @@ leftBy c t = gone (t .flow)
 
 -- A statement of the code given, with the place a and the source or number b.
 abbrev pub moved : ℕ → List Item → List Item → Answer
-moved code a b = leftBy c (turnBy c 0 movedData (verbOf code) (c .statement 0))
+moved code a b = leftBy c movedData (turnBy c 0 movedData (verbOf code) (c .statement 0))
   where
     c : Code
     c = unitOver 11 3 movedField (threeParts a b [])
 
 -- SET of the place a from the number n with the mask m.
 abbrev pub masked : List Item → List Item → List Item → Answer
-masked a n m = leftBy c (turnBy c 0 movedData (verbOf 13) (record { code = 13; zero = 0; a = 0; b = 1; c = 2 }))
+masked a n m = leftBy c movedData (turnBy c 0 movedData (verbOf 13) (record { code = 13; zero = 0; a = 0; b = 1; c = 2 }))
   where
     c : Code
     c = unitOver 11 3 movedField (threeParts a m n)
+
+-- ---- spaces in a decimal
+
+-- AMOUNT is D3.
+abbrev amount : Code
+amount = unitOver 3 1 (λ f. record { kind = kind.Decimal; zero = 0; offset = 0; size = 3; count = 1 }) (λ e. alone 0)
+
+-- What an expression comes to where AMOUNT holds the three characters, and what INCR AMOUNT leaves of them.
+abbrev pub ofAmount : string.String → List Item → Answer
+ofAmount held list = accessed amount (bytes held) list
+
+abbrev pub counted : string.String → Answer
+counted held = leftBy amount (bytes held) (turnBy amount 0 (bytes held) (verbOf 3) (amount .statement 0))

@@ -12,7 +12,7 @@
 use mathlib.Core.Path.{_≡_, refl}
 use mathlib.Core.Bool.{true, false}
 use lib.ListN.{take}
-use Rattle.rules.specs.Values.{validb, validFrom}
+use Rattle.rules.specs.Values.{validFrom, paddedb, validb}
 use Rattle.rules.specs.Moves.{placed, fitted}
 use Rattle.rules_unit.specs.Decode.{markOf, partsOf, kindOf, fieldAt, referenceAt, numberAt, textAt, itemBy, itemAt, itemsIn, itemsAt, statementAt}
 use Rattle.rules_unit.specs.Table.{verbOf}
@@ -58,7 +58,7 @@ pub record Slips : Type 0 where
   pub no-smear-stop : stops 13 smear ≡ 0
 
 pub slips : Slips
-unfolding validFrom validb placed fitted markOf partsOf kindOf fieldAt referenceAt numberAt textAt itemBy itemAt itemsIn itemsAt verbOf statementAt digitsb numberb textb sortFrom sortAt usesb filledb rangesb entryb goodFields rowb shapeb foundOf statementsFrom partsCheck checkOf within subscriptSpan startEndSpan spanOf calc digitsFrom literalNumber stepBy placeBy place lastOf workedFrom workedOf returnsb soundb stored applied turnBy turnOf movedBy runFrom runChecked runOf fixedSpan elementBreach apartFrom alphaBreach referenceBreach breachFrom usesBreach breachOf verdictFrom fenceOf breachIn
+unfolding validFrom paddedb validb placed fitted markOf partsOf kindOf fieldAt referenceAt numberAt textAt itemBy itemAt itemsIn itemsAt verbOf statementAt digitsb numberb textb sortFrom sortAt usesb filledb rangesb entryb goodFields rowb shapeb foundOf statementsFrom partsCheck checkOf within subscriptSpan startEndSpan spanOf calc digitsFrom literalNumber stepBy placeBy place lastOf workedFrom workedOf returnsb soundb stored applied turnBy turnOf movedBy runFrom runChecked runOf fixedSpan elementBreach apartFrom alphaBreach referenceBreach breachFrom usesBreach breachOf verdictFrom fenceOf breachIn
 slips =
     record {
       past-table = refl;

@@ -4,7 +4,7 @@
 --   tours    a run of the unit `tour` (Samples) over its data completes twelve statements, of twelve codes, reaches the end and leaves "04xabYCd80"
 -- Assumes nothing.
 use mathlib.Core.Path.{_≡_, refl}
-use Rattle.rules.specs.Values.{readFrom, readOf}
+use Rattle.rules.specs.Values.{readFrom, paddedRead, readOf}
 use Rattle.rules.specs.Moves.{placed}
 use Rattle.rules_unit.specs.Decode.{markOf, partsOf, kindOf, fieldAt, referenceAt, numberAt, itemBy, itemAt, itemsIn, itemsAt, statementAt}
 use Rattle.rules_unit.specs.Table.{verbOf}
@@ -30,5 +30,5 @@ pub record Tours : Type 0 where
   pub leaves : ran .bytes ≡ bytes "04xabYCd80"
 
 pub tours : Tours
-unfolding readOf readFrom placed markOf partsOf kindOf fieldAt referenceAt numberAt itemBy itemAt itemsIn itemsAt statementAt verbOf digitsb numberb sortFrom sortAt usesb filledb rangesb entryb goodFields gotosb tableb rowb shapeb foundOf statementsFrom partsCheck checkOf within startEndSpan spanOf calc digitsFrom literalNumber reference stepBy placeBy place lastOf workedFrom workedOf returnsb soundb stored applied turnBy turnOf movedBy runFrom runChecked runOf
+unfolding readOf paddedRead readFrom placed markOf partsOf kindOf fieldAt referenceAt numberAt itemBy itemAt itemsIn itemsAt statementAt verbOf digitsb numberb sortFrom sortAt usesb filledb rangesb entryb goodFields gotosb tableb rowb shapeb foundOf statementsFrom partsCheck checkOf within startEndSpan spanOf calc digitsFrom literalNumber reference stepBy placeBy place lastOf workedFrom workedOf returnsb soundb stored applied turnBy turnOf movedBy runFrom runChecked runOf
 tours = record { stops = refl; reached = refl; completed = refl; no-call-open = refl; leaves = refl }
