@@ -6,11 +6,16 @@ pub const DIGITS_MOST: usize = 18;
 /// What is added to the last digit of a negative number: `0` to `9` become `p` to `y`.
 const SIGN: u8 = b'p' - b'0';
 
-/// The number that the characters stand for, or nothing if they are not a valid decimal: all but
-/// the last are 0 to 9, and the last is 0 to 9, or p to y for a negative number. There are at
-/// most 18 of them.
+/// The number that the characters stand for, or nothing if they are not a valid decimal. Leading
+/// spaces are taken as zeros, and spaces alone as 0. Behind them all but the last are 0 to 9, and
+/// the last is 0 to 9, or p to y for a negative number. There are at most 18 characters, spaces
+/// counted.
 pub fn read(characters: &[u8]) -> Option<i64> {
-    let (&last, leading) = characters.split_last()?;
+    let is_space = |&&character: &&u8| character == b' ';
+    let spaces = characters.iter().take_while(is_space).count();
+    let Some((&last, leading)) = characters[spaces..].split_last() else {
+        return (spaces > 0).then_some(0);
+    };
     let mut magnitude = 0;
     for &character in leading {
         if !character.is_ascii_digit() {
@@ -76,14 +81,61 @@ mod tests {
     }
 
     #[test]
+    fn leading_spaces_are_zeros() {
+        for (characters, value) in [
+            ("  12", Some(12)),
+            (" 0", Some(0)),
+            ("   ", Some(0)),
+            (" ", Some(0)),
+            (" s", Some(-3)),
+            ("  0p", Some(0)),
+            (" p", Some(0)),
+            ("1 2", None),
+            ("1 ", None),
+            (" 1 ", None),
+            ("0 ", None),
+            (" 1 2", None),
+            ("\t1", None),
+            ("\x001", None),
+            ("+1", None),
+            (" -1", None),
+            ("   1204", Some(1204)),
+            ("1 204", None),
+            (" 2s", Some(-23)),
+            (" s ", None),
+            ("s ", None),
+            (" s2", None),
+            (" \t1", None),
+            (" \t", None),
+            ("\t", None),
+            (" \x00", None),
+            ("                 9", Some(9)),
+            ("                 y", Some(-9)),
+            ("                  ", Some(0)),
+            (" 99999999999999999", Some(99_999_999_999_999_999)),
+        ] {
+            assert_eq!(read(characters.as_bytes()), value, "{characters:?}");
+        }
+        assert_eq!(read(b""), None);
+    }
+
+    #[test]
     fn each_character_is_judged_by_its_place() {
         for character in 0..=255_u8 {
             let digit = character.is_ascii_digit();
             let sign = (b'p'..=b'y').contains(&character);
-            assert_eq!(read(&[character, b'1']).is_some(), digit, "{character}");
-            let last = read(&[b'1', character]);
-            assert_eq!(last.is_some(), digit || sign, "{character}");
-            assert_eq!(last.is_some_and(|value| value < 0), sign, "{character}");
+            let space = character == 0x20;
+            let first = read(&[character, b'1']);
+            assert_eq!(first.is_some(), digit || space, "{character}");
+            assert_eq!(read(&[b'1', character, b'1']).is_some(), digit);
+            for before in [b'1', b' '] {
+                let last = read(&[before, character]);
+                let is_blank = before == b' ' && space;
+                assert_eq!(last.is_some(), digit || sign || is_blank, "{character}");
+                let is_negative = last.is_some_and(|value| value < 0);
+                let is_zero = before == b' ' && character == b'p';
+                assert_eq!(is_negative, sign && !is_zero, "{character}");
+            }
         }
     }
 
@@ -108,7 +160,9 @@ mod tests {
     #[test]
     fn what_is_written_reads_back() {
         for value in -1100..=1100 {
-            assert_eq!(read(moved(value, 4).as_bytes()), Some(value));
+            let written = moved(value, 4);
+            assert_eq!(read(written.as_bytes()), Some(value));
+            assert!(!written.contains(' '));
             let kept = read(moved(value, 2).as_bytes());
             assert_eq!(kept, Some(value % 100));
         }

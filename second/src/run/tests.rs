@@ -71,7 +71,19 @@ mod statements {
             text(&"0".repeat(17))
         );
         assert_eq!(after(code::INCR, "4x1"), Err(22));
-        assert_eq!(after(code::DECR, " 1"), Err(22));
+        assert_eq!(after(code::DECR, "1 "), Err(22));
+    }
+
+    #[test]
+    fn incr_and_decr_of_a_blank_amount_write_zeros() {
+        assert_eq!(after(code::INCR, "   "), text("001"));
+        assert_eq!(after(code::DECR, "   "), text("00q"));
+        assert_eq!(after(code::INCR, "  9"), text("010"));
+        assert_eq!(after(code::DECR, " 1"), text("00"));
+        assert_eq!(after(code::INCR, " q"), text("00"));
+        assert_eq!(after(code::INCR, " "), text("1"));
+        assert_eq!(after(code::INCR, " 1 "), Err(22));
+        assert_eq!(after(code::INCR, "\t1"), Err(22));
     }
 
     #[test]
@@ -104,6 +116,13 @@ mod statements {
                 assert_eq!(after, wanted, "{before:02X}");
             }
         }
+    }
+
+    #[test]
+    fn a_cleared_record_leaves_amounts_that_read_0() {
+        let cleared = sample().on(code::CLEAR, "%3");
+        assert_eq!(cleared.clone().set("%1", "%0").data(), "     0    ");
+        assert_eq!(cleared.on(code::INCR, "2 %2()").data(), "        01");
     }
 
     #[test]
@@ -159,8 +178,8 @@ mod statements {
 
     #[test]
     fn a_destination_is_found_and_not_read() {
-        let sample = Sample::over("?? 1", &[(1, 0, 2, 1), (1, 2, 2, 1)]);
-        assert_eq!(sample.clone().set("%0", "5").data(), "05 1");
+        let sample = Sample::over("??x1", &[(1, 0, 2, 1), (1, 2, 2, 1)]);
+        assert_eq!(sample.clone().set("%0", "5").data(), "05x1");
         assert_eq!(sample.clone().on(code::CLEAR, "%1").data(), "??00");
         assert_eq!(sample.set("%0", "%1").fault(), (22, 0));
     }
@@ -230,6 +249,32 @@ mod errors {
         assert_eq!(wide.clone().set("1 25 %0(,)", "1").fault(), (21, 0));
         let written = wide.set("1 18 %0(,)", "5 neg").data();
         assert_eq!(written, "00000000000000000u000000");
+    }
+
+    #[test]
+    fn spaces_count_for_the_length_of_a_span() {
+        let blank = |image: &str| Sample::over(image, &[(1, 0, 10, 2)]);
+        let (spaces, spoiled) = (" ".repeat(20), format!("1{}", " ".repeat(19)));
+        assert_eq!(blank(&spaces).set("%0", "1 19 %0(,)").fault(), (20, 0));
+        assert_eq!(blank(&spoiled).set("%0", "1 19 %0(,)").fault(), (20, 0));
+        assert_eq!(blank(&spoiled).set("%0", "1 18 %0(,)").fault(), (22, 0));
+        let read = blank(&spaces).set("%0", "1 18 %0(,)").data();
+        assert_eq!(read, "0000000000          ");
+    }
+
+    #[test]
+    fn the_spaces_are_those_of_the_span() {
+        let read = |image: &str, part: &str| {
+            let sample = Sample::over(image, &[(1, 0, 3, 1), (0, 3, 2, 1)]);
+            let (stop, _, _, data) = sample.set("%1", part).ran();
+            (stop, data[3..].to_string())
+        };
+        assert_eq!(read("1 2??", "2 3 %0(,)"), (0, " 2".to_string()));
+        assert_eq!(read("1 2??", "1 1 %0(,)"), (0, " 1".to_string()));
+        assert_eq!(read("1 2??", "2 2 %0(,)"), (0, " 0".to_string()));
+        assert_eq!(read(" 12??", "1 1 %0(,)"), (0, " 0".to_string()));
+        assert_eq!(read("1 2??", "1 2 %0(,)"), (22, "??".to_string()));
+        assert_eq!(read("1 2??", "%0"), (22, "??".to_string()));
     }
 
     #[test]
