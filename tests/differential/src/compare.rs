@@ -208,6 +208,11 @@ fn run(
         &ran,
         &expected,
     )?;
+    // A run error has left the data as its statement found it.
+    if let stop @ 20..=26 = stop {
+        let (unit, at) = (Sound::of(&case.unit), outcome.place);
+        reached.blanks.failed(&unit, at, stop, ran.data.part());
+    }
     Ok(ran)
 }
 
@@ -270,6 +275,7 @@ fn step(case: &Case, reached: &mut Reached) -> Result<(), Difference> {
             reached
                 .formats
                 .completed(&unit, at, before.part(), ran.data.part());
+            reached.blanks.completed(&unit, at, before.part());
         }
         if (20..=26).contains(&ran.given.result) {
             reached.formats.failed(&case.unit, at, before.part());

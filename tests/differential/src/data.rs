@@ -78,7 +78,8 @@ fn numbers(random: &mut Random, elements: &mut [u8], size: usize, quality: Quali
     }
 }
 
-/// Writes a valid decimal: mostly a small number, sometimes negative, sometimes "0p".
+/// Writes a valid decimal: mostly a small number, sometimes negative, sometimes "0p". Some have
+/// spaces in front, or spaces alone.
 pub fn decimal(random: &mut Random, element: &mut [u8]) {
     element.fill(b'0');
     let digits = match random.below(10) {
@@ -97,6 +98,10 @@ pub fn decimal(random: &mut Random, element: &mut [u8]) {
             *last += b'p' - b'0';
         }
     }
+    if random.chance(20) {
+        let spaces = random.within(1..=element.len());
+        element[..spaces].fill(b' ');
+    }
 }
 
 pub fn digit(random: &mut Random) -> u8 {
@@ -104,9 +109,11 @@ pub fn digit(random: &mut Random) -> u8 {
 }
 
 /// A character that does not belong into a decimal, or not everywhere.
-fn bad(random: &mut Random) -> u8 {
+pub fn bad(random: &mut Random) -> u8 {
     let any = random.byte();
-    random.pick(&[b' ', b'-', b'/', b':', b'o', b'p', b'y', b'z', b'P', any])
+    random.pick(&[
+        b' ', b' ', b'\t', 0, b'+', b'-', b'/', b':', b'o', b'p', b'y', b'z', b'P', any,
+    ])
 }
 
 /// Fills bytes with text of some sort.

@@ -127,7 +127,7 @@ impl<'a> Sound<'a> {
     pub fn destinations(&self) -> Vec<Range<usize>> {
         (0..self.statement_count())
             .map(|i| self.statement(i))
-            .filter(|statement| matches!(statement.code, code::SET..=code::LOCASE | code::FORMAT))
+            .filter(|statement| is_written(statement.code))
             .map(|statement| {
                 let span = self.span(statement.a);
                 span.expect("the bounds of a destination are literals")
@@ -149,23 +149,82 @@ impl<'a> Sound<'a> {
         Some(values)
     }
 
-    /// The span that a statement has found of an expression that ends with a reference, where its
-    /// bounds are literals, some of them with a negate.
-    fn span(&self, offset: u16) -> Option<Range<usize>> {
-        let mut items = self.items(offset);
-        let reference = items.pop().filter(|item| (2..=5).contains(&item.code))?;
-        let bounds = self.constants(&items)?;
+    /// The references of an expression, left to right.
+    fn references(&self, offset: u16) -> Vec<Reference> {
+        let items = self.items(offset);
+        let mut found = Vec::new();
+        // The values held, where they are literals, some of them with a negate.
+        let mut held: Vec<Option<i64>> = Vec::new();
+        for (i, &item) in items.iter().enumerate() {
+            let value = match item.code {
+                0x01 => Some(self.literal_value(item)),
+                0x02..=0x05 => {
+                    let count = [0, 1, 2, 2][usize::from(item.code) - 2];
+                    let bounds = held.split_off(held.len() - count).into_iter();
+                    let bounds: Option<Vec<i64>> = bounds.collect();
+                    found.push(Reference {
+                        field: self.field(item.number),
+                        span: bounds.and_then(|bounds| self.named(item, &bounds)),
+                        is_last: i + 1 == items.len(),
+                    });
+                    None
+                }
+                0x06 => None,
+                0x15 => held.pop().flatten().map(|value| -value),
+                0x1C => {
+                    held.pop();
+                    None
+                }
+                _ => {
+                    held.truncate(held.len() - 2);
+                    None
+                }
+            };
+            held.push(value);
+        }
+        found
+    }
+
+    /// The bytes that a reference with these bounds names, where it has found them in the data.
+    fn named(&self, reference: Item, bounds: &[i64]) -> Option<Range<usize>> {
         let field = self.field(reference.number);
         let size = field.size() as i64;
-        let (start, end) = match (reference.code, bounds[..].first(), bounds[..].last()) {
-            (0x03, Some(s), _) => ((s - 1) * size, s * size),
-            (0x04, Some(start), Some(end)) => (start - 1, *end),
-            (0x05, Some(pos), Some(length)) if *length > 0 => (pos - 1, pos - 1 + length),
-            (0x05, Some(pos), Some(length)) => (pos + length, *pos),
+        let (start, end) = match (reference.code, bounds) {
+            (0x03, [s]) => ((s - 1).saturating_mul(size), s.saturating_mul(size)),
+            (0x04, [start, end]) => (start - 1, *end),
+            (0x05, [pos, length]) if *length > 0 => (pos - 1, pos - 1 + length),
+            (0x05, [pos, length]) => (pos + length, *pos),
             _ => (0, size),
         };
-        let at = |bound: i64| (field.start() as i64 + bound) as usize;
-        Some(at(start)..at(end))
+        let at = |bound: i64| usize::try_from(bound.saturating_add(field.start() as i64)).ok();
+        let (start, end) = (at(start)?, at(end)?);
+        (start < end && end <= self.image).then_some(start..end)
+    }
+
+    /// The reference that an expression ends with, if it does.
+    pub fn place(&self, offset: u16) -> Option<Reference> {
+        let last = self.references(offset).pop();
+        last.filter(|reference| reference.is_last)
+    }
+
+    /// The span that a statement has found of such an expression, where its bounds are literals.
+    fn span(&self, offset: u16) -> Option<Range<usize>> {
+        self.place(offset)?.span
+    }
+
+    /// The decimals that statement `i` reads, in the order in which it reads them. A place that is written is read by
+    /// INCR and DECR alone.
+    pub fn reads(&self, i: usize) -> Vec<Reference> {
+        let statement = self.statement(i);
+        let is_changed = matches!(statement.code, code::INCR | code::DECR);
+        let is_place = |k: usize| k == 0 && is_written(statement.code) && !is_changed;
+        let uses = self.uses(&statement).into_iter().enumerate();
+        uses.flat_map(|(k, offset)| {
+            let references = self.references(offset).into_iter();
+            references.filter(move |reference| !(reference.is_last && is_place(k)))
+        })
+        .filter(|reference| reference.field.is_decimal())
+        .collect()
     }
 
     /// What statement `i`, a formatted move that was completed over this data, has named, where
@@ -203,13 +262,26 @@ impl<'a> Sound<'a> {
         digits.iter().fold(0, value)
     }
 
+    /// The elements of every decimal field.
+    fn elements<'d>(&self, data: &'d [u8]) -> Vec<&'d [u8]> {
+        let fields = (0..self.fields.len() / 8).map(|i| self.field(i));
+        let decimals = fields.filter(Field::is_decimal);
+        decimals
+            .flat_map(|field| data[field.start()..field.end()].chunks(field.size()))
+            .collect()
+    }
+
     /// Whether every element of every decimal field is valid.
     pub fn is_valid(&self, data: &[u8]) -> bool {
-        let fields = (0..self.fields.len() / 8).map(|i| self.field(i));
-        fields.filter(Field::is_decimal).all(|field| {
-            let elements = data[field.start()..field.end()].chunks(field.size());
-            elements.into_iter().all(is_valid_element)
-        })
+        self.elements(data)
+            .into_iter()
+            .all(|element| bad_character(element).is_none())
+    }
+
+    /// Whether an element of a decimal field begins with a space.
+    pub fn is_padded(&self, data: &[u8]) -> bool {
+        let elements = self.elements(data);
+        elements.into_iter().any(|element| element[0] == b' ')
     }
 
     /// Whether a resume state is sound.
@@ -228,6 +300,15 @@ impl<'a> Sound<'a> {
     }
 }
 
+/// A reference in an expression.
+pub struct Reference {
+    pub field: Field,
+    /// Where the bytes that it names stand in the data, if its bounds are literals.
+    pub span: Option<Range<usize>>,
+    /// Whether it is the last item.
+    pub is_last: bool,
+}
+
 /// What a formatted move has named.
 pub struct Formatted {
     pub destination: Range<usize>,
@@ -240,7 +321,12 @@ pub struct Formatted {
     pub number_span: Option<Range<usize>>,
 }
 
-/// The value of a valid decimal.
+/// Whether a statement writes the place that it names.
+pub fn is_written(code: u8) -> bool {
+    matches!(code, code::SET..=code::LOCASE | code::FORMAT)
+}
+
+/// The value of a valid decimal. A space in front is a zero, as its low bits are.
 fn decimal_value(characters: &[u8]) -> i64 {
     let digit = |character: &u8| i64::from(character & 0x0F);
     let magnitude = characters
@@ -252,10 +338,20 @@ fn decimal_value(characters: &[u8]) -> i64 {
     }
 }
 
-fn is_valid_element(element: &[u8]) -> bool {
-    let (last, leading) = element.split_last().expect("an element has a byte");
-    leading.iter().all(u8::is_ascii_digit)
-        && (last.is_ascii_digit() || (b'p'..=b'y').contains(last))
+/// How many spaces some characters begin with.
+pub fn spaces_in_front(characters: &[u8]) -> usize {
+    let is_space = |character: &&u8| **character == b' ';
+    characters.iter().take_while(is_space).count()
+}
+
+/// Where the first character stands that makes a decimal invalid: behind the spaces in front, one
+/// that is no digit, or at the end no sign letter either.
+pub fn bad_character(characters: &[u8]) -> Option<usize> {
+    let last = characters.len() - 1;
+    (spaces_in_front(characters)..=last).find(|&at| {
+        let is_sign = at == last && (b'p'..=b'y').contains(&characters[at]);
+        !characters[at].is_ascii_digit() && !is_sign
+    })
 }
 
 #[cfg(test)]
@@ -318,6 +414,10 @@ mod tests {
         let sound = Sound::of(&unit);
         assert!(sound.is_valid(b".abcde12345p"));
         assert!(sound.is_valid(b"......12p00y"));
+        assert!(sound.is_valid(b".abcde  1  p") && sound.is_valid(b".abcde    00"));
+        assert!(sound.is_padded(b".abcde123 45") && !sound.is_padded(b"  abcd1 3456"));
+        assert!(!sound.is_valid(b".abcde1 3456") && !sound.is_valid(b".abcde123 4 "));
+        assert!(!sound.is_valid(b".abcde\t23456") && !sound.is_valid(b".abcde1234\x006"));
         assert!(!sound.is_valid(b".abcde1p3456"));
         assert!(!sound.is_valid(b".abcde12345z"));
         assert!(!sound.is_text_to_decimal(0) && !sound.is_text_to_decimal(3));

@@ -45,6 +45,12 @@ impl Field {
     pub fn end(&self) -> usize {
         self.start() + self.length()
     }
+
+    /// Whether a byte of the data lies in an element, behind its first.
+    pub fn is_inside_element(&self, at: usize) -> bool {
+        let is_here = self.start() <= at && at < self.end();
+        is_here && !(at - self.start()).is_multiple_of(self.size())
+    }
 }
 
 /// A statement.

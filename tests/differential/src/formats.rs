@@ -3,6 +3,7 @@
 
 use crate::decode::{Formatted, Sound};
 use crate::draft::{code, Statement};
+use crate::ways::Ways;
 use second::State;
 use std::cmp::Ordering;
 use std::ops::Range;
@@ -73,13 +74,13 @@ fn ways() -> Vec<String> {
     ways
 }
 
-/// Each way, with how often formatted moves have reached it.
+/// Counts of what formatted moves have reached.
 #[derive(Clone)]
-pub struct Formats(Vec<(String, u64)>);
+pub struct Formats(Ways);
 
 impl Default for Formats {
     fn default() -> Formats {
-        Formats(ways().into_iter().map(|way| (way, 0)).collect())
+        Formats(Ways::of(&ways()))
     }
 }
 
@@ -89,26 +90,21 @@ fn shares(one: &Range<usize>, other: &Range<usize>) -> bool {
 
 impl Formats {
     fn count(&mut self, way: &str) {
-        let known = self.0.iter_mut().find(|(known, _)| known == way);
-        known.expect("the way is listed").1 += 1;
+        self.0.count(way);
     }
 
     fn count_if(&mut self, is_so: bool, way: &str) {
-        if is_so {
-            self.count(way);
-        }
+        self.0.count_if(is_so, way);
     }
 
     /// Adds what another thread has counted.
     pub fn add(&mut self, other: &Formats) {
-        for ((_, sum), (_, more)) in self.0.iter_mut().zip(&other.0) {
-            *sum += more;
-        }
+        self.0.add(&other.0);
     }
 
     /// Each way with how often it was reached.
     pub fn reached(&self) -> impl Iterator<Item = (&str, u64)> {
-        self.0.iter().map(|(way, count)| (way.as_str(), *count))
+        self.0.reached()
     }
 
     /// Counts the rule of the fence that statement `i` breaks, 0 for none, if it is a formatted move.
@@ -348,14 +344,6 @@ mod tests {
         count(&mut formats);
         let reached = formats.reached().filter(|(_, count)| *count > 0);
         reached.map(|(way, _)| way.to_string()).collect()
-    }
-
-    #[test]
-    fn each_way_is_listed_once() {
-        let ways = ways();
-        for (i, way) in ways.iter().enumerate() {
-            assert!(!ways[..i].contains(way), "{way}");
-        }
     }
 
     #[test]

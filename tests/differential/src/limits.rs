@@ -1,6 +1,6 @@
 //! Units at the limits of document 01, and one past them.
 
-use crate::data::{amount, mask};
+use crate::data::{amount, bad, decimal, digit, mask};
 use crate::draft::{code, Draft, Field, Statement, ALPHA, DECIMAL, RECORD};
 use crate::expressions::{Maker, GREATEST};
 use crate::random::Random;
@@ -11,7 +11,7 @@ type Make = fn(&mut Random) -> Draft;
 
 /// A unit at some limit.
 pub fn limit_unit(random: &mut Random) -> Draft {
-    let makers: [(usize, Make); 11] = [
+    let makers: [(usize, Make); 12] = [
         (1, sizes),
         (12, held),
         (10, nesting),
@@ -20,6 +20,7 @@ pub fn limit_unit(random: &mut Random) -> Draft {
         (2, long_table),
         (14, spans),
         (12, amounts),
+        (20, blanks),
         (12, masks),
         (2, long_masks),
         (10, mask_errors),
@@ -435,4 +436,54 @@ fn amounts(random: &mut Random) -> Draft {
         set_wide(&mut maker, offset as u16);
     }
     maker.draft
+}
+
+/// Reads of parts of up to 19 characters of decimals that are mostly spaces, in the place of the
+/// array of `base`.
+fn blanks(random: &mut Random) -> Draft {
+    const LENGTH: usize = 36;
+    let mut draft = base(random);
+    let number = wide(&draft) + 2;
+    let start = draft.fields[number].start();
+    let size = random.pick(&[3, 12, 18]);
+    draft.fields[number] = Field::new(DECIMAL, start, size, LENGTH / size);
+    draft.image.truncate(start);
+    draft.image.resize(start + LENGTH, b' ');
+    if random.chance(75) {
+        for element in draft.image[start..].chunks_mut(size) {
+            padded(random, element);
+        }
+    }
+    let mut maker = Maker::new(random, draft, false);
+    for _ in 0..maker.random.within(1..=3) {
+        let element = size * maker.random.below(LENGTH / size) + 1;
+        let inside = maker.random.within(1..=LENGTH);
+        let first = maker.random.pick(&[element, element + 1, inside]);
+        let length = maker.random.pick(&[1, 2, size, size, 18, 19]);
+        let last = LENGTH.min(first + length - 1);
+        let part = added(&mut maker, |maker| {
+            maker.constant(first as i64);
+            maker.constant(last as i64);
+            maker.refer(4, number);
+        });
+        use_span(&mut maker, part, true);
+    }
+    maker.draft
+}
+
+/// Writes a decimal behind some spaces, often with a digit in front of them or with a character that
+/// does not belong there.
+fn padded(random: &mut Random, element: &mut [u8]) {
+    decimal(random, element);
+    let last = element.len() - 1;
+    let spaces = random.within(0..=element.len());
+    element[..spaces].fill(b' ');
+    if random.chance(30) {
+        element[0] = digit(random);
+    }
+    if random.chance(40) {
+        let anywhere = random.within(0..=last);
+        let at = random.pick(&[spaces.min(last), anywhere]);
+        element[at] = bad(random);
+    }
 }

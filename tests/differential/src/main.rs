@@ -4,9 +4,10 @@
 //!     differential case SEED NUMBER      one case again, told in full
 //!
 //! The exit status is 0 when all answers are the same, 1 when some differ, and 2 when nothing was
-//! asked. With --reached it is also 1 when a stop, a statement, an item, a fence answer, a breach or
-//! a way of a formatted move was not reached.
+//! asked. With --reached it is also 1 when a stop, a statement, an item, a fence answer, a breach, or
+//! a way of a formatted move or of a blank-padded amount was not reached.
 
+mod blanks;
 mod cases;
 mod compare;
 mod damage;
@@ -23,6 +24,7 @@ mod reached;
 mod report;
 mod threads;
 mod units;
+mod ways;
 
 use std::env;
 use std::process::ExitCode;

@@ -39,6 +39,7 @@ pub fn demand_3(case: &Case, ran: &Ran, reached: &mut Reached) -> Result<(), Dif
         return Ok(());
     }
     reached.fenced_run();
+    reached.blanks.fenced(&unit, &case.data);
     let (stop, data) = (ran.given.result, ran.data.part());
     let at = ran.state.part()[0] as usize;
     let told = |what: &'static str| move || format!("demand 3: {what}");

@@ -1,5 +1,6 @@
 //! What the cases have reached, counted.
 
+use crate::blanks::Blanks;
 use crate::cases::{Kind, KINDS};
 use crate::decode::Sound;
 use crate::formats::Formats;
@@ -41,6 +42,8 @@ pub struct Reached {
     completed: u64,
     /// What formatted moves have reached.
     pub formats: Formats,
+    /// What reads of blank-padded amounts have reached.
+    pub blanks: Blanks,
 }
 
 impl Reached {
@@ -108,6 +111,7 @@ impl Reached {
         self.fenced_runs += other.fenced_runs;
         self.completed += other.completed;
         self.formats.add(&other.formats);
+        self.blanks.add(&other.blanks);
     }
 
     /// What was never reached.
@@ -136,6 +140,8 @@ impl Reached {
         );
         let formats = self.formats.reached().filter(|(_, count)| *count == 0);
         missing.extend(formats.map(|(way, _)| format!("of a formatted move: {way}")));
+        let blanks = self.blanks.reached().filter(|(_, count)| *count == 0);
+        missing.extend(blanks.map(|(way, _)| format!("of a blank-padded amount: {way}")));
         missing
     }
 }
@@ -180,6 +186,10 @@ impl fmt::Display for Reached {
         )?;
         write!(f, "\nformatted moves")?;
         for (way, count) in self.formats.reached() {
+            write!(f, "  {way}: {count}")?;
+        }
+        write!(f, "\nblank-padded amounts")?;
+        for (way, count) in self.blanks.reached() {
             write!(f, "  {way}: {count}")?;
         }
         Ok(())
