@@ -730,9 +730,11 @@ def lengths_of(unit):
 
 
 def figures(data):
-    """A decimal as a number in figures: p to y at its end are 0 to 9 with a minus. Nothing where it is no number."""
-    if not re.fullmatch(rb"[0-9]*[0-9p-y]", data):
+    """A decimal as a number in figures: spaces in front are zeros, p to y at its end are 0 to 9 with a minus. Nothing where it is no
+    number."""
+    if not re.fullmatch(rb" *(?:[0-9]*[0-9p-y])?", data):
         return ""
+    data = data.lstrip(b" ") or b"0"
     sign, last = ("", data[-1:]) if data[-1] < 58 else ("-", bytes([data[-1] - 64]))
     found = (data[:-1] + last).lstrip(b"0").decode()
     return sign + found if found else "0"
