@@ -295,7 +295,7 @@ masked a n m = leftBy c movedData (turnBy c 0 movedData (verbOf 13) (record { co
 
 -- ---- spaces in a decimal
 
--- AMOUNT is D3.
+-- A unit whose one field, AMOUNT, is D3.
 abbrev amount : Code
 amount = unitOver 3 1 (λ f. record { kind = kind.Decimal; zero = 0; offset = 0; size = 3; count = 1 }) (λ e. alone 0)
 

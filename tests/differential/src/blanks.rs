@@ -239,7 +239,7 @@ mod tests {
         }
     }
 
-    /// The ways that are counted of a statement over an image that ends in 20 zeros, or of what
+    /// The ways that are counted of a statement over an image that ends in 20 zeros, or in what
     /// stands in their place.
     fn counted(front: &[u8], code: u8, a: u16, b: u16) -> Vec<String> {
         let mut image = front.to_vec();

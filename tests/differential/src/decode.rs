@@ -212,8 +212,7 @@ impl<'a> Sound<'a> {
         self.place(offset)?.span
     }
 
-    /// The decimals that statement `i` reads, in the order in which it reads them. A place that is written is read by
-    /// INCR and DECR alone.
+    /// The decimals that statement `i` reads. A place that is written is read by INCR and DECR alone.
     pub fn reads(&self, i: usize) -> Vec<Reference> {
         let statement = self.statement(i);
         let is_changed = matches!(statement.code, code::INCR | code::DECR);
