@@ -6,15 +6,14 @@
 --   Powers xs                     xs holds the nineteen powers of ten
 -- Divide, round, negate, the relations and the truth of numbers in the range stay in it, so they are told no bound.
 -- Assumes nothing.
-use mathlib.Core.Path.{_≡_}
 use mathlib.Core.Bool.{Bool, true, false, cond, not, _||_}
 use mathlib.Core.List.{List}
-use Prim.Native.Nat.{ℕ, _+_, _/_, _^_, _<_}
+use Prim.Native.Nat.{ℕ, _+_, _/_, _^_}
 use lib.Dec.{ltb, leb, eqb}
 use lib.IntN.{ℤ, pos, negsuc, natAbs, _+ℤ_, _-ℤ_, _*ℤ_}
-use lib.ListN.{getD}
 use lib.Signed.{quotZ, ltZ, leZ}
 use Rattle.rules.specs.Tests.{_&&_}
+use Rattle.rules.specs.Charts.{Charts}
 use Rattle.rules.specs.declared.Num.{Num}
 use Rattle.rules.specs.declared.Num.the-variants.{Value, Failed}
 use Rattle.rules.specs.declared.Fault.the-variants as fault
@@ -96,5 +95,5 @@ abbrev pub xorOf : ℤ → ℤ → ℤ
 xorOf a b = truth (xorb (isTrue a) (isTrue b))
 
 -- "The nineteen powers of ten serve here."
-pub record Powers (xs : List ℕ) : Type 0 where
-  pub at : (k : ℕ) → k < 19 → getD xs k 0 ≡ 10 ^ k
+abbrev pub Powers : List ℕ → Type 0
+Powers xs = Charts (λ (k : ℕ). 10 ^ k) 19 xs

@@ -82,6 +82,8 @@ pub fn turns(unit: &[u8], parts: Parts, bytes: &mut [u8], state: State, allowanc
     requires { ⌜ Sound (parts .n) state ⌝ }
     ensures { λ r. ⌜ _≡_ {A = Ran} (record { outcome = r; bytes = now (bytes .exit) }) (runFrom (codeOf (now (unit .entry)) parts) allowance state (now (bytes .entry)) 0) ⌝ }
 {
+    let uppers = alpha::upper_chart();
+    let lowers = alpha::lower_chart();
     let n = parts.n;
     let mut s = state;
     let mut left = allowance;
@@ -97,7 +99,7 @@ pub fn turns(unit: &[u8], parts: Parts, bytes: &mut [u8], state: State, allowanc
             return halt(Stop::Failed(e), at, count, s);
         }
         let write = turn.write;
-        run_stores::store(unit, parts, bytes, write);
+        run_stores::store(unit, parts, &uppers, &lowers, bytes, write);
         left -= 1;
         count += 1;
         match flow {

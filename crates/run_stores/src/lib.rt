@@ -6,7 +6,8 @@ ghost use mathlib.Core.Bool.{cond};
 ghost use Prim.Native.Nat.{_+_, _^_, _≤_};
 ghost use lib.ListN.{length, take, drop};
 ghost use Rattle.rules.specs.Values.{Val};
-ghost use Rattle.rules.specs.Moves.{written, shown, fitted};
+ghost use Rattle.rules.specs.Charts.{Charts};
+ghost use Rattle.rules.specs.Moves.{written, shown, fitted, upper as toUpper, lower as toLower};
 ghost use Rattle.rules.specs.Masks.{rightmost, formatted};
 ghost use Rattle.rules_unit.specs.Decode.{Fills, SoundDialect, codeOf};
 ghost use Rattle.rules_run.specs.Turns.{stored, cased, cleared, applied, Room};
@@ -118,16 +119,24 @@ fn store_cleared(bytes: &mut [u8], start: usize, len: usize, decimal: bool)
     alpha::fill(&mut bytes[start..end], clear_character(decimal))
 }
 
-// UPCASE or LOCASE of a span.
-fn store_cased(bytes: &mut [u8], start: usize, len: usize, upper: bool)
+// UPCASE or LOCASE of a span, by its chart.
+fn store_cased(
+    uppers: &[u8; 256],
+    lowers: &[u8; 256],
+    bytes: &mut [u8],
+    start: usize,
+    len: usize,
+    upper: bool,
+)
+    requires { ⌜ Charts toUpper 256 (now uppers) × Charts toLower 256 (now lowers) ⌝ }
     requires { ⌜ start + len ≤ length (now bytes) ⌝ }
     ensures { λ _. ⌜ now (bytes .exit) ≡ stored (now (bytes .entry)) start (cased upper (take len (drop start (now (bytes .entry))))) ⌝ }
 {
     let end = start + len;
     if upper {
-        return alpha::upcase(&mut bytes[start..end]);
+        return alpha::upcase(uppers, &mut bytes[start..end]);
     }
-    alpha::locase(&mut bytes[start..end])
+    alpha::locase(lowers, &mut bytes[start..end])
 }
 
 // A mask inside the data: the last of the count bytes at from, stored at the right end of the len bytes at start, with spaces before them.
@@ -182,8 +191,16 @@ fn format_literal(
     run_masks::format(&mut bytes[start..end], &unit[from..to], v)
 }
 
-// Stores what a statement answered. Data changes here and nowhere else.
-pub fn store(unit: &[u8], parts: Parts, bytes: &mut [u8], w: Write)
+// Stores what a statement answered; UPCASE and LOCASE go by the charts. Data changes here and nowhere else.
+pub fn store(
+    unit: &[u8],
+    parts: Parts,
+    uppers: &[u8; 256],
+    lowers: &[u8; 256],
+    bytes: &mut [u8],
+    w: Write,
+)
+    requires { ⌜ Charts toUpper 256 (now uppers) × Charts toLower 256 (now lowers) ⌝ }
     requires { ⌜ Fills (now unit) parts ⌝ }
     requires { ⌜ SoundDialect (parts .dialect) ⌝ }
     requires { ⌜ Room (codeOf (now unit) parts) (length (now bytes)) w ⌝ }
@@ -210,7 +227,7 @@ pub fn store(unit: &[u8], parts: Parts, bytes: &mut [u8], w: Write)
             len,
             decimal,
         } => store_cleared(bytes, start, len, decimal),
-        Write::Case { start, len, upper } => store_cased(bytes, start, len, upper),
+        Write::Case { start, len, upper } => store_cased(uppers, lowers, bytes, start, len, upper),
         Write::Edit {
             start,
             len,

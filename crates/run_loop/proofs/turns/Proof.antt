@@ -14,11 +14,17 @@ use Rattle.run_loop.proofs.turns.Statement.{statement}
 use Rattle.run_loop.proofs.turns.Tie as tie
 
 abbrev Inv-loop : tie.InvT-loop
-Inv-loop unit parts bytes₀ allowance n s₀ left₀ count₀ bytes s left count =
+Inv-loop unit parts bytes₀ allowance uppers lowers n s₀ left₀ count₀ bytes s left count =
     (runFrom (codeOf unit parts) left s bytes count ≡ runFrom (codeOf unit parts) allowance s₀ bytes₀ 0) × (count + left ≡ allowance) × (s .depth ≤ 50) × (length bytes ≡ parts .d)
 
 abbrev μ-loop : tie.MeasureT-loop
-μ-loop unit parts bytes₀ allowance n s₀ left₀ count₀ bytes s left count = left
+μ-loop unit parts bytes₀ allowance uppers lowers n s₀ left₀ count₀ bytes s left count = left
+
+upper-chart-requires : tie.Need-upper-chart-requires Inv-loop μ-loop
+upper-chart-requires c κs = search needs
+
+lower-chart-requires : tie.Need-lower-chart-requires Inv-loop μ-loop
+lower-chart-requires c κs = search needs
 
 loop-holds : tie.Need-loop-holds Inv-loop μ-loop
 loop-holds c = search needs
@@ -48,7 +54,7 @@ returns-2 : tie.Need-returns-2 Inv-loop μ-loop
 returns-2 c = search turn-ways depth 3
 
 store-requires : tie.Need-store-requires Inv-loop μ-loop
-store-requires c κs = search passed-laws depth 3
+store-requires c κs = (search needs, (search passed-laws depth 3, (search passed-laws depth 3, search passed-laws depth 3)))
 
 sub-left : tie.Need-sub-left Inv-loop μ-loop
 sub-left c = search needs
@@ -140,6 +146,8 @@ turns-spec =
     (tie.spec
     Inv-loop
     μ-loop
+    upper-chart-requires
+    lower-chart-requires
     loop-holds
     halt-requires
     same-length
