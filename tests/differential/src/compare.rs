@@ -276,6 +276,7 @@ fn step(case: &Case, reached: &mut Reached) -> Result<(), Difference> {
                 .formats
                 .completed(&unit, at, before.part(), ran.data.part());
             reached.blanks.completed(&unit, at, before.part());
+            reached.letters.completed(&unit, at, before.part());
         }
         if (20..=26).contains(&ran.given.result) {
             reached.formats.failed(&case.unit, at, before.part());

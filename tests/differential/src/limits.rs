@@ -11,7 +11,7 @@ type Make = fn(&mut Random) -> Draft;
 
 /// A unit at some limit.
 pub fn limit_unit(random: &mut Random) -> Draft {
-    let makers: [(usize, Make); 12] = [
+    let makers: [(usize, Make); 13] = [
         (1, sizes),
         (12, held),
         (10, nesting),
@@ -24,6 +24,7 @@ pub fn limit_unit(random: &mut Random) -> Draft {
         (12, masks),
         (2, long_masks),
         (10, mask_errors),
+        (2, letters),
     ];
     random.weighed(&makers)(random)
 }
@@ -393,6 +394,22 @@ fn faulty_number(maker: &mut Maker, decimal: usize) {
     match item {
         0x04 => maker.refer(item, decimal),
         _ => maker.draft.expressions.push(item),
+    }
+}
+
+/// Some UPCASEs and LOCASEs of all 256 bytes, begun at any of them.
+fn letters(random: &mut Random) -> Draft {
+    let first = random.byte();
+    let count = random.within(1..=3);
+    let code = |random: &mut Random| random.pick(&[code::UPCASE, code::LOCASE]);
+    Draft {
+        image: (0..=255).map(|i| first.wrapping_add(i)).collect(),
+        fields: vec![Field::new(ALPHA, 0, 256, 1)],
+        expressions: b"\x02\0\0\0".to_vec(),
+        literals: Vec::new(),
+        statements: (0..count)
+            .map(|_| Statement::new(code(random), 0, 0, 0))
+            .collect(),
     }
 }
 

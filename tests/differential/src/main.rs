@@ -16,6 +16,7 @@ mod decode;
 mod draft;
 mod expressions;
 mod formats;
+mod letters;
 mod library;
 mod limits;
 mod promises;

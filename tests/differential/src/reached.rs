@@ -4,6 +4,7 @@ use crate::blanks::Blanks;
 use crate::cases::{Kind, KINDS};
 use crate::decode::Sound;
 use crate::formats::Formats;
+use crate::letters::Letters;
 use std::fmt;
 
 /// The stops of document 01.
@@ -44,6 +45,8 @@ pub struct Reached {
     pub formats: Formats,
     /// What reads of blank-padded amounts have reached.
     pub blanks: Blanks,
+    /// The bytes that UPCASE and LOCASE have met.
+    pub letters: Letters,
 }
 
 impl Reached {
@@ -112,6 +115,7 @@ impl Reached {
         self.completed += other.completed;
         self.formats.add(&other.formats);
         self.blanks.add(&other.blanks);
+        self.letters.add(&other.letters);
     }
 
     /// What was never reached.
@@ -142,6 +146,13 @@ impl Reached {
         missing.extend(formats.map(|(way, _)| format!("of a formatted move: {way}")));
         let blanks = self.blanks.reached().filter(|(_, count)| *count == 0);
         missing.extend(blanks.map(|(way, _)| format!("of a blank-padded amount: {way}")));
+        for (name, bytes) in self.letters.unmet() {
+            missing.extend(
+                bytes
+                    .iter()
+                    .map(|byte| format!("{name} of byte {byte:02X}")),
+            );
+        }
         missing
     }
 }
@@ -191,6 +202,10 @@ impl fmt::Display for Reached {
         write!(f, "\nblank-padded amounts")?;
         for (way, count) in self.blanks.reached() {
             write!(f, "  {way}: {count}")?;
+        }
+        write!(f, "\nletters")?;
+        for (name, bytes) in self.letters.unmet() {
+            write!(f, "  {name} of {} bytes", 256 - bytes.len())?;
         }
         Ok(())
     }
