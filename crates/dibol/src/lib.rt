@@ -82,20 +82,23 @@ pub fn stretch(unit: &[u8], i: usize) -> Stretch
     unit_literal::stretch(unit, i)
 }
 
-// The resume state of a run that has not begun: the first statement, and no call open.
+// The resume state of a run that has not begun: the first statement, and no call and no loop open.
 pub fn start() -> State
     ensures { λ r. ⌜ r ≡ started ⌝ }
 {
+    let none = rules_run::no_loop();
     State {
         at: 0,
         depth: 0,
         returns: [0u16; 50],
+        opened: 0,
+        loops: [none; 16],
     }
 }
 
 // Runs a unit over a data buffer, from a resume state and for at most `allowance` statements. The unit is checked first (1 to 5); then
 // the buffer must have the unit's D bytes (6) and the state must be sound for the unit (7). Where a check fails, no byte and no state
-// is changed, and the count is 0. The outcome says why the call ended and at which place (`stop_number` gives document 01's number),
+// is changed, and the count is 0. The outcome says why the call ended and at which place (`stop_number` gives the papers' number),
 // how many statements this call completed, and the state to go on from. A statement that ends in a run error has changed nothing: the
 // state stands at it. Where the allowance is spent before the end, a further call with the state handed back and the same buffer goes
 // on as if there had been no stop.
@@ -109,7 +112,7 @@ pub fn run(unit: &[u8], bytes: &mut [u8], state: State, allowance: u64) -> Outco
             if bytes.len() != parts.d as usize {
                 return refused(Stop::WrongSize, 0, state);
             }
-            if !run_state::sound(parts.n, state) {
+            if !run_state::sound(unit, parts, state) {
                 return refused(Stop::Unsound, 0, state);
             }
             run_loop::turns(unit, parts, bytes, state, allowance)
@@ -129,7 +132,7 @@ fn refused(stop: Stop, place: u16, state: State) -> Outcome
     }
 }
 
-// Document 01's number for the reason why a call ended: 0 for the end, 1 to 7 for a refusal, 20 to 26 for a run error, 30 for an
+// The papers' number for the reason why a call ended: 0 for the end, 1 to 7 for a refusal, 20 to 29 for a run error, 30 for an
 // allowance that was spent before the end.
 pub fn stop_number(s: Stop) -> u8
     ensures { λ r. ⌜ r ≡ stopNumber s ⌝ }

@@ -37,9 +37,11 @@ fn refuses(stop: u64) -> bool
 // ---- the functions for C
 
 // Runs a unit over a data buffer, as `dibol::run` does, from the resume state in `state` and for at most `allowance` statements. The
-// answer is the stop's number; `answer` is given the stop, the place and the count, as many as fit. `state` has 52 numbers: the
-// statement, the open calls and the 50 return numbers, and is rewritten with the next state. A `state` of another length, or with a
-// number over 65,535, is 7, after 1 to 6. After 1 to 7 `bytes` and `state` are as they were.
+// answer is the stop's number; `answer` is given the stop, the place and the count, as many as fit. `state` has `dibol_state_len` numbers,
+// all zero at the start: the statement, the open calls, the 50 return numbers, the open loops, and the entry, the limit and the step of each
+// of 16 slots. It is rewritten with the next state. A `state` of another length, or with a number that stands for nothing at its place, is 7,
+// after 1 to 6: a statement, a count or an entry is at most 65,535, and a limit or a step is a value, held as C holds a number with a sign in
+// one without. After 1 to 7 `bytes` and `state` are as they were.
 #[no_mangle]
 pub extern "C" fn dibol_run(
     unit: &[u8],
@@ -136,18 +138,18 @@ pub extern "C" fn dibol_words(stop: u64, text: &mut [u8]) -> u64
     dibol::words(stop, text) as u64
 }
 
-// The version, ten thousand for its first number, a hundred for its second and one for its third: 100 is 0.1.0.
+// The version, ten thousand for its first number, a hundred for its second and one for its third: 200 is 0.2.0.
 #[no_mangle]
 pub extern "C" fn dibol_version() -> u64
-    ensures { λ r. ⌜ r ≡ 100 ⌝ }
+    ensures { λ r. ⌜ r ≡ 200 ⌝ }
 {
-    100
+    200
 }
 
 // How many numbers a resume state has.
 #[no_mangle]
 pub extern "C" fn dibol_state_len() -> u64
-    ensures { λ r. ⌜ r ≡ 52 ⌝ }
+    ensures { λ r. ⌜ r ≡ 101 ⌝ }
 {
-    52
+    101
 }

@@ -9,6 +9,7 @@ ghost use Rattle.rules_unit.specs.declared.Checked.the-variants as checked;
 ghost use Rattle.rules_unit.specs.Decode.{codeOf};
 ghost use Rattle.rules_unit.specs.Checks.{checkOf};
 ghost use Rattle.rules_fence.specs.Breaches.{breachOf, verdictFrom, fenceOf, breachBy, breachIn};
+ghost use Rattle.unit_decode.specs.Rows.{RowsOf};
 ghost use Rattle.fence_decimals.specs.Ahead.{Ahead};
 ghost use Rattle.fence_statements.specs.Notes.{Both};
 
@@ -19,15 +20,17 @@ fn verdict_by(
     ahead: &[u16],
     reads: &mut [u8],
     writes: &mut [u8],
+    rows: &mut [u16],
 ) -> Verdict
     requires { ⌜ checkOf (now unit) ≡ checked.Passed parts ⌝ }
     requires { ⌜ Ahead (codeOf (now unit) parts) (now ahead) ⌝ }
     requires { ⌜ Both (now unit) parts (now reads) (now writes) ⌝ }
+    requires { ⌜ RowsOf (now unit) parts (now rows) ⌝ }
     ensures { λ r. ⌜ r ≡ verdictFrom (codeOf (now (unit .entry)) parts) (parts .n) 0 ⌝ }
 {
     let mut i: u16 = 0;
     while i < parts.n {
-        let b = fence_statements::breach_of(unit, parts, ahead, reads, writes, i);
+        let b = fence_statements::breach_of(unit, parts, ahead, reads, writes, rows, i);
         if !fence_statements::keeps(b) {
             return Verdict::No(i);
         }
@@ -44,8 +47,9 @@ fn verdict_of(unit: &[u8], parts: Parts) -> Verdict
     let mut ahead = [65535u16; 16384];
     let mut reads = [0u8; 16384];
     let mut writes = [0u8; 16384];
+    let mut rows = [0u16; 16384];
     fence_decimals::note_decimals(unit, parts, &mut ahead);
-    verdict_by(unit, parts, &ahead, &mut reads, &mut writes)
+    verdict_by(unit, parts, &ahead, &mut reads, &mut writes, &mut rows)
 }
 
 // The fence check of a unit: a refusal of its check, yes, or no with the first statement that breaks a rule.
@@ -68,8 +72,9 @@ fn breach_alone(unit: &[u8], parts: Parts, i: u16) -> Breach
     let mut ahead = [65535u16; 16384];
     let mut reads = [0u8; 1];
     let mut writes = [0u8; 1];
+    let mut rows = [0u16; 1];
     fence_decimals::note_decimals(unit, parts, &mut ahead);
-    fence_statements::breach_of(unit, parts, &ahead, &mut reads, &mut writes, i)
+    fence_statements::breach_of(unit, parts, &ahead, &mut reads, &mut writes, &mut rows, i)
 }
 
 // The same of any number; none where there is no such statement.

@@ -25,8 +25,7 @@ use Rattle.rules_fence.specs.Bounds.{boundedb}
 use Rattle.rules_fence.specs.Breaches.{keepsb, breachFrom}
 use Rattle.rules_fence.proofs.Kept.{none-kept}
 use Rattle.unit_sorts.specs.Notes.{expressionsOf}
-use Rattle.unit_sorts.proofs.Notes.{zeros}
-use Rattle.unit_sorts.proofs.Parts.{part-is}
+use Rattle.unit_decode.proofs.Rows.{zeros, part-is}
 use Rattle.fence_statements.specs.Notes.{notedb, noteAt, Kept, KeptIf, Both, BothIf}
 
 -- ---- the list, where b says whether there are bounds

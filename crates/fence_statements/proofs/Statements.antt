@@ -6,19 +6,20 @@ use mathlib.Core.List.{List, [], _∷_}
 use Prim.Native.Nat.{ℕ, zero, suc, _+_, _-_, _≤_, _<_}
 use native.Mathlib.Numerals.{add-one}
 use native.Mathlib.Omega.{arith}
-use lib.Dec.{ltb}
-use lib.ListN.{length, getD, take, drop, drop-of-length-le, List·getD-eq-default}
-use borrow.Author.Tests.{ltb-true, ltb-false, not-true, not-false}
+use lib.ListN.{length, getD, take, drop, drop-of-length-le}
+use borrow.Author.Tests.{not-true, not-false}
 use Rattle.rules_unit.specs.declared.Parts.{Parts}
 use Rattle.rules_unit.specs.declared.Checked.the-variants as checked
 use Rattle.rules_unit.specs.declared.Statement.{Statement}
+use Rattle.rules_unit.specs.declared.Verb.{Verb}
+use Rattle.rules_unit.specs.declared.Row.{Row}
 use Rattle.rules_unit.specs.declared.Want.{Want}
 use Rattle.rules_unit.specs.declared.Use.{Use}
 use Rattle.rules_unit.specs.declared.Use.the-variants as use-of
 use Rattle.rules_unit.specs.Codes.{Code}
 use Rattle.rules_unit.specs.Decode.{expressionsAt, literalsAt, itemsAt, codeOf}
 use Rattle.rules_unit.specs.Expressions.{useb}
-use Rattle.rules_unit.specs.Table.{usesOf}
+use Rattle.rules_unit.specs.Table.{verbOf, rowOf, usesBy, usesOf}
 use Rattle.rules_unit.specs.Checks.{checkOf}
 use Rattle.rules_unit.proofs.Sound.{passed-sound}
 use Rattle.rules_unit.proofs.Statements.{uses-good}
@@ -27,7 +28,7 @@ use Rattle.rules_fence.specs.declared.Breach.the-variants as breach
 use Rattle.rules_fence.specs.declared.Seen.the-variants as seen
 use Rattle.rules_fence.specs.Breaches.{keepsb, firstOf, breachFrom, useBreach, usesBreach, breachOf}
 use Rattle.rules_fence.proofs.Sorts.{known-of}
-use Rattle.fence_statements.specs.Asked.{AllKnown}
+use Rattle.fence_statements.specs.Asked.{AllKnown, AllGood}
 
 -- ---- one use
 
@@ -70,34 +71,42 @@ uses-end : (c : Code) (us : List Use) (k : ℕ) → length us ≤ k → usesBrea
 unfolding usesBreach
 uses-end c us k h = rw (drop-of-length-le us h)
 
-module _ (u : List ℕ) (p : Parts) (i : ℕ) (s : Statement) (es : s ≡ codeOf u p .statement i) where
-  -- Every use of a unit that passed its check is good, and past the last there is none.
-  pub use-good : (x : Use) (k : ℕ) → checkOf u ≡ checked.Passed p → i < p .n → x ≡ getD (usesOf s) k use-of.Nothing → useb (codeOf u p) x ≡ true
-  use-good x k e h ex =
-      subst (λ (y : Use). useb (codeOf u p) y ≡ true) (sym (ex ∙ ap (λ (y : Statement). getD (usesOf y) k use-of.Nothing) es))
-      (by (ltb k (length (usesOf (codeOf u p .statement i)))) refl)
-    where
-      by : (t : Bool) → ltb k (length (usesOf (codeOf u p .statement i))) ≡ t
-          → useb (codeOf u p) (getD (usesOf (codeOf u p .statement i)) k use-of.Nothing) ≡ true
-      by true q = uses-good (codeOf u p) i (passed-sound u p e .code .statements i h .uses) k (ltb-true k (length (usesOf (codeOf u p .statement i))) q)
-      by false q = rw (List·getD-eq-default (usesOf (codeOf u p .statement i)) use-of.Nothing (ltb-false k (length (usesOf (codeOf u p .statement i))) q))
+-- s, v and r are the statement, its verb and its row, as the code has asked for them
+module _ (u : List ℕ) (p : Parts) (i : ℕ) (s : Statement) (v : Verb) (r : Row)
+    (es : s ≡ codeOf u p .statement i) (ev : v ≡ verbOf (s .code)) (er : r ≡ rowOf v) where
+  own : usesBy (codeOf u p) r s ≡ usesOf (codeOf u p) (codeOf u p .statement i)
+  own = ap (λ (x : Row). usesBy (codeOf u p) x s) (er ∙ ap rowOf ev) ∙ ap (usesOf (codeOf u p)) es
 
-  -- before the first use
-  pub uses-start : usesBreach (codeOf u p) (drop 0 (usesOf s)) ≡ breachOf (codeOf u p) i
+  pub all-good : checkOf u ≡ checked.Passed p → i < p .n → AllGood (codeOf u p) (usesBy (codeOf u p) r s)
+  all-good e h =
+      subst (AllGood (codeOf u p)) (sym own) (record { each = uses-good (codeOf u p) i (passed-sound u p e .code .statements i h .uses) })
+
+  pub breach-own : (z : Breach) → z ≡ usesBreach (codeOf u p) (usesBy (codeOf u p) r s) → z ≡ breachOf (codeOf u p) i
   unfolding breachOf
-  uses-start = rw es
+  breach-own z e = e ∙ ap (usesBreach (codeOf u p)) own
 
--- the loop over the uses: k is the next one, x that use, r what it breaks, t whether that is nothing, and z what the whole loop answers
-module _ (u : List ℕ) (p : Parts) (us : List Use) (k : ℕ) (z : Breach) (left : usesBreach (codeOf u p) (drop k us) ≡ z) where
-  pub uses-over : length us ≤ k → breach.None ≡ z
-  uses-over h = sym (uses-end (codeOf u p) us k h) ∙ left
+-- the loop over the uses of a statement whose row is given: what is left from the use k on gives the answer of the whole
+pub record Left (u : List ℕ) (p : Parts) (r : Row) (s : Statement) (k : ℕ) : Type 0 where
+  pub gives : usesBreach (codeOf u p) (drop k (usesBy (codeOf u p) r s)) ≡ usesBreach (codeOf u p) (usesBy (codeOf u p) r s)
 
-  module _ (x : Use) (r : Breach) (t : Bool) (ex : x ≡ getD us k use-of.Nothing) (er : r ≡ useBreach (codeOf u p) x) (et : t ≡ keepsb r) where
-    step : usesBreach (codeOf u p) (drop k us) ≡ cond t (usesBreach (codeOf u p) (drop (suc k) us)) r
-    step = uses-suc (codeOf u p) us k ∙ rw (← ex, ← er, ← et)
+pub left-all : (u : List ℕ) (p : Parts) (r : Row) (s : Statement) → Left u p r s 0
+left-all u p r s = record { gives = refl }
 
-    pub uses-break : not t ≡ true → r ≡ z
-    uses-break h = sym (rw (not-true t h) at step) ∙ left
+-- n is how many uses there are, x the next one, b what it breaks, and t whether that is nothing
+module _ (u : List ℕ) (p : Parts) (r : Row) (s : Statement) (k : ℕ) (left : Left u p r s k) where
+  pub uses-over : (n : ℕ) → n ≡ length (usesBy (codeOf u p) r s) → n ≤ k → breach.None ≡ usesBreach (codeOf u p) (usesBy (codeOf u p) r s)
+  uses-over n e h = sym (uses-end (codeOf u p) (usesBy (codeOf u p) r s) k (omega (arith, e, h))) ∙ left .gives
 
-    pub uses-on : not t ≡ false → usesBreach (codeOf u p) (drop (k + 1) us) ≡ z
-    uses-on h = rw (add-one k) (sym (rw (not-false t h) at step) ∙ left)
+  module _ (x : Use) (ex : x ≡ getD (usesBy (codeOf u p) r s) k use-of.Nothing) where
+    pub use-good : (n : ℕ) → AllGood (codeOf u p) (usesBy (codeOf u p) r s) → n ≡ length (usesBy (codeOf u p) r s) → k < n → useb (codeOf u p) x ≡ true
+    use-good n good e h = rw ex (good .each k (omega (arith, e, h)))
+
+    module _ (b : Breach) (t : Bool) (eb : b ≡ useBreach (codeOf u p) x) (et : t ≡ keepsb b) where
+      step : usesBreach (codeOf u p) (drop k (usesBy (codeOf u p) r s)) ≡ cond t (usesBreach (codeOf u p) (drop (suc k) (usesBy (codeOf u p) r s))) b
+      step = uses-suc (codeOf u p) (usesBy (codeOf u p) r s) k ∙ rw (← ex, ← eb, ← et)
+
+      pub uses-break : not t ≡ true → b ≡ usesBreach (codeOf u p) (usesBy (codeOf u p) r s)
+      uses-break h = sym (rw (not-true t h) at step) ∙ left .gives
+
+      pub uses-on : not t ≡ false → Left u p r s (k + 1)
+      uses-on h = record { gives = rw (add-one k) (sym (rw (not-false t h) at step) ∙ left .gives) }

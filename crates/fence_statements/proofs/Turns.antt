@@ -12,7 +12,7 @@ use Rattle.rules_unit.specs.declared.Item.{Item}
 use Rattle.rules_unit.specs.declared.Item.the-variants as item
 use Rattle.rules_unit.specs.Codes.{Code}
 use Rattle.rules_unit.specs.Decode.{itemAt, widthOf, follow, itemsAt}
-use Rattle.rules_unit.specs.Expressions.{itemb}
+use Rattle.rules_unit.specs.Expressions.{itemb, closesb}
 use Rattle.rules_unit.proofs.Items.{items-as, beyond}
 use Rattle.rules_fence.specs.declared.Breach.{Breach}
 use Rattle.rules_fence.specs.declared.Breach.the-variants as breach
@@ -22,7 +22,7 @@ use Rattle.rules_fence.specs.Fence.{destb}
 use Rattle.rules_fence.specs.Breaches.{keepsb, itemBreach, breachFrom}
 use Rattle.rules_unit.specs.Expressions.{Known}
 use Rattle.rules_fence.proofs.First.{read-dest}
-use Rattle.fence_statements.specs.Asked.{AllKnown, closesb}
+use Rattle.fence_statements.specs.Asked.{AllKnown}
 use Rattle.run_items.proofs.Closing.{closed, unclosed}
 
 -- ---- the destination

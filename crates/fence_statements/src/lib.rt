@@ -3,8 +3,9 @@
 // come to the same item walk on from it.
 use rules_fence::Breach;
 use rules_fence::Seen;
-use rules_unit::Item;
 use rules_unit::Parts;
+use rules_unit::Row;
+use rules_unit::Statement;
 use rules_unit::Use;
 ghost use mathlib.Core.Path.{_≡_};
 ghost use mathlib.Core.Bool.{true};
@@ -12,13 +13,15 @@ ghost use Prim.Native.Nat.{_<_};
 ghost use Rattle.rules_unit.specs.declared.Checked.the-variants as checked;
 ghost use Rattle.rules_unit.specs.Decode.{Fills, SoundDialect, itemsAt, codeOf};
 ghost use Rattle.rules_unit.specs.Expressions.{useb};
+ghost use Rattle.rules_unit.specs.Table.{usesBy};
 ghost use Rattle.rules_unit.specs.Checks.{checkOf};
 ghost use Rattle.rules_fence.specs.declared.Seen.the-variants as seen;
 ghost use Rattle.rules_fence.specs.Fence.{destb};
-ghost use Rattle.rules_fence.specs.Breaches.{keepsb, breachFrom, useBreach, breachOf};
+ghost use Rattle.rules_fence.specs.Breaches.{keepsb, breachFrom, useBreach, usesBreach, breachOf};
+ghost use Rattle.unit_decode.specs.Rows.{RowsOf};
 ghost use Rattle.unit_sorts.specs.Notes.{expressionsOf};
 ghost use Rattle.fence_decimals.specs.Ahead.{Ahead};
-ghost use Rattle.fence_statements.specs.Asked.{AllKnown, closesb};
+ghost use Rattle.fence_statements.specs.Asked.{AllKnown, AllGood};
 ghost use Rattle.fence_statements.specs.Notes.{notedb, noteAt, Kept, KeptIf, Both, BothIf};
 
 // Whether no rule is broken.
@@ -44,20 +47,6 @@ fn aimed(dest: bool, es: &[u8], next: usize) -> bool
         return run_items::ends(es, next);
     }
     false
-}
-
-// Whether no item follows that belongs to the expression.
-fn closes(item: Item) -> bool
-    ensures { λ r. ⌜ r ≡ closesb item ⌝ }
-{
-    match item {
-        Item::Number { place: _, len: _ } => false,
-        Item::Reference { form: _, field: _ } => false,
-        Item::Text { place: _, len: _ } => false,
-        Item::Operator(_) => false,
-        Item::End => true,
-        Item::Bad => true,
-    }
 }
 
 // ---- notes
@@ -115,7 +104,7 @@ fn breach_in(
             return Breach::None;
         }
         let item = unit_decode::item_at(es, i);
-        if closes(item) {
+        if unit_decode::closes(item) {
             return Breach::None;
         }
         let next = i + unit_decode::width_of(item);
@@ -211,6 +200,40 @@ fn use_breach(
     }
 }
 
+// What the uses of a statement whose row is given break first.
+fn breach_by(
+    unit: &[u8],
+    parts: Parts,
+    ahead: &[u16],
+    reads: &mut [u8],
+    writes: &mut [u8],
+    rows: &mut [u16],
+    row: Row,
+    s: Statement,
+) -> Breach
+    requires { ⌜ Fills (now unit) parts ⌝ }
+    requires { ⌜ SoundDialect (parts .dialect) ⌝ }
+    requires { ⌜ Ahead (codeOf (now unit) parts) (now ahead) ⌝ }
+    requires { ⌜ AllGood (codeOf (now unit) parts) (usesBy (codeOf (now unit) parts) row s) ⌝ }
+    requires { ⌜ Both (now unit) parts (now reads) (now writes) ⌝ }
+    requires { ⌜ RowsOf (now unit) parts (now rows) ⌝ }
+    ensures { λ r. ⌜ r ≡ usesBreach (codeOf (now (unit .entry)) parts) (usesBy (codeOf (now (unit .entry)) parts) row s) ⌝ }
+    ensures { λ r. ⌜ BothIf r (now (unit .entry)) parts (now (reads .exit)) (now (writes .exit)) ⌝ }
+    ensures { λ _. ⌜ RowsOf (now (unit .entry)) parts (now (rows .exit)) ⌝ }
+{
+    let count = unit_uses::count_of(unit, parts, row, s);
+    let mut k: usize = 0;
+    while k < count {
+        let u = unit_uses::use_by(unit, parts, rows, row, s, k);
+        let b = use_breach(unit, parts, ahead, reads, writes, u);
+        if !keeps(b) {
+            return b;
+        }
+        k += 1;
+    }
+    Breach::None
+}
+
 // What the statement i of a unit that passed its check breaks first: its uses in order, their references left to right.
 pub fn breach_of(
     unit: &[u8],
@@ -218,23 +241,19 @@ pub fn breach_of(
     ahead: &[u16],
     reads: &mut [u8],
     writes: &mut [u8],
+    rows: &mut [u16],
     i: u16,
 ) -> Breach
     requires { ⌜ checkOf (now unit) ≡ checked.Passed parts ⌝ }
     requires { ⌜ Ahead (codeOf (now unit) parts) (now ahead) ⌝ }
     requires { ⌜ i < parts .n ⌝ }
     requires { ⌜ Both (now unit) parts (now reads) (now writes) ⌝ }
+    requires { ⌜ RowsOf (now unit) parts (now rows) ⌝ }
     ensures { λ r. ⌜ r ≡ breachOf (codeOf (now (unit .entry)) parts) i ⌝ }
     ensures { λ r. ⌜ BothIf r (now (unit .entry)) parts (now (reads .exit)) (now (writes .exit)) ⌝ }
+    ensures { λ _. ⌜ RowsOf (now (unit .entry)) parts (now (rows .exit)) ⌝ }
 {
     let s = unit_decode::statement(unit, parts, i);
-    let mut k: usize = 0;
-    while k < unit_uses::COUNT {
-        let b = use_breach(unit, parts, ahead, reads, writes, unit_uses::use_at(s, k));
-        if !keeps(b) {
-            return b;
-        }
-        k += 1;
-    }
-    Breach::None
+    let row = unit_decode::row_of(unit_decode::verb_of(s.code));
+    breach_by(unit, parts, ahead, reads, writes, rows, row, s)
 }

@@ -20,6 +20,12 @@ pub enum Fault {
     NoCall,
     // A rounding count outside its range.
     RoundCount,
+    // FOR with a step of zero.
+    ZeroStep,
+    // FOR with all loops open.
+    LoopsFull,
+    // A loop end, EXITLOOP or NEXTLOOP with none open.
+    NoLoop,
 }
 
 // What working out a number answers.
@@ -28,7 +34,7 @@ pub enum Num {
     Failed(Fault),
 }
 
-// Document 01's number for a fault.
+// The papers' number for a fault.
 pub fn fault_number(f: Fault) -> u8
     ensures { λ r. ⌜ r ≡ faultNumber f ⌝ }
 {
@@ -41,6 +47,9 @@ pub fn fault_number(f: Fault) -> u8
         Fault::CallsFull => 24,
         Fault::NoCall => 25,
         Fault::RoundCount => 26,
+        Fault::ZeroStep => 27,
+        Fault::LoopsFull => 28,
+        Fault::NoLoop => 29,
     }
 }
 

@@ -16,7 +16,7 @@ use Rattle.rules_unit.specs.declared.Role.the-variants as role
 use Rattle.rules_unit.specs.declared.Statement.{Statement}
 use Rattle.rules_unit.specs.declared.Use.the-variants as use-of
 use Rattle.rules_unit.specs.Codes.{Code}
-use Rattle.rules_unit.specs.Table.{verbOf, rowOf, useOf, usesOf, WritesA}
+use Rattle.rules_unit.specs.Table.{verbOf, rowOf, useOf, moreOf, usesOf, WritesA}
 use Rattle.rules_unit.proofs.Table.{codeBack, verb-code, writes-some}
 use Rattle.rules_unit.specs.Sound.{SoundCode}
 use Rattle.rules_run.specs.declared.Span.{Span}
@@ -38,6 +38,8 @@ writtenb (role.Written w) = true
 writtenb (role.Read w) = false
 writtenb role.Target = false
 writtenb role.Table = false
+writtenb role.Numbers = false
+writtenb role.End = false
 writtenb role.Never = false
 
 role-writes : (c : Code) (r : Role) (x : ℕ) (span : Span) → Writes c (useOf r x) span → (writtenb r ≡ true) × PlaceNames c (c .items x) span
@@ -46,6 +48,8 @@ role-writes c (role.Written w) x span r = (refl, r .1)
 role-writes c (role.Read w) x span r = absurd (false≢true (r .0))
 role-writes c role.Target x span r = absurd r
 role-writes c role.Table x span r = absurd r
+role-writes c role.Numbers x span r = absurd (false≢true (r .0))
+role-writes c role.End x span r = absurd r
 role-writes c role.Never x span r = absurd r
 
 -- Of a statement's parts only a is written, and that by the codes named for it.
@@ -61,24 +65,41 @@ only-a (verb.At (act.Count true)) = record { codes = λ e. inl (omega arith, ome
 only-a (verb.At (act.Count false)) = record { codes = λ e. inl (omega arith, omega arith); not-b = refl; not-c = refl }
 only-a (verb.At (act.Case true)) = record { codes = λ e. inl (omega arith, omega arith); not-b = refl; not-c = refl }
 only-a (verb.At (act.Case false)) = record { codes = λ e. inl (omega arith, omega arith); not-b = refl; not-c = refl }
-only-a (verb.At act.Edit) = record { codes = λ e. inr refl; not-b = refl; not-c = refl }
+only-a (verb.At act.Edit) = record { codes = λ e. inr (inl refl); not-b = refl; not-c = refl }
 only-a verb.Goto = record { codes = λ e. absurd (false≢true e); not-b = refl; not-c = refl }
 only-a verb.IfZero = record { codes = λ e. absurd (false≢true e); not-b = refl; not-c = refl }
 only-a verb.Call = record { codes = λ e. absurd (false≢true e); not-b = refl; not-c = refl }
 only-a verb.Return = record { codes = λ e. absurd (false≢true e); not-b = refl; not-c = refl }
 only-a verb.Stop = record { codes = λ e. absurd (false≢true e); not-b = refl; not-c = refl }
 only-a verb.Computed = record { codes = λ e. absurd (false≢true e); not-b = refl; not-c = refl }
+only-a verb.For = record { codes = λ e. inr (inr refl); not-b = refl; not-c = refl }
+only-a verb.LoopEnd = record { codes = λ e. absurd (false≢true e); not-b = refl; not-c = refl }
+only-a verb.ExitLoop = record { codes = λ e. absurd (false≢true e); not-b = refl; not-c = refl }
+only-a verb.NextLoop = record { codes = λ e. absurd (false≢true e); not-b = refl; not-c = refl }
 only-a verb.Bad = record { codes = λ e. absurd (false≢true e); not-b = refl; not-c = refl }
 
+-- What follows in a row is read.
+more-reads : (c : Code) (r : Role) (x k : ℕ) (span : Span) → Writes c (getD (moreOf c r x) k use-of.Nothing) span → ⊥
+more-reads c role.Unused x k span r = r
+more-reads c (role.Written w) x k span r = r
+more-reads c (role.Read w) x k span r = r
+more-reads c role.Target x k span r = r
+more-reads c role.Table x k span r = r
+more-reads c role.Numbers x zero span r = false≢true (r .0)
+more-reads c role.Numbers x (suc zero) span r = false≢true (r .0)
+more-reads c role.Numbers x (suc (suc k)) span r = r
+more-reads c role.End x k span r = r
+more-reads c role.Never x k span r = r
+
 -- What a statement writes is named by its part a.
-a-writes : (c : Code) (t : Statement) (k : ℕ) (span : Span) → k < length (usesOf t) → Writes c (getD (usesOf t) k use-of.Nothing) span
+a-writes : (c : Code) (t : Statement) (k : ℕ) (span : Span) → k < length (usesOf c t) → Writes c (getD (usesOf c t) k use-of.Nothing) span
     → (writtenb (rowOf (verbOf (t .code)) .a) ≡ true) × PlaceNames c (c .items (t .a)) span
 a-writes c t zero span l r = role-writes c (rowOf (verbOf (t .code)) .a) (t .a) span r
 a-writes c t (suc zero) span l r =
     let v = verbOf (t .code) in absurd (false≢true (sym (only-a v .not-b) ∙ role-writes c (rowOf v .b) (t .b) span r .0))
 a-writes c t (suc (suc zero)) span l r =
     let v = verbOf (t .code) in absurd (false≢true (sym (only-a v .not-c) ∙ role-writes c (rowOf v .c) (t .c) span r .0))
-a-writes c t (suc (suc (suc k))) span l r = absurd (omega arith)
+a-writes c t (suc (suc (suc k))) span l r = absurd (more-reads c (rowOf (verbOf (t .code)) .b) (t .b) k span r)
 
 low-a : (c : Code) (code x : ℕ) (span : Span) → 1 ≤ code → code ≤ 6 → PlaceNames c (c .items x) span → Writes c (useOf (rowOf (verbOf code) .a) x) span
 unfolding verbOf
@@ -94,9 +115,10 @@ low-a c (suc (suc (suc (suc (suc (suc (suc code))))))) x span l m p = absurd (om
 codes-a : (c : Code) (code x : ℕ) (span : Span) → WritesA code → PlaceNames c (c .items x) span → Writes c (useOf (rowOf (verbOf code) .a) x) span
 unfolding verbOf
 codes-a c code x span (inl h) p = low-a c code x span (h .0) (h .1) p
-codes-a c code x span (inr e) p = rw e (refl, p)
+codes-a c code x span (inr (inl e)) p = rw e (refl, p)
+codes-a c code x span (inr (inr e)) p = rw e (refl, p)
 
--- "A destination is the span named by place a of codes 1 to 6", and of 13.
+-- "A destination is the span named by place a of codes 1 to 6", and of 13 and 14.
 pub destination-exactly : (c : Code) (b : ℕ) → Destination c b ↔ InPlaceA c b
 destination-exactly c b = (to, of)
   where

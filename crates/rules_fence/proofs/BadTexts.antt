@@ -15,6 +15,7 @@ use Rattle.rules_unit.specs.declared.Sort.the-variants as sort
 use Rattle.rules_unit.specs.Codes.{Code}
 use Rattle.rules_unit.specs.Expressions.{alphaSort, sortAt}
 use Rattle.rules_unit.proofs.Sorts.{rightb}
+use Rattle.rules_run.specs.declared.Look.{Look}
 use Rattle.rules_run.specs.declared.Worked.{Worked}
 use Rattle.rules_run.specs.declared.Worked.the-variants as worked
 use Rattle.rules_run.specs.Evaluation.{workedOf, textOf}
@@ -46,9 +47,9 @@ module _ (c : Code) (d : List ℕ) where
   text-moved k x n (worked.Text p l) a m e = rw e
   text-moved k x n (worked.Failed f) a m e = absurd (kept-not (ltb 0 (c .dialect .top)) (pos 0) e)
 
-  pub bad-text-22 : (i x n : ℕ) → BadText c d (c .statement i) → workedOf c d (c .items (c .statement i .a)) ≡ worked.Place true x n
-      → turnOf c i d ≡ failed fault.BadDigit
+  pub bad-text-22 : (l : Look) (i x n : ℕ) → BadText c d (c .statement i) → workedOf c d (c .items (c .statement i .a)) ≡ worked.Place true x n
+      → turnOf c l i d ≡ failed fault.BadDigit
   unfolding turnOf turnBy
-  bad-text-22 i x n b q =
+  bad-text-22 l i x n b q =
       let e = c .statement i .b in
       rw (b .0, q) (text-moved (sortAt c e) x n (workedOf c d (c .items e)) (b .2) (sort-comes c d e (alpha-right (sortAt c e) (b .2))) (b .3))

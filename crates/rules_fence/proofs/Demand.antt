@@ -12,6 +12,7 @@ use Rattle.rules_run.specs.States.{Sound}
 use Rattle.rules_run.specs.Runs.{Ran, runOf}
 use Rattle.rules_run.proofs.Calls.{call-runs}
 use Rattle.rules_run.proofs.Lengths.{passed-dialect}
+use Rattle.rules_run.proofs.SoundRuns.{passed-in}
 use Rattle.rules_fence.specs.declared.Verdict.the-variants as verdict
 use Rattle.rules_fence.specs.Breaches.{fenceOf}
 use Rattle.rules_fence.specs.Destinations.{AllValid}
@@ -20,11 +21,11 @@ use Rattle.rules_fence.proofs.Safe.{run-safe}
 use Rattle.rules_fence.proofs.Verdicts.{fence-exactly}
 
 pub call-safe : (u : List ℕ) → fenceOf u ≡ verdict.Yes → (d : List ℕ) → length d ≡ partsOf u .d → AllValid (codeOf u (partsOf u)) d
-    → (s : State) → Sound (partsOf u .n) s → (m : ℕ) → Safe (codeOf u (partsOf u)) d (runOf u d s m)
+    → (s : State) → Sound (codeOf u (partsOf u)) s → (m : ℕ) → Safe (codeOf u (partsOf u)) d (runOf u d s m)
 call-safe u y d l v s t m =
     let p = partsOf u in
     let f = fence-exactly u verdict.Yes .0 y in
     let e = sound-passed u p (f .0) in
     let dialect = passed-dialect u p e in
     subst (λ (r : Ran). Safe (codeOf u p) d r) (sym (call-runs u d s m p e l t))
-    (run-safe (codeOf u p) (f .0 .code) (dialect .limit) (dialect .letters) (dialect .bound) (f .1) m s d 0 l v)
+    (run-safe (codeOf u p) (passed-in u p e) (f .0 .code) (dialect .limit) (dialect .letters) (dialect .bound) (f .1) m s d 0 l v t)

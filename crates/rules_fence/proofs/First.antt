@@ -200,8 +200,8 @@ module _ (c : Code) (s : SoundCode c) where
   module _ (i : ℕ) (l : i < c .statements) where
     pub statement-breaks : (breachOf c i ≡ breach.None → ⊥) → StatementBreaks c (c .statement i) (breachOf c i)
     unfolding breachOf
-    statement-breaks z = uses-break (usesOf (c .statement i)) (uses-good c i (s .statements i l .uses)) (some-breach (breachOf c i) z)
+    statement-breaks z = uses-break (usesOf c (c .statement i)) (uses-good c i (s .statements i l .uses)) (some-breach (breachOf c i) z)
 
     pub statement-named : (b : Breach) → (b ≡ breach.None → ⊥) → StatementBreaks c (c .statement i) b → breachOf c i ≡ b
     unfolding breachOf
-    statement-named b z r = uses-named (usesOf (c .statement i)) b (uses-good c i (s .statements i l .uses)) (some-breach b z) (r .k) (r .low) (r .earlier) (r .here)
+    statement-named b z r = uses-named (usesOf c (c .statement i)) b (uses-good c i (s .statements i l .uses)) (some-breach b z) (r .k) (r .low) (r .earlier) (r .here)

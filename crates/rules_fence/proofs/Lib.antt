@@ -10,6 +10,7 @@ pub mod References
 pub mod Expressions
 pub mod Moves
 pub mod Jumps
+pub mod Loops
 pub mod Turns
 pub mod Aims
 pub mod Safe

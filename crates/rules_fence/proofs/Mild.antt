@@ -24,6 +24,9 @@ mildb may fault.ZeroDivisor = true
 mildb may fault.CallsFull = true
 mildb may fault.NoCall = true
 mildb may fault.RoundCount = true
+mildb may fault.ZeroStep = true
+mildb may fault.LoopsFull = true
+mildb may fault.NoLoop = true
 
 abbrev pub mildNum : Bool → Num → Bool
 mildNum may r = passes (mildb may) r
@@ -37,6 +40,9 @@ MildFault M fault.ZeroDivisor = Unit {0}
 MildFault M fault.CallsFull = Unit {0}
 MildFault M fault.NoCall = Unit {0}
 MildFault M fault.RoundCount = Unit {0}
+MildFault M fault.ZeroStep = Unit {0}
+MildFault M fault.LoopsFull = Unit {0}
+MildFault M fault.NoLoop = Unit {0}
 
 pub mild-fault : (M : Type 0) (e : Fault) → mildb true e ≡ true → (e ≡ fault.BadDigit → M) → MildFault M e
 mild-fault M fault.Malformed m f = tt
@@ -47,6 +53,9 @@ mild-fault M fault.ZeroDivisor m f = tt
 mild-fault M fault.CallsFull m f = tt
 mild-fault M fault.NoCall m f = tt
 mild-fault M fault.RoundCount m f = tt
+mild-fault M fault.ZeroStep m f = tt
+mild-fault M fault.LoopsFull m f = tt
+mild-fault M fault.NoLoop m f = tt
 
 -- A fault that is not 22.
 pub mild-plain : (M : Type 0) (e : Fault) → mildb false e ≡ true → MildFault M e
@@ -58,6 +67,9 @@ mild-plain M fault.ZeroDivisor m = tt
 mild-plain M fault.CallsFull m = tt
 mild-plain M fault.NoCall m = tt
 mild-plain M fault.RoundCount m = tt
+mild-plain M fault.ZeroStep m = tt
+mild-plain M fault.LoopsFull m = tt
+mild-plain M fault.NoLoop m = tt
 
 abbrev pub MildNum : Type 0 → Num → Type 0
 MildNum M (Value v) = Unit {0}

@@ -16,6 +16,7 @@ use Rattle.rules.specs.declared.Num.the-variants.{Value, Failed}
 use Rattle.rules.specs.Values.{Figures, Letters}
 use Rattle.rules.specs.Moves.{alphaOf}
 use Rattle.rules.proofs.Decimals.{written-figures, zeros-figures}
+use Rattle.rules.proofs.Walk.{cond-either}
 use Rattle.rules_unit.specs.declared.Sort.{Sort}
 use Rattle.rules_unit.specs.Codes.{Code}
 use Rattle.rules_unit.specs.Expressions.{alphaSort}
@@ -29,7 +30,7 @@ use Rattle.rules_run.specs.declared.Flow.{Flow}
 use Rattle.rules_run.specs.declared.Flow.the-variants as flow
 use Rattle.rules_run.specs.declared.Turn.{Turn}
 use Rattle.rules_run.specs.Evaluation.{readAt, textOf}
-use Rattle.rules_run.specs.Turns.{failed, stores, goes, moveNumber, moveNum, moveWorked, onPlace, clearAt, counted, countAt, caseAt, editNum, editAt}
+use Rattle.rules_run.specs.Turns.{turn, failed, stores, goes, moveNumber, moveNum, moveWorked, onPlace, clearAt, counted, countAt, caseAt, editNum, editAt, fitsb, controls}
 use Rattle.rules_run.proofs.Comes.{Comes}
 use Rattle.rules_run.proofs.Faults.{kept-passes, alpha-passes}
 use Rattle.rules_run.proofs.Outside.{startOf, lenOf, newOf}
@@ -44,6 +45,8 @@ MildFlow M (flow.Goto i) = Unit {0}
 MildFlow M (flow.Call i) = Unit {0}
 MildFlow M flow.Return = Unit {0}
 MildFlow M flow.Stop = Unit {0}
+MildFlow M (flow.Enter limit step) = Unit {0}
+MildFlow M (flow.Leave i) = Unit {0}
 MildFlow M (flow.Bad e) = MildFault M e
 
 pub data Aimed (c : Code) (d : List ℕ) (span : Span) (w : Write) : Type 0 where
@@ -96,7 +99,7 @@ module _ (c : Code) (d : List ℕ) (span : Span) (M : Type 0) where
     short : {a n : ℕ} → PlaceOk c true span true a n → n ≤ c .dialect .limit
     short k = span-short c s (k .known) (k .kind) (k .fenced)
 
-    read-mild : {dest : Bool} {sp : Span} {a n : ℕ} → PlaceOk c dest sp true a n → mildNum false (readAt c d a n) ≡ true
+    pub read-mild : {dest : Bool} {sp : Span} {a n : ℕ} → PlaceOk c dest sp true a n → mildNum false (readAt c d a n) ≡ true
     read-mild k = mild-value false (span-reads c s d e v (k .known) (k .kind) (k .some) (k .fenced))
 
     number-ok : (decimal : Bool) (a n : ℕ) → PlaceOk c true span decimal a n → (z : ℤ) → TurnOk c d span M (moveNumber decimal a n z)
@@ -129,6 +132,12 @@ module _ (c : Code) (d : List ℕ) (span : Span) (M : Type 0) where
     pub count-ok : (up decimal : Bool) (a n : ℕ) → PlaceOk c true span decimal a n → TurnOk c d span M (countAt c d up decimal a n)
     count-ok up true a n k = num-ok true a n k (counted (c .dialect .top) up (readAt c d a n)) (num-plain M (counted (c .dialect .top) up (readAt c d a n)) (counted-mild up (readAt c d a n) (read-mild k)))
     count-ok up false a n k = failed-ok fault.Malformed tt
+
+    -- The control value of a loop, stored where it fits.
+    pub controls-ok : (a n : ℕ) → PlaceOk c true span true a n → (z : ℤ) (f : Flow) → MildFlow M f → TurnOk c d span M (controls a n z f)
+    controls-ok a n k z f m =
+        cond-either (TurnOk c d span M) (fitsb n z) (turn (write.Number a n z) f) (failed fault.TooLong)
+        (record { aimed = aims true k (λ t. written-figures letters (c .dialect .limit) n z (k .some) (short k)); mild = m }) (failed-ok fault.TooLong tt)
 
     pub case-ok : (up decimal : Bool) (a n : ℕ) → PlaceOk c true span decimal a n → TurnOk c d span M (caseAt up decimal a n)
     case-ok up true a n k = failed-ok fault.Malformed tt

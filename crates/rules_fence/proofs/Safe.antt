@@ -20,20 +20,22 @@ use Rattle.rules_run.specs.declared.State.{State}
 use Rattle.rules_run.specs.declared.Stop.{Stop}
 use Rattle.rules_run.specs.declared.Stop.the-variants as stop
 use Rattle.rules_run.specs.declared.Write.{Write}
-use Rattle.rules_run.specs.States.{called, returned}
+use Rattle.rules_run.specs.States.{Sound, called, returned, lookOf}
 use Rattle.rules_run.specs.Stops.{stopNumber}
 use Rattle.rules_run.specs.Turns.{Room, turnOf}
 use Rattle.rules_run.specs.Runs.{Moved, to, stuck, movedBy, dataAfter, Ran, ended, runFrom}
 use Rattle.rules_run.proofs.Outside.{applied-length, applied-outside}
 use Rattle.rules_run.proofs.Room.{turn-room}
+use Rattle.rules_run.proofs.SoundRuns.{In, step-sound}
+use Rattle.rules_run.proofs.States.{look-sound}
 use Rattle.rules_run.proofs.Steps.{every-run}
 use Rattle.rules_fence.specs.Fence.{Fenced}
 use Rattle.rules_fence.specs.Destinations.{AllValid, BadText}
 use Rattle.rules_fence.specs.Safety.{Safe}
 use Rattle.rules_fence.proofs.Aims.{aim-destination, applied-valid, touches-covered}
 use Rattle.rules_fence.proofs.Mild.{MildFault}
-use Rattle.rules_fence.proofs.Moves.{MildFlow, TurnOk}
-use Rattle.rules_fence.proofs.Turns.{aimOf, turn-ok}
+use Rattle.rules_fence.proofs.Moves.{MildFlow}
+use Rattle.rules_fence.proofs.Turns.{aimOf, TurnAims, turn-ok}
 
 -- ---- faults
 
@@ -46,6 +48,9 @@ mild-21 M fault.ZeroDivisor m q = omega arith
 mild-21 M fault.CallsFull m q = omega arith
 mild-21 M fault.NoCall m q = omega arith
 mild-21 M fault.RoundCount m q = omega arith
+mild-21 M fault.ZeroStep m q = omega arith
+mild-21 M fault.LoopsFull m q = omega arith
+mild-21 M fault.NoLoop m q = omega arith
 
 mild-22 : (M : Type 0) (x : Fault) → MildFault M x → faultNumber x ≡ 22 → M
 mild-22 M fault.Malformed m q = absurd (omega arith)
@@ -56,6 +61,9 @@ mild-22 M fault.ZeroDivisor m q = absurd (omega arith)
 mild-22 M fault.CallsFull m q = absurd (omega arith)
 mild-22 M fault.NoCall m q = absurd (omega arith)
 mild-22 M fault.RoundCount m q = absurd (omega arith)
+mild-22 M fault.ZeroStep m q = absurd (omega arith)
+mild-22 M fault.LoopsFull m q = absurd (omega arith)
+mild-22 M fault.NoLoop m q = absurd (omega arith)
 
 -- Where a mild flow leads.
 abbrev MovedOk : Type 0 → Moved → Type 0
@@ -69,11 +77,13 @@ moved-ok n s M (flow.Goto i) m = tt
 moved-ok n s M (flow.Call i) m = cond-either (MovedOk M) (ltb (s .depth) 50) (to (called s i)) (stuck fault.CallsFull) tt tt
 moved-ok n s M flow.Return m = cond-either (MovedOk M) (eqb (s .depth) 0) (stuck fault.NoCall) (to (returned s)) tt tt
 moved-ok n s M flow.Stop m = tt
+moved-ok n s M (flow.Enter limit step) m = tt
+moved-ok n s M (flow.Leave i) m = tt
 moved-ok n s M (flow.Bad x) m = m
 
 -- ---- the run
 
-module _ (c : Code) (s : SoundCode c) (limit : Limit (c .dialect .limit)) (letters : Letters (c .dialect .sign)) (bound : Top (c .dialect .top)) (r : Fenced c) where
+module _ (c : Code) (o : In c) (s : SoundCode c) (limit : Limit (c .dialect .limit)) (letters : Letters (c .dialect .sign)) (bound : Top (c .dialect .top)) (r : Fenced c) where
   -- The data and all else stay where nothing is done.
   stays : (d : List ℕ) (x : Stop) (t : State) (k : ℕ) → AllValid c d → (stopNumber x ≡ 21 → ⊥)
       → (stopNumber x ≡ 22 → (ended (c .statements) x t k d .outcome .place < c .statements) × BadText c d (c .statement (ended (c .statements) x t k d .outcome .place)))
@@ -81,40 +91,40 @@ module _ (c : Code) (s : SoundCode c) (limit : Limit (c .dialect .limit)) (lette
   stays d x t k v f g = record { length-kept = refl; outside = λ b o. refl; valid = v; no-21 = f; only-22 = g }
 
   -- After a completed statement, what is safe from there on is safe from here on.
-  through : (d : List ℕ) (t : State) (x : Ran) → length d ≡ c .size → AllValid c d → t .at < c .statements
+  through : (d : List ℕ) (t : State) (x : Ran) → length d ≡ c .size → AllValid c d → Sound c t → t .at < c .statements
       → (length (dataAfter c t d) ≡ c .size → AllValid c (dataAfter c t d) → Safe c (dataAfter c t d) x) → Safe c d x
-  through d t x e v h more =
+  through d t x e v y h more =
       record {
         length-kept = next .length-kept ∙ len;
-        outside = λ b o. next .outside b o ∙ applied-outside c d w room b (λ z. o (aim-destination c (t .at) h b (touches-covered c s d e v (aimOf c (c .statement (t .at))) w room (ok .aimed) b z)));
+        outside = λ b o. next .outside b o ∙ applied-outside c d w room b (λ z. o (aim-destination c (ok .at) (ok .low) b (touches-covered c s d e v (aimOf c (c .statement (ok .at))) w room (ok .ok .aimed) b z)));
         valid = next .valid;
         no-21 = next .no-21;
         only-22 = next .only-22;
       }
     where
       w : Write
-      w = turnOf c (t .at) d .write
+      w = turnOf c (lookOf t) (t .at) d .write
 
-      room : Room c (length d) (turnOf c (t .at) d .write)
-      room = turn-room c d limit bound (t .at)
+      room : Room c (length d) (turnOf c (lookOf t) (t .at) d .write)
+      room = turn-room c d limit bound (lookOf t) (t .at)
 
-      ok : TurnOk c d (aimOf c (c .statement (t .at))) (BadText c d (c .statement (t .at))) (turnOf c (t .at) d)
-      ok = turn-ok c s letters d e v (t .at) h (r .all (t .at) h)
+      ok : TurnAims c d (BadText c d (c .statement (t .at))) (turnOf c (lookOf t) (t .at) d)
+      ok = turn-ok c s letters d e v (lookOf t) (look-sound y) r (t .at) h
 
       len : length (dataAfter c t d) ≡ length d
-      len = applied-length c d (turnOf c (t .at) d .write) room
+      len = applied-length c d (turnOf c (lookOf t) (t .at) d .write) room
 
       next : Safe c (dataAfter c t d) x
-      next = more (len ∙ e) (applied-valid c s d e v (aimOf c (c .statement (t .at))) (turnOf c (t .at) d .write) room (ok .aimed))
+      next = more (len ∙ e) (applied-valid c s d e v (aimOf c (c .statement (ok .at))) (turnOf c (lookOf t) (t .at) d .write) room (ok .ok .aimed))
 
-  pub run-safe : (m : ℕ) (t : State) (d : List ℕ) (k : ℕ) → length d ≡ c .size → AllValid c d → Safe c d (runFrom c m t d k)
+  pub run-safe : (m : ℕ) (t : State) (d : List ℕ) (k : ℕ) → length d ≡ c .size → AllValid c d → Sound c t → Safe c d (runFrom c m t d k)
   run-safe =
-      every-run c (λ m t d k x. length d ≡ c .size → AllValid c d → Safe c d x)
-      (λ m t d k h e v. stays d stop.End t k v (λ q. omega arith) (λ q. absurd (omega arith)))
-      (λ t d k h e v. stays d stop.Spent t k v (λ q. omega arith) (λ q. absurd (omega arith)))
-      (λ m t d k f h q e v.
-      let ok = turn-ok c s letters d e v (t .at) h (r .all (t .at) h) in
+      every-run c (λ m t d k x. length d ≡ c .size → AllValid c d → Sound c t → Safe c d x)
+      (λ m t d k h e v y. stays d stop.End t k v (λ q. omega arith) (λ q. absurd (omega arith)))
+      (λ t d k h e v y. stays d stop.Spent t k v (λ q. omega arith) (λ q. absurd (omega arith)))
+      (λ m t d k f h q e v y.
+      let ok = turn-ok c s letters d e v (lookOf t) (look-sound y) r (t .at) h in
       let M = BadText c d (c .statement (t .at)) in
-      let mild : MildFault M f = subst (MovedOk M) q (moved-ok (c .statements) t M (turnOf c (t .at) d .flow) (ok .mild)) in
+      let mild : MildFault M f = subst (MovedOk M) q (moved-ok (c .statements) t M (turnOf c (lookOf t) (t .at) d .flow) (ok .ok .mild)) in
       stays d (stop.Failed f) t k v (mild-21 M f mild) (λ z. (h, mild-22 M f mild z)))
-      (λ m t t′ d k x h q more e v. through d t x e v h more)
+      (λ m t t′ d k x h q more e v y. through d t x e v y h (λ f w. more f w (step-sound c o s d y h q)))

@@ -97,4 +97,4 @@ module _ (c : Code) (s : SoundCode c) where
 
   pub statement-tells : (i : ℕ) → i < c .statements → Kept (breachOf c i) (StatementFenced c (c .statement i))
   unfolding breachOf
-  statement-tells i h = kept-as (λ r. record { each = r }) (λ r. r .each) (uses-tell (usesOf (c .statement i)) (uses-good c i (s .statements i h .uses)))
+  statement-tells i h = kept-as (λ r. record { each = r }) (λ r. r .each) (uses-tell (usesOf c (c .statement i)) (uses-good c i (s .statements i h .uses)))

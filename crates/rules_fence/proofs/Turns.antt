@@ -1,14 +1,19 @@
 -- One statement of a fenced unit over valid data (document 01, "Fence rules"): it stores at its destination alone, leaves every decimal element
--- valid, gives no 21, and gives 22 only where it moves alpha text to a decimal place.
---   aimOf c s    the destination of the statement s; Outside where it has none
+-- valid, gives no 21, and gives 22 only where it moves alpha text to a decimal place. A loop end and NEXTLOOP store at the destination of another
+-- statement: of the FOR whose loop was opened last.
+--   aimOf c s        the destination of the statement s; Outside where it has none
+--   TurnAims c d M t  the turn t stores at the destination of a statement of the unit, and M holds where it is 22
 -- Assumes nothing.
 use Prim.Native.Nat.{ℕ, _<_}
 use native.Mathlib.Omega.{arith}
-use mathlib.Core.Path.{_≡_, refl, ap, _∙_, subst}
+use mathlib.Core.Path.{_≡_, refl, sym, ap, _∙_, subst}
 use mathlib.Core.Bool.{Bool, true, false}
 use mathlib.Core.List.{List}
+use mathlib.Core.Logic.{_⊎_, inl, inr}
+use lib.Dec.{eqb}
 use lib.IntN.{ℤ}
 use lib.ListN.{length, getD}
+use borrow.Author.Tests.{eqb-true, eqb-false}
 use Rattle.rules.specs.declared.Fault.the-variants as fault
 use Rattle.rules.specs.declared.Num.the-variants.{Failed}
 use Rattle.rules.specs.Values.{Letters}
@@ -29,20 +34,25 @@ use Rattle.rules_unit.specs.Expressions.{placeSort, alphaSort, sortAt, suits}
 use Rattle.rules_unit.specs.Sound.{SoundCode}
 use Rattle.rules_unit.proofs.Sorts.{suits-right}
 use Rattle.rules_unit.proofs.Statements.{uses-good, Used}
+use Rattle.rules_unit.proofs.Table.{verb-for}
 use Rattle.rules_run.specs.declared.Span.{Span}
 use Rattle.rules_run.specs.declared.Span.the-variants.{Outside}
 use Rattle.rules_run.specs.declared.Flow.{Flow}
 use Rattle.rules_run.specs.declared.Flow.the-variants as flow
 use Rattle.rules_run.specs.declared.Turn.{Turn}
+use Rattle.rules_run.specs.declared.Look.{Look}
+use Rattle.rules_run.specs.States.{LookSound}
 use Rattle.rules_run.specs.Evaluation.{workedOf, numberOf, textOf}
-use Rattle.rules_run.specs.Turns.{moveWorked, onPlace, clearAt, countAt, caseAt, onNumber, ifZero, choose, actAt, turnBy, turnOf}
+use Rattle.rules_run.specs.Turns.{moveWorked, onPlace, clearAt, countAt, caseAt, onNumber, ifZero, choose, entryOf, repeats, actAt, turnBy, turnOf}
 use Rattle.rules_run.proofs.Comes.{Comes}
+use Rattle.rules_run.proofs.OpenLoops.{repeats-none}
 use Rattle.rules_run.proofs.Sorted.{sort-comes}
-use Rattle.rules_fence.specs.Fence.{ExprFenced, UseFenced, StatementFenced}
+use Rattle.rules_fence.specs.Fence.{ExprFenced, UseFenced, Fenced}
 use Rattle.rules_fence.specs.Destinations.{AllValid, BadText}
 use Rattle.rules_fence.proofs.Exact.{expr-to}
 use Rattle.rules_fence.proofs.Expressions.{worked-ok}
 use Rattle.rules_fence.proofs.Jumps.{if-mild, choose-mild, number-mild, on-number}
+use Rattle.rules_fence.proofs.Loops.{enters-ok, repeats-ok, exits-ok}
 use Rattle.rules_fence.proofs.Moves.{MildFlow, TurnOk, failed-ok, goes-ok, on-place, source-ok, clear-ok, count-ok, case-ok, edit-ok}
 use Rattle.rules_fence.proofs.PlaceSpans.{placeSpan, useSpan}
 use Rattle.rules_fence.proofs.Places.{PlaceOk, WorkedOk}
@@ -52,6 +62,11 @@ aimBy c r s = useSpan c (useOf (r .a) (s .a))
 
 abbrev pub aimOf : Code → Statement → Span
 aimOf c s = aimBy c (rowOf (verbOf (s .code))) s
+
+pub record TurnAims (c : Code) (d : List ℕ) (M : Type 0) (t : Turn) : Type 0 where
+  pub at : ℕ
+  pub low : at < c .statements
+  pub ok : TurnOk c d (aimOf c (c .statement at)) M t
 
 decimal-place : (k : Sort) (decimal : Bool) → k ≡ placeSort decimal → decimal ≡ true → k ≡ sort.Decimal
 decimal-place k decimal q t = q ∙ ap placeSort t
@@ -86,7 +101,7 @@ module _ (c : Code) (s : SoundCode c) (letters : Letters (c .dialect .sign)) (d 
   -- ---- statements
 
   abbrev Kept : Row → Statement → Type 0
-  Kept r t = (k : ℕ) → k < length (usesBy r t) → UseFenced c (getD (usesBy r t) k use-of.Nothing)
+  Kept r t = (k : ℕ) → k < length (usesBy c r t) → UseFenced c (getD (usesBy c r t) k use-of.Nothing)
 
   act-ok : (t : Statement) (x : Act) → verbOf (t .code) ≡ verb.At x → Used c (rowOf (verb.At x)) t → Kept (rowOf (verb.At x)) t
       → TurnOk c d (aimBy c (rowOf (verb.At x)) t) (BadText c d t) (onPlace (workedOf c d (c .items (t .a))) (actAt c d x t))
@@ -100,17 +115,51 @@ module _ (c : Code) (s : SoundCode c) (letters : Letters (c .dialect .sign)) (d 
       (λ decimal x n p. edit-ok c d (placeSpan c (c .items (t .a))) (BadText c d t) (placeSpan c (c .items (t .b))) decimal x n p (workedOf c d (c .items (t .b))) (fenced false (t .b) (r 1 (omega arith)))
       (numberOf c d (workedOf c d (c .items (t .c)))) (number-mild c s d e v (placeSpan c (c .items (t .c))) (workedOf c d (c .items (t .c))) (fenced false (t .c) (r 2 (omega arith)))))
 
-  by-verb : (i : ℕ) (t : Statement) (x : Verb) → verbOf (t .code) ≡ x → Used c (rowOf x) t → Kept (rowOf x) t → TurnOk c d (aimBy c (rowOf x) t) (BadText c d t) (turnBy c i d x t)
-  unfolding turnBy
-  by-verb i t (verb.At x) q u r = act-ok t x q u r
-  by-verb i t verb.Goto q u r = goes-ok c d Outside (BadText c d t) (flow.Goto (t .c)) tt
-  by-verb i t verb.IfZero q u r = jump-ok (BadText c d t) (t .b) (ifZero (t .c)) (if-mild (BadText c d t) (t .c)) (r 1 (omega arith))
-  by-verb i t verb.Call q u r = goes-ok c d Outside (BadText c d t) (flow.Call (t .c)) tt
-  by-verb i t verb.Return q u r = goes-ok c d Outside (BadText c d t) flow.Return tt
-  by-verb i t verb.Stop q u r = goes-ok c d Outside (BadText c d t) flow.Stop tt
-  by-verb i t verb.Computed q u r = jump-ok (BadText c d t) (t .b) (choose i (t .a)) (choose-mild (BadText c d t) i (t .a)) (r 1 (omega arith))
-  by-verb i t verb.Bad q u r = failed-ok c d Outside (BadText c d t) fault.Malformed tt
+  module _ (l : Look) where
+    -- The turn y of the statement t, of the verb x, stores at its own destination, or at that of the entry of the loop opened last.
+    abbrev Stores : Statement → Verb → Turn → Type 0
+    Stores t x y = TurnOk c d (aimBy c (rowOf x) t) (BadText c d t) y ⊎ ((0 < l .opened) × TurnOk c d (aimOf c (entryOf c l)) (BadText c d t) y)
 
-  pub turn-ok : (i : ℕ) → i < c .statements → StatementFenced c (c .statement i) → TurnOk c d (aimOf c (c .statement i)) (BadText c d (c .statement i)) (turnOf c i d)
-  unfolding turnOf
-  turn-ok i h r = by-verb i (c .statement i) (verbOf (c .statement i .code)) refl (uses-good c i (s .statements i h .uses)) (r .each)
+    -- The control place of the loop opened last is the destination of a FOR.
+    abbrev Controlled : Type 0
+    Controlled = 0 < l .opened → (verbOf (entryOf c l .code) ≡ verb.For) × ExprFenced c true (c .items (entryOf c l .a))
+
+    again-ok : Controlled → (t : Statement) → TurnOk c d Outside (BadText c d t) (repeats c l d) ⊎ ((0 < l .opened) × TurnOk c d (aimOf c (entryOf c l)) (BadText c d t) (repeats c l d))
+    again-ok o t = by (eqb (l .opened) 0) refl
+      where
+        by : (b : Bool) → eqb (l .opened) 0 ≡ b → TurnOk c d Outside (BadText c d t) (repeats c l d) ⊎ ((0 < l .opened) × TurnOk c d (aimOf c (entryOf c l)) (BadText c d t) (repeats c l d))
+        by true q = inl (rw (repeats-none c l d (eqb-true (l .opened) 0 q)) (failed-ok c d Outside (BadText c d t) fault.NoLoop tt))
+        by false q =
+            let h : 0 < l .opened = omega (arith, eqb-false (l .opened) 0 q) in
+            inr (h, subst (λ (x : Verb). TurnOk c d (aimBy c (rowOf x) (entryOf c l)) (BadText c d t) (repeats c l d)) (sym (o h .0)) (repeats-ok c s letters d e v (BadText c d t) l (λ z. o z .1)))
+
+    by-verb : Controlled → (i : ℕ) (t : Statement) (x : Verb) → verbOf (t .code) ≡ x → Used c (rowOf x) t → Kept (rowOf x) t → Stores t x (turnBy c l i d x t)
+    unfolding turnBy
+    by-verb o i t (verb.At x) q u r = inl (act-ok t x q u r)
+    by-verb o i t verb.Goto q u r = inl (goes-ok c d Outside (BadText c d t) (flow.Goto (t .c)) tt)
+    by-verb o i t verb.IfZero q u r = inl (jump-ok (BadText c d t) (t .b) (ifZero (t .c)) (if-mild (BadText c d t) (t .c)) (r 1 (omega arith)))
+    by-verb o i t verb.Call q u r = inl (goes-ok c d Outside (BadText c d t) (flow.Call (t .c)) tt)
+    by-verb o i t verb.Return q u r = inl (goes-ok c d Outside (BadText c d t) flow.Return tt)
+    by-verb o i t verb.Stop q u r = inl (goes-ok c d Outside (BadText c d t) flow.Stop tt)
+    by-verb o i t verb.Computed q u r = inl (jump-ok (BadText c d t) (t .b) (choose i (t .a)) (choose-mild (BadText c d t) i (t .a)) (r 1 (omega arith)))
+    by-verb o i t verb.For q u r = inl (enters-ok c s letters d e v (BadText c d t) l t (r 0 (omega arith)) (r 1 (omega arith)) (r 3 (omega arith)) (r 4 (omega arith)))
+    by-verb o i t verb.LoopEnd q u r = again-ok o t
+    by-verb o i t verb.ExitLoop q u r = inl (exits-ok c s letters d e v (BadText c d t) Outside l)
+    by-verb o i t verb.NextLoop q u r = again-ok o t
+    by-verb o i t verb.Bad q u r = inl (failed-ok c d Outside (BadText c d t) fault.Malformed tt)
+
+    module _ (known : LookSound c l) (r : Fenced c) where
+      for-controlled : Controlled
+      for-controlled h =
+          let x = known .last h in
+          let q = verb-for (entryOf c l .code) (x .enters) in
+          (q, subst (λ (y : Verb). UseFenced c (getD (usesBy c (rowOf y) (entryOf c l)) 0 use-of.Nothing)) q (r .all (l .last .entry) (x .low) .each 0 (omega arith)))
+
+      pub turn-ok : (i : ℕ) → i < c .statements → TurnAims c d (BadText c d (c .statement i)) (turnOf c l i d)
+      unfolding turnOf
+      turn-ok i h = by (by-verb for-controlled i (c .statement i) (verbOf (c .statement i .code)) refl (uses-good c i (s .statements i h .uses)) (r .all i h .each))
+        where
+          by : Stores (c .statement i) (verbOf (c .statement i .code)) (turnBy c l i d (verbOf (c .statement i .code)) (c .statement i))
+              → TurnAims c d (BadText c d (c .statement i)) (turnBy c l i d (verbOf (c .statement i .code)) (c .statement i))
+          by (inl k) = record { at = i; low = h; ok = k }
+          by (inr (o, k)) = record { at = l .last .entry; low = known .last o .low; ok = k }

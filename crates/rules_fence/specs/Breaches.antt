@@ -117,7 +117,7 @@ usesBreach c [] = breach.None
 usesBreach c (x ∷ xs) = let rest = usesBreach c xs in firstOf (useBreach c x) rest
 
 unfoldable pub breachOf : Code → ℕ → Breach
-breachOf c i = usesBreach c (usesOf (c .statement i))
+breachOf c i = usesBreach c (usesOf c (c .statement i))
 
 -- ---- the check
 

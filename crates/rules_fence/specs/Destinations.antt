@@ -52,15 +52,15 @@ abbrev pub Covers : Span → ℕ → Type 0
 Covers (At a n) b = (a ≤ b) × (b < a + n)
 Covers Outside b = ⊥
 
--- "A destination is the span named by place a of codes 1 to 6", and of 13: by the table, a use that is written. The byte b lies in that of the statement whose
+-- "A destination is the span named by place a of codes 1 to 6", and of 13 and 14: by the table, a use that is written. The byte b lies in that of the statement whose
 -- number is given, reachable or not.
 pub record Destination (c : Code) (b : ℕ) : Type 0 where
   pub statement-number : ℕ
   pub low : statement-number < c .statements
   pub use-number : ℕ
-  pub used : use-number < length (usesOf (c .statement statement-number))
+  pub used : use-number < length (usesOf c (c .statement statement-number))
   pub span : Span
-  pub writes : Writes c (getD (usesOf (c .statement statement-number)) use-number use-of.Nothing) span
+  pub writes : Writes c (getD (usesOf c (c .statement statement-number)) use-number use-of.Nothing) span
   pub covers : Covers span b
 
 -- The same by the codes, as document 01 has it.

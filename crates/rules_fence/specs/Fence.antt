@@ -124,13 +124,13 @@ pub record ExprFenced (c : Code) (dest : Bool) (is : List Item) : Type 0 where
   pub refs : (before after : List Item) (h : Form) (f : ℕ) → is ≡ before ++ (item.Reference h f ∷ after)
       → RefFenced c (destb dest after) h f before
 
--- "A destination is the span named by place a of codes 1 to 6", and of 13: the uses that are written.
+-- "A destination is the span named by place a of codes 1 to 6", and of 13 and 14: the uses that are written.
 abbrev pub UseFenced : Code → Use → Type 0
 UseFenced c use-of.Nothing = Unit {0}
 UseFenced c (use-of.Of w at written) = ExprFenced c written (c .items at)
 
 pub record StatementFenced (c : Code) (s : Statement) : Type 0 where
-  pub each : (k : ℕ) → k < length (usesOf s) → UseFenced c (getD (usesOf s) k use-of.Nothing)
+  pub each : (k : ℕ) → k < length (usesOf c s) → UseFenced c (getD (usesOf c s) k use-of.Nothing)
 
 pub record Fenced (c : Code) : Type 0 where
   pub all : (i : ℕ) → i < c .statements → StatementFenced c (c .statement i)

@@ -97,4 +97,4 @@ pub record UsesBreak (c : Code) (us : List Use) (b : Breach) : Type 0 where
   pub here : UseBreaks c (getD us k use-of.Nothing) b
 
 abbrev pub StatementBreaks : Code → Statement → Breach → Type 0
-StatementBreaks c s b = UsesBreak c (usesOf s) b
+StatementBreaks c s b = UsesBreak c (usesOf c s) b

@@ -1,14 +1,16 @@
 -- A resume state over several calls: what is written is read back, what is no state is 7, and a run goes on from the state that it left.
 -- Assumes nothing.
-use Prim.Native.Nat.{ℕ, suc, _<_, _≤_}
+use Prim.Native.Nat.{ℕ, _^_, _<_, _≤_}
 use native.Mathlib.Omega.{arith}
 use mathlib.Core.Path.{_≡_, refl, sym, ap, subst, _∙_}
-use mathlib.Core.Bool.{Bool, true, false, cond, false≢true}
-use mathlib.Core.List.{List, [], _∷_}
+use mathlib.Core.Bool.{Bool, true, false, false≢true}
+use mathlib.Core.List.{List}
 use mathlib.Core.Logic.{_↔_, inl, inr}
 use lib.Dec.{ltb, eqb}
-use lib.ListN.{length, getD, replicate, length-drop, length-set}
-use borrow.Author.Tests.{le-leb, lt-leb, eq-eqb, eqb-true, ltb-true, ltb-false}
+use lib.ListN.{length, getD, replicate, length-set}
+use borrow.Author.Tests.{le-leb, lt-leb, eqb-true, ltb-true, ltb-false}
+use Rattle.rules.specs.Values.{Val}
+use Rattle.rules.proofs.Tests.{both}
 use Rattle.rules.proofs.Walk.{cond-either}
 use Rattle.rules_unit.specs.declared.Parts.{Parts}
 use Rattle.rules_unit.specs.declared.Refusal.{Refusal}
@@ -24,44 +26,62 @@ use Rattle.rules_run.specs.declared.State.{State}
 use Rattle.rules_run.specs.declared.Stop.{Stop}
 use Rattle.rules_run.specs.declared.Stop.the-variants as stop
 use Rattle.rules_run.specs.Turns.{turnOf}
-use Rattle.rules_run.specs.States.{Sound, started}
+use Rattle.rules_run.specs.States.{noLoop, Sound, started, lookOf}
 use Rattle.rules_run.specs.Stops.{stopNumber}
 use Rattle.rules_run.specs.Answers.{RunNumber, Erred, StopNo, noOf, Given}
 use Rattle.rules_run.specs.Runs.{Moved, to, stuck, movedBy, Ran, runFrom, runOf}
 use Rattle.rules_run.proofs.Calls.{beforeb, call-refused, call-wrong-size, call-unsound, every-call}
 use Rattle.rules_run.proofs.Steps.{every-run}
 use Rattle.rules_run.proofs.Answers.{call-exactly, does-exactly, refused-by-number, erred-by-number, given-exactly}
-use Rattle.rules_run.proofs.SoundRuns.{run-sound}
+use Rattle.rules_run.proofs.Lengths.{passed-dialect}
+use Rattle.rules_run.proofs.SoundRuns.{passed-in, run-sound}
 use Rattle.rules_host.proofs.Laid.{laid-same}
-use Rattle.rules_host.specs.Numbers.{numbersOf, Fits, smallb, stateb, noState, stateOf}
+use Rattle.rules_host.proofs.Listed.{length-listed, read-written}
+use Rattle.rules_host.specs.Numbers.{listed, numberAt, numbersOf, Fits, goodb, goodFrom, stateb, noState, returnAt, stateOf}
 use Rattle.rules_host.specs.Calls.{Handed, refusedb, handedOf, untouched, HostReads}
 
--- ---- read after write
+-- ---- a sound state
 
-small-all : (l : List ℕ) → ((i : ℕ) → i < length l → getD l i 0 ≤ 65535) → smallb l ≡ true
-unfolding smallb
-small-all [] h = refl
-small-all (x ∷ l) h = rw (le-leb x 65535 (h 0 (omega arith)), small-all l (λ i k. h (suc i) (omega arith)))
-
-pub read-written : (s : State) → Fits s → stateOf (numbersOf s) ≡ s
-unfolding stateOf stateb smallb
-read-written s h =
-    let n : suc (suc (length (s .returns))) ≡ 52 = omega (arith, h .count) in
-    rw (eq-eqb (suc (suc (length (s .returns)))) 52 n, le-leb (s .at) 65535 (h .at), le-leb (s .depth) 65535 (h .depth), small-all (s .returns) (h .each))
-
--- A sound state of a unit is held.
-sound-fits : (u : List ℕ) (p : Parts) (s : State) → checkOf u ≡ checked.Passed p → Sound (p .n) s → length (s .returns) ≡ 50 → Fits s
+-- It fits the numbers.
+sound-fits : (u : List ℕ) (p : Parts) (s : State) → checkOf u ≡ checked.Passed p → Sound (codeOf u p) s → length (s .returns) ≡ 50 → Fits s
 sound-fits u p s e t l =
-    let n : p .n ≤ 2048 = passed-sound u p e .ranges .n-most in
-    record { at = omega (arith, t .place); depth = omega (arith, t .calls); count = l; each = λ i h. by i h (ltb i (s .depth)) refl }
+    record {
+      at = omega (arith, t .place, most);
+      depth = omega (arith, t .calls);
+      count = l;
+      each = λ i h. returns i h (ltb i (s .depth)) refl;
+      opened = omega (arith, t .nested);
+      slots = t .slots;
+      entries = λ k h. entries k h (ltb k (s .opened)) refl;
+      limits = λ k h. limits k h (ltb k (s .opened)) refl;
+      steps = λ k h. steps k h (ltb k (s .opened)) refl;
+    }
   where
-    by : (i : ℕ) → i < length (s .returns) → (b : Bool) → ltb i (s .depth) ≡ b → getD (s .returns) i 0 ≤ 65535
-    by i h true f = omega (arith, t .used i (ltb-true i (s .depth) f) h, passed-sound u p e .ranges .n-most)
-    by i h false f = omega (arith, t .unused i (ltb-false i (s .depth) f) h)
+    most : p .n ≤ 2048
+    most = passed-sound u p e .ranges .n-most
+
+    top : p .dialect .top ≤ 10 ^ 18
+    top = passed-dialect u p e .bound .most
+
+    returns : (i : ℕ) → i < 50 → (b : Bool) → ltb i (s .depth) ≡ b → getD (s .returns) i 0 ≤ 65535
+    returns i h true f = omega (arith, t .used i (ltb-true i (s .depth) f) (omega (arith, l)), most)
+    returns i h false f = omega (arith, t .unused i (ltb-false i (s .depth) f) (omega (arith, l)))
+
+    entries : (k : ℕ) → k < 16 → (b : Bool) → ltb k (s .opened) ≡ b → getD (s .loops) k noLoop .entry ≤ 65535
+    entries k h true f = omega (arith, t .running k (ltb-true k (s .opened) f) .low, most)
+    entries k h false f = rw (t .vacant k (ltb-false k (s .opened) f) h) (omega arith)
+
+    limits : (k : ℕ) → k < 16 → (b : Bool) → ltb k (s .opened) ≡ b → Val (10 ^ 18) (getD (s .loops) k noLoop .limit)
+    limits k h true f = record { small = omega (arith, t .running k (ltb-true k (s .opened) f) .limit .small, top) }
+    limits k h false f = rw (t .vacant k (ltb-false k (s .opened) f) h) (record { small = omega arith })
+
+    steps : (k : ℕ) → k < 16 → (b : Bool) → ltb k (s .opened) ≡ b → Val (10 ^ 18) (getD (s .loops) k noLoop .step)
+    steps k h true f = record { small = omega (arith, t .running k (ltb-true k (s .opened) f) .step .small, top) }
+    steps k h false f = rw (t .vacant k (ltb-false k (s .opened) f) h) (record { small = omega arith })
 
 -- ---- what is no state
 
-pub none-unsound : (u : List ℕ) (p : Parts) → checkOf u ≡ checked.Passed p → Sound (p .n) noState → ⊥
+pub none-unsound : (u : List ℕ) (p : Parts) → checkOf u ≡ checked.Passed p → Sound (codeOf u p) noState → ⊥
 none-unsound u p e t = omega (arith, t .place, passed-sound u p e .ranges .n-most)
 
 pub none-state : (w : List ℕ) → stateb w ≡ false → stateOf w ≡ noState
@@ -69,24 +89,20 @@ unfolding stateOf
 none-state w e = rw e
 
 -- Where the state read is sound for a unit, its numbers are a state's.
-sound-state : (u w : List ℕ) (p : Parts) → checkOf u ≡ checked.Passed p → Sound (p .n) (stateOf w) → stateb w ≡ true
+sound-state : (u w : List ℕ) (p : Parts) → checkOf u ≡ checked.Passed p → Sound (codeOf u p) (stateOf w) → stateb w ≡ true
 sound-state u w p e t = by (stateb w) refl
   where
     by : (b : Bool) → stateb w ≡ b → stateb w ≡ true
     by true f = f
-    by false f = absurd (none-unsound u p e (subst (Sound (p .n)) (none-state w f) t))
+    by false f = absurd (none-unsound u p e (subst (Sound (codeOf u p)) (none-state w f) t))
 
-state-52 : (w : List ℕ) → stateb w ≡ true → length w ≡ 52
+state-101 : (w : List ℕ) → stateb w ≡ true → length w ≡ 101
 unfolding stateb
-state-52 w e = by (eqb (length w) 52) refl e
-  where
-    by : (b : Bool) → eqb (length w) 52 ≡ b → cond b (smallb w) false ≡ true → length w ≡ 52
-    by true f g = eqb-true (length w) 52 f
-    by false f g = absurd (false≢true g)
+state-101 w e = eqb-true (length w) 101 (both (eqb (length w) 101) (goodFrom 0 w) .0 e .0)
 
 state-returns : (w : List ℕ) → stateb w ≡ true → length (stateOf w .returns) ≡ 50
 unfolding stateOf
-state-returns w e = rw e (omega (arith, state-52 w e, length-drop 2 w))
+state-returns w e = rw e (length-listed 50 (returnAt w))
 
 -- ---- the return numbers stay 50
 
@@ -101,12 +117,14 @@ moved-kept n s (flow.Goto i) = refl
 moved-kept n s (flow.Call i) = cond-either (Kept (length (s .returns))) (ltb (s .depth) 50) _ _ (length-set (s .returns) (s .depth) _) tt
 moved-kept n s flow.Return = cond-either (Kept (length (s .returns))) (eqb (s .depth) 0) _ _ tt (length-set (s .returns) _ 0)
 moved-kept n s flow.Stop = refl
+moved-kept n s (flow.Enter limit step) = refl
+moved-kept n s (flow.Leave i) = refl
 moved-kept n s (flow.Bad e) = tt
 
 run-kept : (c : Code) (m : ℕ) (s : State) (d : List ℕ) (k : ℕ) → length (runFrom c m s d k .outcome .state .returns) ≡ length (s .returns)
 run-kept c =
     every-run c (λ m s d k r. length (r .outcome .state .returns) ≡ length (s .returns)) (λ m s d k h. refl) (λ s d k h. refl) (λ m s d k f h q. refl)
-    (λ m s s′ d k r h q x. x ∙ subst (Kept (length (s .returns))) q (moved-kept (c .statements) s (turnOf c (s .at) d .flow)))
+    (λ m s s′ d k r h q x. x ∙ subst (Kept (length (s .returns))) q (moved-kept (c .statements) s (turnOf c (lookOf s) (s .at) d .flow)))
 
 -- ---- what a call leaves
 
@@ -137,23 +155,23 @@ module _ (u d w : List ℕ) (m : ℕ) (a : List ℕ) where
     unfolding handedOf refusedb
     left-wrong-size n = rw (call-wrong-size u d (stateOf w) m p e n)
 
-    pub left-unsound : length d ≡ p .d → (Sound (p .n) (stateOf w) → ⊥) → handedOf u d w m a ≡ untouched 7 0 d w a
+    pub left-unsound : length d ≡ p .d → (Sound (codeOf u p) (stateOf w) → ⊥) → handedOf u d w m a ≡ untouched 7 0 d w a
     unfolding handedOf refusedb
     left-unsound l n = rw (call-unsound u d (stateOf w) m p e l n)
 
     pub left-none : length d ≡ p .d → stateb w ≡ false → handedOf u d w m a ≡ untouched 7 0 d w a
-    left-none l n = left-unsound l (λ t. none-unsound u p e (subst (Sound (p .n)) (none-state w n) t))
+    left-none l n = left-unsound l (λ t. none-unsound u p e (subst (Sound (codeOf u p)) (none-state w n) t))
 
   -- Any other stop: the numbers are a state's, and so are those of the next state.
-  ran-fits : refusedb (stopNumber (runOf u d (stateOf w) m .outcome .stop)) ≡ false → (length w ≡ 52) × Fits (runOf u d (stateOf w) m .outcome .state)
+  ran-fits : refusedb (stopNumber (runOf u d (stateOf w) m .outcome .stop)) ≡ false → (length w ≡ 101) × Fits (runOf u d (stateOf w) m .outcome .state)
   ran-fits =
-      every-call (λ r. refusedb (stopNumber (r .outcome .stop)) ≡ false → (length w ≡ 52) × Fits (r .outcome .state)) u d (stateOf w) m
+      every-call (λ r. refusedb (stopNumber (r .outcome .stop)) ≡ false → (length w ≡ 101) × Fits (r .outcome .state)) u d (stateOf w) m
       (λ e b f. absurd (false≢true (sym f ∙ before-refuses e b)))
       (λ p e l t f.
       let s : stateb w ≡ true = sound-state u w p e t in
       let c = codeOf u p in (
-        state-52 w s,
-        sound-fits u p (runFrom c m (stateOf w) d 0 .outcome .state) e (run-sound c (passed-sound u p e .code) m (stateOf w) d 0 t)
+        state-101 w s,
+        sound-fits u p (runFrom c m (stateOf w) d 0 .outcome .state) e (run-sound c (passed-in u p e) (passed-sound u p e .code) m (stateOf w) d 0 t)
             (run-kept c m (stateOf w) d 0 ∙ state-returns w s),
       ))
 
@@ -161,7 +179,7 @@ module _ (u d w : List ℕ) (m : ℕ) (a : List ℕ) where
   unfolding handedOf
   left-state f =
       let h = ran-fits f in
-      let l : length (numbersOf (runOf u d (stateOf w) m .outcome .state)) ≡ length w = omega (arith, h .0, h .1 .count) in
+      let l : length (numbersOf (runOf u d (stateOf w) m .outcome .state)) ≡ length w = length-listed 101 (numberAt (runOf u d (stateOf w) m .outcome .state)) ∙ sym (h .0) in
       rw (f, laid-same (numbersOf (runOf u d (stateOf w) m .outcome .state)) w l)
 
   pub goes-on : refusedb (handedOf u d w m a .stop) ≡ false → stateOf (handedOf u d w m a .state) ≡ runOf u d (stateOf w) m .outcome .state
@@ -204,7 +222,7 @@ module _ (u d w : List ℕ) (m : ℕ) (a : List ℕ) (h : Handed) (r : HostReads
       let e = call-exactly u d (stateOf w) m (r .ran) .0 host-ran in
       (r .bytes ∙ refused-by-number u d (stateOf w) m (r .ran) e (omega (arith, x, n)) (omega (arith, y, n)) .data-kept, r .kept x y)
 
-  pub host-erred : 20 ≤ h .stop → h .stop ≤ 26 → Erred (decoded u) m (stateOf w) d (h .stop) (r .ran)
+  pub host-erred : 20 ≤ h .stop → h .stop ≤ 29 → Erred (decoded u) m (stateOf w) d (h .stop) (r .ran)
   host-erred x y =
       let n : h .stop ≡ stopNumber (r .ran .outcome .stop) = r .stop in
       let e = call-exactly u d (stateOf w) m (r .ran) .0 host-ran in
@@ -217,6 +235,6 @@ module _ (u d w : List ℕ) (m : ℕ) (a : List ℕ) (h : Handed) (r : HostReads
       let p : r .ran .outcome .place ≡ runOf u d (stateOf w) m .outcome .place = ap (λ (y : Ran). y .outcome .place) host-ran in
       (λ e. g .0 (sym n ∙ e .0, sym p ∙ e .1), λ e. (n ∙ g .1 e .0, p ∙ g .1 e .1))
 
-pub zeros-start : stateOf (replicate 52 0) ≡ started
-unfolding stateOf stateb smallb
+pub zeros-start : stateOf (replicate 101 0) ≡ started
+unfolding stateOf stateb goodFrom goodb listed
 zeros-start = refl

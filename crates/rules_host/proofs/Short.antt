@@ -19,7 +19,7 @@ counted s h = record { most = leb→le (length (codes s)) 63 h }
 
 text-short : (n : ℕ) → Short (stopText n)
 unfolding codes
-text-short n = search (either, counted) depth 20
+text-short n = search (either, counted) depth 24 fits 4000
 
 pub words-short : (n : ℕ) → length (wordsOf n) ≤ 63
 unfolding wordsOf

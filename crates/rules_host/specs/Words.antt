@@ -30,8 +30,11 @@ stopText n =
     (cond (eqb n 24) "Calls nested to a depth greater than 50"
     (cond (eqb n 25) "RETURN with no CALL or XCALL"
     (cond (eqb n 26) "The rounding count is not 0 to 18"
+    (cond (eqb n 27) "The step of a loop is zero"
+    (cond (eqb n 28) "Loops nested to a depth greater than 16"
+    (cond (eqb n 29) "Loop end, EXITLOOP or NEXTLOOP with no loop open"
     (cond (eqb n 30) "The allowance was spent before the end"
-    "")))))))))))))))
+    ""))))))))))))))))))
 
 -- The codes of a text's characters.
 unfoldable pub codes : String → List ℕ

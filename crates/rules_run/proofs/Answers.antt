@@ -31,10 +31,11 @@ use Rattle.rules_run.specs.declared.Stop.the-variants as stop
 use Rattle.rules_run.specs.States.{soundb}
 use Rattle.rules_run.specs.Stops.{stopNumber, stopPlace}
 use Rattle.rules_run.specs.Runs.{to, dataAfter, Ran, ended, refused, runFrom, runOf}
-use Rattle.rules_run.specs.Answers.{Reaches, StopsFor, RunSays, Unchanged, Refuses, IsRefused, Ready, RunNumber, IsRun, Does, Erred, Stopped, StopNo, no-0, no-1, no-2, no-3, no-4, no-5, no-6, no-7, no-20, no-21, no-22, no-23, no-24, no-25, no-26, no-30, noOf, Given}
+use Rattle.rules_run.specs.Answers.{Reaches, StopsFor, RunSays, Unchanged, Refuses, IsRefused, Ready, RunNumber, IsRun, Does, Erred, Stopped, StopNo, no-0, no-1, no-2, no-3, no-4, no-5, no-6, no-7, no-20, no-21, no-22, no-23, no-24, no-25, no-26, no-27, no-28, no-29, no-30, noOf, Given}
 use Rattle.rules_run.proofs.States.{sound-tells, sound-to}
 use Rattle.rules_run.proofs.Steps.{run-ends, run-spent, run-fails, run-goes, every-run}
 use Rattle.rules_run.proofs.Calls.{call-refused, call-wrong-size, call-unsound, call-runs}
+use Rattle.rules_run.proofs.SoundRuns.{passed-in}
 use Rattle.rules_run.proofs.Malformed.{run-not-malformed}
 
 -- ---- a run
@@ -131,12 +132,12 @@ module _ (u d : List ℕ) (s : State) (m : ℕ) where
   pub every-answer : (P : Ran → Type 0) → ((e : Stop) → Refuses u d s e → P (refused e s d)) → (Ready u d s → P (runFrom (decoded u) m s d 0)) → P (runOf u d s m)
   every-answer P before runs = by (checkOf u) refl
     where
-      tested : SoundUnit u (partsOf u) → (t v : Bool) → eqb (length d) (partsOf u .d) ≡ t → soundb (partsOf u .n) s ≡ v → P (runOf u d s m)
+      tested : SoundUnit u (partsOf u) → (t v : Bool) → eqb (length d) (partsOf u .d) ≡ t → soundb (decoded u) s ≡ v → P (runOf u d s m)
       tested x true true f g =
-          let y : Ready u d s = record { unit = x; size = eqb-true (length d) (partsOf u .d) f; state = sound-to (partsOf u .n) s g } in
+          let y : Ready u d s = record { unit = x; size = eqb-true (length d) (partsOf u .d) f; state = sound-to (decoded u) s g } in
           rw (ready-call y) (runs y)
       tested x true false f g =
-          let h : Refuses u d s stop.Unsound = (x, eqb-true (length d) (partsOf u .d) f, tells-fails (sound-tells (partsOf u .n) s) g) in
+          let h : Refuses u d s stop.Unsound = (x, eqb-true (length d) (partsOf u .d) f, tells-fails (sound-tells (decoded u) s) g) in
           rw (refuses-call stop.Unsound h) (before stop.Unsound h)
       tested x false v f g =
           let h : Refuses u d s stop.WrongSize = (x, eqb-false (length d) (partsOf u .d) f) in
@@ -145,7 +146,7 @@ module _ (u d : List ℕ) (s : State) (m : ℕ) where
       by : (x : Checked) → checkOf u ≡ x → P (runOf u d s m)
       by (checked.Passed p) e =
           let x = passed-sound u p e in
-          tested (subst (SoundUnit u) (x .parts) x) (eqb (length d) (partsOf u .d)) (soundb (partsOf u .n) s) refl refl
+          tested (subst (SoundUnit u) (x .parts) x) (eqb (length d) (partsOf u .d)) (soundb (decoded u) s) refl refl
       by (checked.Refused r) e =
           let h : Refuses u d s (stop.Refused r) = subst (Says u) e (check-says u) in
           rw (refuses-call (stop.Refused r) h) (before (stop.Refused r) h)
@@ -181,6 +182,9 @@ module _ (u d : List ℕ) (s : State) (m : ℕ) where
   fault-number fault.CallsFull n = inr (inl (omega arith, omega arith))
   fault-number fault.NoCall n = inr (inl (omega arith, omega arith))
   fault-number fault.RoundCount n = inr (inl (omega arith, omega arith))
+  fault-number fault.ZeroStep n = inr (inl (omega arith, omega arith))
+  fault-number fault.LoopsFull n = inr (inl (omega arith, omega arith))
+  fault-number fault.NoLoop n = inr (inl (omega arith, omega arith))
 
   run-number : (left : ℕ) (t : State) (b : List ℕ) (e : Stop) → StopsFor (decoded u) left t b e → (e ≡ stop.Failed fault.Malformed → ⊥) → RunNumber (stopNumber e)
   run-number left t b stop.End h n = inl refl
@@ -196,7 +200,7 @@ module _ (u d : List ℕ) (s : State) (m : ℕ) where
   ready-number y =
       let r = runFrom (decoded u) m s d 0 in
       let x = run-says (decoded u) m s d in
-      rw (ready-call y) (run-number (x .left) (r .outcome .state) (r .bytes) (r .outcome .stop) (x .stops) (run-not-malformed (decoded u) (y .unit .code) m s d 0))
+      rw (ready-call y) (run-number (x .left) (r .outcome .state) (r .bytes) (r .outcome .stop) (x .stops) (run-not-malformed (decoded u) (y .unit .code) (passed-in u (partsOf u) (sound-passed u (partsOf u) (y .unit))) m s d 0 (y .state)))
 
   call-or : IsRefused u d s (runOf u d s m) ⊎ IsRun u d s m (runOf u d s m)
   call-or =
@@ -207,7 +211,7 @@ module _ (u d : List ℕ) (s : State) (m : ℕ) where
       (λ y.
       let r = runFrom (decoded u) m s d 0 in
       let x = run-says (decoded u) m s d in
-      inr (record { ready = y; is-run = refl; number = run-number (x .left) (r .outcome .state) (r .bytes) (r .outcome .stop) (x .stops) (run-not-malformed (decoded u) (y .unit .code) m s d 0) }))
+      inr (record { ready = y; is-run = refl; number = run-number (x .left) (r .outcome .state) (r .bytes) (r .outcome .stop) (x .stops) (run-not-malformed (decoded u) (y .unit .code) (passed-in u (partsOf u) (sound-passed u (partsOf u) (y .unit))) m s d 0 (y .state)) }))
 
   refused-is : (r : Ran) → IsRefused u d s r → r ≡ runOf u d s m
   refused-is r x =
@@ -256,8 +260,8 @@ module _ (u d : List ℕ) (s : State) (m : ℕ) where
       by (inr (inl e)) = omega (arith, b, e .0)
       by (inr (inr e)) = omega (arith, b, e)
 
-  -- One from 20 to 26 is a run error.
-  pub erred-by-number : (r : Ran) → IsRefused u d s r ⊎ IsRun u d s m r → 20 ≤ stopNumber (r .outcome .stop) → stopNumber (r .outcome .stop) ≤ 26
+  -- One from 20 to 29 is a run error.
+  pub erred-by-number : (r : Ran) → IsRefused u d s r ⊎ IsRun u d s m r → 20 ≤ stopNumber (r .outcome .stop) → stopNumber (r .outcome .stop) ≤ 29
       → Erred (decoded u) m s d (stopNumber (r .outcome .stop)) r
   erred-by-number r (inl x) a b = absurd (omega (arith, a, x .most))
   erred-by-number r (inr x) a b =
@@ -296,6 +300,9 @@ noFor (stop.Failed fault.ZeroDivisor) = no-23
 noFor (stop.Failed fault.CallsFull) = no-24
 noFor (stop.Failed fault.NoCall) = no-25
 noFor (stop.Failed fault.RoundCount) = no-26
+noFor (stop.Failed fault.ZeroStep) = no-27
+noFor (stop.Failed fault.LoopsFull) = no-28
+noFor (stop.Failed fault.NoLoop) = no-29
 noFor stop.Spent = no-30
 
 no-number : (e : Stop) → noOf (noFor e) ≡ stopNumber e
@@ -315,6 +322,9 @@ no-number (stop.Failed fault.ZeroDivisor) = refl
 no-number (stop.Failed fault.CallsFull) = refl
 no-number (stop.Failed fault.NoCall) = refl
 no-number (stop.Failed fault.RoundCount) = refl
+no-number (stop.Failed fault.ZeroStep) = refl
+no-number (stop.Failed fault.LoopsFull) = refl
+no-number (stop.Failed fault.NoLoop) = refl
 no-number stop.Spent = refl
 
 -- No two are the same.
@@ -335,7 +345,10 @@ noAt n =
     (cond (eqb n 24) no-24
     (cond (eqb n 25) no-25
     (cond (eqb n 26) no-26
-    no-30))))))))))))))
+    (cond (eqb n 27) no-27
+    (cond (eqb n 28) no-28
+    (cond (eqb n 29) no-29
+    no-30)))))))))))))))))
 
 no-back : (x : StopNo) → noAt (noOf x) ≡ x
 no-back no-0 = refl
@@ -353,6 +366,9 @@ no-back no-23 = refl
 no-back no-24 = refl
 no-back no-25 = refl
 no-back no-26 = refl
+no-back no-27 = refl
+no-back no-28 = refl
+no-back no-29 = refl
 no-back no-30 = refl
 
 module _ (u d : List ℕ) (s : State) (m : ℕ) where
@@ -382,6 +398,9 @@ module _ (u d : List ℕ) (s : State) (m : ℕ) where
   stopped-given (stop.Failed fault.CallsFull) place n h q = (h, q)
   stopped-given (stop.Failed fault.NoCall) place n h q = (h, q)
   stopped-given (stop.Failed fault.RoundCount) place n h q = (h, q)
+  stopped-given (stop.Failed fault.ZeroStep) place n h q = (h, q)
+  stopped-given (stop.Failed fault.LoopsFull) place n h q = (h, q)
+  stopped-given (stop.Failed fault.NoLoop) place n h q = (h, q)
   stopped-given stop.Spent place n h q = (h, q)
 
   -- What is given is in its row of the table.
@@ -391,7 +410,7 @@ module _ (u d : List ℕ) (s : State) (m : ℕ) where
       (λ y.
       let r = runFrom (decoded u) m s d 0 in
       let x = run-says (decoded u) m s d in
-      stopped-given (r .outcome .stop) (r .outcome .place) (run-not-malformed (decoded u) (y .unit .code) m s d 0)
+      stopped-given (r .outcome .stop) (r .outcome .place) (run-not-malformed (decoded u) (y .unit .code) (passed-in u (partsOf u) (sound-passed u (partsOf u) (y .unit))) m s d 0 (y .state))
       (record {
         ready = y;
         done = r .outcome .count;
@@ -439,6 +458,9 @@ module _ (u d : List ℕ) (s : State) (m : ℕ) where
   given-named no-24 place h = stopped-named (stop.Failed fault.CallsFull) place (h .0) (h .1)
   given-named no-25 place h = stopped-named (stop.Failed fault.NoCall) place (h .0) (h .1)
   given-named no-26 place h = stopped-named (stop.Failed fault.RoundCount) place (h .0) (h .1)
+  given-named no-27 place h = stopped-named (stop.Failed fault.ZeroStep) place (h .0) (h .1)
+  given-named no-28 place h = stopped-named (stop.Failed fault.LoopsFull) place (h .0) (h .1)
+  given-named no-29 place h = stopped-named (stop.Failed fault.NoLoop) place (h .0) (h .1)
   given-named no-30 place h = stopped-named stop.Spent place (h .0) (h .1)
 
   pub given-exactly : (x : StopNo) (place : ℕ) → Named (noOf x) place ↔ Given u d s m x place

@@ -1,6 +1,7 @@
 -- What expressions come to (document 01, "Values and references"): every number is in the range of values, every place lies inside the data,
 -- and a decimal place has no more characters than a number has digits.
 --   Bounded bound c size w    w is in the range below the bound, or lies inside the data's size bytes or the literals
+--   place-room                a decimal place that is found in a sound unit has some characters, and no more than the limit's
 --   worked-within             what an expression comes to lies where the rules say; place-within, of a place that is found
 -- Assumes nothing.
 use mathlib.Core.Path.{_≡_, refl, subst}
@@ -11,7 +12,7 @@ use native.Mathlib.Omega.{arith}
 use lib.Dec.{ltb, leb}
 use lib.IntN.{ℤ, pos}
 use lib.ListN.{length}
-use borrow.Author.Tests.{leb-true, ltb-false}
+use borrow.Author.Tests.{leb-true, ltb-true, ltb-false}
 use Rattle.rules.specs.declared.Fault.the-variants as fault
 use Rattle.rules.specs.Values.{Val, Limit, Top}
 use Rattle.rules.specs.declared.Num.the-variants.{Failed}
@@ -24,38 +25,46 @@ use Rattle.rules_unit.specs.declared.Form.the-variants as form
 use Rattle.rules_unit.specs.declared.Item.{Item}
 use Rattle.rules_unit.specs.declared.Item.the-variants as item
 use Rattle.rules_unit.specs.Codes.{Code, decimalb}
+use Rattle.rules_unit.specs.Decode.{SoundDialect}
 use Rattle.rules_unit.specs.Expressions.{opTakes, takes, textb}
+use Rattle.rules_unit.specs.Sound.{SoundCode}
 use Rattle.rules_run.specs.declared.Span.{Span}
 use Rattle.rules_run.specs.declared.Span.the-variants.{At, Outside}
 use Rattle.rules_run.specs.declared.Worked.{Worked}
 use Rattle.rules_run.specs.declared.Worked.the-variants as worked
 use Rattle.rules_run.specs.Spans.{spanOf}
 use Rattle.rules_run.specs.Evaluation.{apply, Held, go, halt, stepBy, left, onHeld, asPlace, placeBy, place, textBy, lastOf, workedFrom, workedOf, numberOf, readAt, Within}
-use Rattle.rules_run.proofs.Located.{found-inside}
+use Rattle.rules_run.proofs.Located.{found-inside, span-some}
 use Rattle.rules_run.proofs.Ranges.{apply-range, read-range}
 use Rattle.rules_run.proofs.Held.{Vals, HeldIn, step-in}
 
--- A number in the range, a place inside the data's size bytes (a decimal one of no more than the limit's characters), text inside the literals.
+-- The elements of every field have some bytes.
+abbrev Sized : Code → Type 0
+Sized c = (f : ℕ) → f < c .fields → 1 ≤ c .field f .size
+
+-- A number in the range, a place inside the data's size bytes (a decimal one of no more than the limit's characters, and each of some, where the fields'
+-- elements have some), text inside the literals.
 abbrev pub Bounded : ℕ → Code → ℕ → Worked → Type 0
 Bounded bound c size (worked.Number v) = Val bound v
-Bounded bound c size (worked.Place decimal a n) = (a + n ≤ size) × (decimal ≡ true → n ≤ c .dialect .limit)
+Bounded bound c size (worked.Place decimal a n) = (a + n ≤ size) × (decimal ≡ true → n ≤ c .dialect .limit) × (Sized c → 1 ≤ n)
 Bounded bound c size (worked.Text p l) = p + l ≤ length (c .literals)
 Bounded bound c size (worked.Failed e) = Unit {0}
 
 module _ (c : Code) (d : List ℕ) (bound : ℕ) (truths : 1 < bound) (sums : c .dialect .top ≤ bound) (digits : 10 ^ c .dialect .limit ≤ bound) where
-  found-bounded : (f : ℕ) (s : Span) → ((a n : ℕ) → s ≡ At a n → a + n ≤ length d) → Bounded bound c (length d) (asPlace c f s)
+  found-bounded : (f : ℕ) (s : Span) → ((a n : ℕ) → s ≡ At a n → (a + n ≤ length d) × (Sized c → 1 ≤ n)) → Bounded bound c (length d) (asPlace c f s)
   found-bounded f (At a n) h =
       cond-case (Bounded bound c (length d)) (decimalb c f) _ (worked.Place false a n)
       (λ _. cond-case (Bounded bound c (length d)) (ltb (c .dialect .limit) n) (worked.Failed fault.TooLong) (worked.Place true a n) (λ _. tt)
-      (λ e. (h a n refl, λ _. ltb-false (c .dialect .limit) n e)))
-      (λ _. (h a n refl, λ e. let z : _≡_ {A = ℕ} 0 1 = cc in absurd (omega arith)))
+      (λ e. (h a n refl .0, λ _. ltb-false (c .dialect .limit) n e, h a n refl .1)))
+      (λ _. (h a n refl .0, λ e. let z : _≡_ {A = ℕ} 0 1 = cc in absurd (omega arith), h a n refl .1))
   found-bounded f Outside h = tt
 
   by-bounded : (h : Form) (f : ℕ) (x y : ℤ) → Bounded bound c (length d) (placeBy c d h f x y)
   unfolding placeBy
   by-bounded h f x y =
       cond-case (Bounded bound c (length d)) (ltb f (c .fields)) (asPlace c f (spanOf (length d) (c .field f) h x y)) (worked.Failed fault.Malformed)
-      (λ _. found-bounded f (spanOf (length d) (c .field f) h x y) (λ a n e. found-inside (length d) (c .field f) h x y e))
+      (λ l. found-bounded f (spanOf (length d) (c .field f) h x y)
+      (λ a n e. (found-inside (length d) (c .field f) h x y e, λ sized. span-some (length d) (c .field f) h x y (sized f (ltb-true f (c .fields) l)) e)))
       (λ _. tt)
 
   place-bounded : (h : Form) (f : ℕ) (st : List ℤ) → Bounded bound c (length d) (place c d h f st)
@@ -130,15 +139,23 @@ module _ (c : Code) (d : List ℕ) (bound : ℕ) (truths : 1 < bound) (sums : c 
 -- Eighteen digits are the most that any dialect has.
 within-of : (c : Code) (size : ℕ) (w : Worked) → Bounded (10 ^ 18) c size w → Within c size w
 within-of c size (worked.Number v) h = h
-within-of c size (worked.Place decimal a n) h = h
+within-of c size (worked.Place decimal a n) h = (h .0, h .1)
 within-of c size (worked.Text p l) h = h
 within-of c size (worked.Failed e) h = h
 
+worked-eighteen : (c : Code) (d : List ℕ) → Limit (c .dialect .limit) → Top (c .dialect .top) → (is : List Item) → Bounded (10 ^ 18) c (length d) (workedOf c d is)
+worked-eighteen c d limit bound = worked-bounded c d (10 ^ 18) (omega arith) (bound .most) (pow-le18 (omega (arith, limit .most)))
+
 pub worked-within : (c : Code) (d : List ℕ) → Limit (c .dialect .limit) → Top (c .dialect .top) → (is : List Item) → Within c (length d) (workedOf c d is)
-worked-within c d limit bound is =
-    within-of c (length d) (workedOf c d is)
-    (worked-bounded c d (10 ^ 18) (omega arith) (bound .most) (pow-le18 (omega (arith, limit .most))) is)
+worked-within c d limit bound is = within-of c (length d) (workedOf c d is) (worked-eighteen c d limit bound is)
 
 -- A place that is found lies inside the data.
 pub place-within : (c : Code) (size : ℕ) (w : Worked) (decimal : Bool) (a n : ℕ) → Within c size w → w ≡ worked.Place decimal a n → a + n ≤ size
 place-within c size w decimal a n within e = subst (Within c size) e within .0
+
+-- In a sound unit a decimal place that is found has room for a number.
+pub place-room : (c : Code) → SoundCode c → SoundDialect (c .dialect) → (d : List ℕ) (is : List Item) (a n : ℕ) → workedOf c d is ≡ worked.Place true a n
+    → (a + n ≤ length d) × (1 ≤ n) × (n ≤ c .dialect .limit)
+place-room c u dialect d is a n e =
+    let b = subst (Bounded (10 ^ 18) c (length d)) e (worked-eighteen c d (dialect .limit) (dialect .bound) is) in
+    (b .0, b .2 (λ f h. u .entries f h .own .some), b .1 refl)

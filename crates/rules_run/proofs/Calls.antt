@@ -44,26 +44,26 @@ module _ (u d : List ℕ) (s : State) (m : ℕ) where
     call-wrong-size n = rw (e, ne-eqb (length d) (p .d) n)
 
     -- "7 | resume state unsound"
-    pub call-unsound : length d ≡ p .d → (Sound (p .n) s → ⊥) → runOf u d s m ≡ refused stop.Unsound s d
+    pub call-unsound : length d ≡ p .d → (Sound (codeOf u p) s → ⊥) → runOf u d s m ≡ refused stop.Unsound s d
     unfolding runOf runChecked
-    call-unsound l n = rw (e, eq-eqb (length d) (p .d) l, tells-no (sound-tells (p .n) s) n)
+    call-unsound l n = rw (e, eq-eqb (length d) (p .d) l, tells-no (sound-tells (codeOf u p) s) n)
 
-    pub call-runs : length d ≡ p .d → Sound (p .n) s → runOf u d s m ≡ runFrom (codeOf u p) m s d 0
+    pub call-runs : length d ≡ p .d → Sound (codeOf u p) s → runOf u d s m ≡ runFrom (codeOf u p) m s d 0
     unfolding runOf runChecked
-    call-runs l t = rw (e, eq-eqb (length d) (p .d) l, sound-of (p .n) s t)
+    call-runs l t = rw (e, eq-eqb (length d) (p .d) l, sound-of (codeOf u p) s t)
 
 -- A fact of every call: it holds where the call is refused, and of the run where it is not.
 pub every-call : (P : Ran → Type 0) (u d : List ℕ) (s : State) (m : ℕ) → ((e : Stop) → beforeb e ≡ true → P (refused e s d))
-    → ((p : Parts) → checkOf u ≡ checked.Passed p → length d ≡ p .d → Sound (p .n) s → P (runFrom (codeOf u p) m s d 0)) → P (runOf u d s m)
+    → ((p : Parts) → checkOf u ≡ checked.Passed p → length d ≡ p .d → Sound (codeOf u p) s → P (runFrom (codeOf u p) m s d 0)) → P (runOf u d s m)
 unfolding runOf runChecked
 every-call P u d s m before runs = by (checkOf u) refl
   where
-    tested : (p : Parts) → checkOf u ≡ checked.Passed p → (t v : Bool) → eqb (length d) (p .d) ≡ t → soundb (p .n) s ≡ v
+    tested : (p : Parts) → checkOf u ≡ checked.Passed p → (t v : Bool) → eqb (length d) (p .d) ≡ t → soundb (codeOf u p) s ≡ v
         → P (cond t (cond v (runFrom (codeOf u p) m s d 0) (refused stop.Unsound s d)) (refused stop.WrongSize s d))
-    tested p e true true f g = runs p e (eqb-true (length d) (p .d) f) (sound-to (p .n) s g)
+    tested p e true true f g = runs p e (eqb-true (length d) (p .d) f) (sound-to (codeOf u p) s g)
     tested p e true false f g = before stop.Unsound refl
     tested p e false v f g = before stop.WrongSize refl
 
     by : (x : Checked) → checkOf u ≡ x → P (runBy u d s m x)
-    by (checked.Passed p) e = tested p e (eqb (length d) (p .d)) (soundb (p .n) s) refl refl
+    by (checked.Passed p) e = tested p e (eqb (length d) (p .d)) (soundb (codeOf u p) s) refl refl
     by (checked.Refused r) e = before (stop.Refused r) refl

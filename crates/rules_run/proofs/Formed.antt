@@ -35,6 +35,9 @@ formedb fault.ZeroDivisor = true
 formedb fault.CallsFull = true
 formedb fault.NoCall = true
 formedb fault.RoundCount = true
+formedb fault.ZeroStep = true
+formedb fault.LoopsFull = true
+formedb fault.NoLoop = true
 
 -- ---- an item that is not last
 

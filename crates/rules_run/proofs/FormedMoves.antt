@@ -32,6 +32,8 @@ formedFlow (flow.Goto i) = true
 formedFlow (flow.Call i) = true
 formedFlow flow.Return = true
 formedFlow flow.Stop = true
+formedFlow (flow.Enter limit step) = true
+formedFlow (flow.Leave i) = true
 formedFlow (flow.Bad e) = formedb e
 
 -- This is a named record, so that a search finds its argument.

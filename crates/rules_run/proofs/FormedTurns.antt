@@ -1,37 +1,48 @@
--- A statement of a sound unit never answers Malformed, whatever the data are (document 01, "The coded unit").
+-- A statement of a sound unit never answers Malformed, whatever the data are, where what it sees of the state is sound (document 01, "The coded unit"; request 4
+-- of document 02, "FOR loops").
 -- Assumes nothing.
-use Prim.Native.Nat.{ℕ}
+use Prim.Native.Nat.{ℕ, _+_, _<_}
 use native.Mathlib.Omega.{arith}
-use mathlib.Core.Path.{_≡_, refl, sym, ap, _∙_}
+use mathlib.Core.Path.{_≡_, refl, sym, ap, _∙_, subst}
 use mathlib.Core.Bool.{Bool, true, false, false≢true}
 use mathlib.Core.List.{List}
-use lib.Dec.{eqb}
-use lib.IntN.{ℤ, natAbs}
+use lib.Dec.{ltb, eqb}
+use lib.IntN.{ℤ, natAbs, _+ℤ_}
+use lib.ListN.{getD}
+use borrow.Author.Tests.{eqb-false}
+use Rattle.rules.specs.declared.Fault.the-variants as fault
 use Rattle.rules.specs.declared.Num.{Num}
 use Rattle.rules.specs.declared.Num.the-variants.{Value, Failed}
+use Rattle.rules.specs.Arithmetic.{addOf}
+use Rattle.rules.proofs.Walk.{cond-either, cond-case}
 use Rattle.rules_unit.specs.declared.Statement.{Statement}
 use Rattle.rules_unit.specs.declared.Act.{Act}
 use Rattle.rules_unit.specs.declared.Act.the-variants as act
 use Rattle.rules_unit.specs.declared.Verb.{Verb}
 use Rattle.rules_unit.specs.declared.Verb.the-variants as verb
-use Rattle.rules_unit.specs.Table.{verbOf, rowOf}
+use Rattle.rules_unit.specs.declared.Use.the-variants as use-of
+use Rattle.rules_unit.specs.Table.{verbOf, rowOf, usesBy}
 use Rattle.rules_unit.specs.declared.Sort.the-variants as sort
 use Rattle.rules_unit.specs.declared.Want.{Want}
 use Rattle.rules_unit.specs.declared.Want.the-variants as want
 use Rattle.rules_unit.specs.Codes.{Code}
-use Rattle.rules_unit.specs.Expressions.{placeSort, sortAt, suits}
-use Rattle.rules_unit.specs.Sound.{RowSound, StatementSound}
+use Rattle.rules_unit.specs.Expressions.{placeSort, sortAt, nextAt, suits, useb}
+use Rattle.rules_unit.specs.Sound.{RowSound, SoundCode}
 use Rattle.rules_unit.proofs.Sorts.{suits-right}
 use Rattle.rules_unit.proofs.Statements.{uses-good, Used}
+use Rattle.rules_unit.proofs.Table.{verb-for}
 use Rattle.rules_run.specs.declared.Worked.{Worked}
 use Rattle.rules_run.specs.declared.Worked.the-variants as worked
 use Rattle.rules_run.specs.declared.Write.{Write}
 use Rattle.rules_run.specs.declared.Write.the-variants as write
+use Rattle.rules_run.specs.declared.Flow.{Flow}
 use Rattle.rules_run.specs.declared.Flow.the-variants as flow
 use Rattle.rules_run.specs.declared.Turn.{Turn}
-use Rattle.rules_run.specs.Evaluation.{readAt, workedOf, numberOf}
-use Rattle.rules_run.specs.Turns.{onPlace, clearAt, counted, countAt, caseAt, editNum, editBy, editAt, ifZero, choose, actAt, turnBy, turnOf}
-use Rattle.rules_run.proofs.Faults.{passes}
+use Rattle.rules_run.specs.declared.Look.{Look}
+use Rattle.rules_run.specs.States.{LookSound}
+use Rattle.rules_run.specs.Evaluation.{readAt, workedOf, numberOf, valueAt}
+use Rattle.rules_run.specs.Turns.{turn, failed, onPlace, clearAt, counted, countAt, caseAt, editNum, editBy, editAt, ifZero, choose, onValue, testb, fitsb, controls, enterFlow, enterAt, enters, entryOf, passFlow, passAt, onLoop, repeats, exits, actAt, turnBy, turnOf}
+use Rattle.rules_run.proofs.Faults.{passes, kept-passes}
 use Rattle.rules_run.proofs.Formed.{formedb}
 use Rattle.rules_run.proofs.Comes.{Comes}
 use Rattle.rules_run.proofs.Sorted.{sort-comes}
@@ -98,19 +109,79 @@ module _ (c : Code) (d : List ℕ) where
       formed-place want.AlphaPlace (s .a) (actAt c d act.Edit s) refl refl (u 0 (omega arith))
       (λ t x n q. formed-edit t x n q (s .b) (u 1 (omega arith)) (numberOf c d (workedOf c d (c .items (s .c)))) (number-formed (s .c) (u 2 (omega arith))))
 
-  formed-by : (i : ℕ) (v : Verb) (s : Statement) → RowSound c i (rowOf v) s → Used c (rowOf v) s → Formed (turnBy c i d v s)
-  unfolding turnBy
-  formed-by i (verb.At x) s f u = formed-act x s u
-  formed-by i verb.Goto s f u = record { formed = refl }
-  formed-by i verb.IfZero s f u =
-      formed-on (numberOf c d (workedOf c d (c .items (s .b)))) (ifZero (s .c)) (number-formed (s .b) (u 1 (omega arith))) (λ v. flow-cond (eqb (natAbs v) 0) (flow.Goto (s .c)) flow.Next refl refl)
-  formed-by i verb.Call s f u = record { formed = refl }
-  formed-by i verb.Return s f u = record { formed = refl }
-  formed-by i verb.Stop s f u = record { formed = refl }
-  formed-by i verb.Computed s f u =
-      formed-on (numberOf c d (workedOf c d (c .items (s .b)))) (choose i (s .a)) (number-formed (s .b) (u 1 (omega arith))) (formed-choose i (s .a))
-  formed-by i verb.Bad s f u = absurd (f .of-a)
+  -- ---- the statements of a loop
 
-  pub turn-formed : (i : ℕ) → StatementSound c i → formedFlow (turnOf c i d .flow) ≡ true
+  formed-value : (r : Num) (k : ℤ → Turn) → passes formedb r ≡ true → ((v : ℤ) → Formed (k v)) → Formed (onValue r k)
+  formed-value (Value v) k m h = h v
+  formed-value (Failed e) k m h = formed-failed e m
+
+  formed-controls : (a n : ℕ) (v : ℤ) (f : Flow) → formedFlow f ≡ true → Formed (controls a n v f)
+  formed-controls a n v f h = cond-either Formed (fitsb n v) (turn (write.Number a n v) f) (failed fault.TooLong) (record { formed = h }) (formed-failed fault.TooLong refl)
+
+  formed-enter : (s : Statement) → Used c (rowOf verb.For) s → (decimal : Bool) (a n : ℕ) → suits want.DecimalPlace (placeSort decimal) ≡ true → Formed (enterAt c d s decimal a n)
+  formed-enter s u true a n q =
+      formed-value (valueAt c d (s .b)) _ (number-formed (s .b) (u 1 (omega arith)))
+      (λ v. formed-value (valueAt c d (nextAt c (s .b))) _ (number-formed (nextAt c (s .b)) (u 3 (omega arith)))
+      (λ limit. formed-value (valueAt c d (nextAt c (nextAt c (s .b)))) _ (number-formed (nextAt c (nextAt c (s .b))) (u 4 (omega arith)))
+      (λ step. cond-either Formed (eqb (natAbs step) 0) (failed fault.ZeroStep) _ (formed-failed fault.ZeroStep refl)
+      (formed-controls a n v (enterFlow (s .c) v limit step) (flow-cond (testb v limit step) (flow.Enter limit step) (flow.Goto (s .c + 1)) refl refl)))))
+  formed-enter s u false a n q = absurd (false≢true q)
+
+  formed-enters : (l : Look) (s : Statement) → Used c (rowOf verb.For) s → Formed (enters c l d s)
+  unfolding enters
+  formed-enters l s u =
+      cond-either Formed (ltb (l .opened) 16) _ (failed fault.LoopsFull) (formed-place want.DecimalPlace (s .a) (enterAt c d s) refl refl (u 0 (omega arith)) (formed-enter s u))
+      (formed-failed fault.LoopsFull refl)
+
+  formed-pass : (l : Look) (decimal : Bool) (a n : ℕ) → suits want.DecimalPlace (placeSort decimal) ≡ true → Formed (passAt c l d decimal a n)
+  formed-pass l true a n q =
+      formed-value (readAt c d a n) _ (read-formed c d a n)
+      (λ x. formed-value (addOf (c .dialect .top) x (l .last .step)) _ (kept-passes formedb refl (c .dialect .top) (x +ℤ l .last .step))
+      (λ v. formed-controls a n v (passFlow c l v) (flow-cond (testb v (l .last .limit) (l .last .step)) (flow.Goto (l .last .entry + 1)) (flow.Leave (entryOf c l .c + 1)) refl refl)))
+  formed-pass l false a n q = absurd (false≢true q)
+
+  formed-loop : (l : Look) (t : Turn) → (0 < l .opened → Formed t) → Formed (onLoop l t)
+  formed-loop l t f =
+      cond-case Formed (eqb (l .opened) 0) (failed fault.NoLoop) t (λ e. formed-failed fault.NoLoop refl) (λ e. f (omega (arith, eqb-false (l .opened) 0 e)))
+
+  -- The control place of the loop opened last is of the sort that is wanted.
+  abbrev Controlled : Look → Type 0
+  Controlled l = 0 < l .opened → suits want.DecimalPlace (sortAt c (entryOf c l .a)) ≡ true
+
+  formed-repeats : (l : Look) → Controlled l → Formed (repeats c l d)
+  unfolding repeats
+  formed-repeats l o = formed-loop l _ (λ h. formed-place want.DecimalPlace (entryOf c l .a) (passAt c l d) refl refl (o h) (formed-pass l))
+
+  formed-exits : (l : Look) → Formed (exits c l)
+  unfolding exits
+  formed-exits l = formed-loop l _ (λ h. record { formed = refl })
+
+  -- It is, where the unit and what is seen are sound: it is the place of a FOR.
+  for-controlled : SoundCode c → (l : Look) → LookSound c l → Controlled l
+  for-controlled u l k h =
+      let e = l .last .entry in
+      let used = uses-good c e (u .statements e (k .last h .low) .uses) in
+      subst (λ (v : Verb). useb c (getD (usesBy c (rowOf v) (entryOf c l)) 0 use-of.Nothing) ≡ true) (verb-for (entryOf c l .code) (k .last h .enters)) (used 0 (omega arith))
+
+  formed-by : (l : Look) → Controlled l → (i : ℕ) (v : Verb) (s : Statement) → RowSound c i (rowOf v) s → Used c (rowOf v) s → Formed (turnBy c l i d v s)
+  unfolding turnBy
+  formed-by l o i (verb.At x) s f u = formed-act x s u
+  formed-by l o i verb.Goto s f u = record { formed = refl }
+  formed-by l o i verb.IfZero s f u =
+      formed-on (numberOf c d (workedOf c d (c .items (s .b)))) (ifZero (s .c)) (number-formed (s .b) (u 1 (omega arith))) (λ v. flow-cond (eqb (natAbs v) 0) (flow.Goto (s .c)) flow.Next refl refl)
+  formed-by l o i verb.Call s f u = record { formed = refl }
+  formed-by l o i verb.Return s f u = record { formed = refl }
+  formed-by l o i verb.Stop s f u = record { formed = refl }
+  formed-by l o i verb.Computed s f u =
+      formed-on (numberOf c d (workedOf c d (c .items (s .b)))) (choose i (s .a)) (number-formed (s .b) (u 1 (omega arith))) (formed-choose i (s .a))
+  formed-by l o i verb.For s f u = formed-enters l s u
+  formed-by l o i verb.LoopEnd s f u = formed-repeats l o
+  formed-by l o i verb.ExitLoop s f u = formed-exits l
+  formed-by l o i verb.NextLoop s f u = formed-repeats l o
+  formed-by l o i verb.Bad s f u = absurd (f .of-a)
+
+  pub turn-formed : SoundCode c → (l : Look) → LookSound c l → (i : ℕ) → i < c .statements → formedFlow (turnOf c l i d .flow) ≡ true
   unfolding turnOf
-  turn-formed i s = formed-by i (verbOf (c .statement i .code)) (c .statement i) (s .shape .parts) (uses-good c i (s .uses)) .formed
+  turn-formed u l k i h =
+      let s = u .statements i h in
+      formed-by l (for-controlled u l k) i (verbOf (c .statement i .code)) (c .statement i) (s .shape .parts) (uses-good c i (s .uses)) .formed

@@ -1,31 +1,33 @@
 -- Where statements lead, by their codes (document 01, "The coded unit"): GOTO, the test for zero and the computed GOTO; the codes that write their place a go
--- on at the next statement, and the others leave the data.
+-- on at the next statement, but for FOR, and the others leave the data, but for those that go on with a loop.
 -- Assumes nothing.
 use Prim.Native.Nat.{ℕ, zero, suc, _+_, _≤_}
 use native.Mathlib.Omega.{arith}
-use mathlib.Core.Path.{_≡_, refl, sym, ap, _∙_, subst}
+use mathlib.Core.Path.{_≡_, refl, sym, subst}
 use mathlib.Core.Logic.{_⊎_, inl, inr}
 use mathlib.Core.Bool.{Bool, true, false, cond}
 use mathlib.Core.List.{List}
-use lib.Dec.{leb}
+use lib.Dec.{leb, eqb}
 use lib.IntN.{ℤ, pos, negsuc, natAbs}
 use borrow.Author.Tests.{leb-true, le-leb, eq-eqb, ne-eqb}
+use Rattle.rules.specs.declared.Fault.the-variants as fault
 use Rattle.rules.specs.declared.Num.{Num}
 use Rattle.rules.specs.declared.Num.the-variants.{Value, Failed}
+use Rattle.rules.proofs.Walk.{cond-either}
 use Rattle.rules_unit.specs.declared.Act.{Act}
 use Rattle.rules_unit.specs.declared.Act.the-variants as act
 use Rattle.rules_unit.specs.declared.Verb.{Verb}
 use Rattle.rules_unit.specs.declared.Verb.the-variants as verb
 use Rattle.rules_unit.specs.Codes.{Code}
-use Rattle.rules_unit.specs.Table.{verbOf, WritesA}
-use Rattle.rules_unit.proofs.Table.{codeBack, verb-code, writes-some}
+use Rattle.rules_unit.specs.Table.{verbOf, WritesA, Repeats}
+use Rattle.rules_unit.proofs.Table.{codeBack, code-of, writes-some}
 use Rattle.rules_run.specs.declared.Flow.{Flow}
 use Rattle.rules_run.specs.declared.Flow.the-variants as flow
 use Rattle.rules_run.specs.declared.Write.the-variants as write
 use Rattle.rules_run.specs.declared.State.{State}
-use Rattle.rules_run.specs.States.{gone}
+use Rattle.rules_run.specs.States.{gone, lookOf}
 use Rattle.rules_run.specs.Evaluation.{workedOf, numberOf}
-use Rattle.rules_run.specs.Turns.{applied, onNumber, ifZero, choose, turnBy, turnOf}
+use Rattle.rules_run.specs.Turns.{applied, failed, onNumber, ifZero, choose, exits, turnBy, turnOf}
 use Rattle.rules_run.specs.Runs.{to, movedBy, nextOf, dataAfter}
 use Rattle.rules_run.proofs.Cases.{act-case}
 
@@ -73,6 +75,8 @@ Onward (flow.Goto i) = ⊥
 Onward (flow.Call i) = ⊥
 Onward flow.Return = ⊥
 Onward flow.Stop = ⊥
+Onward (flow.Enter limit step) = ⊥
+Onward (flow.Leave i) = ⊥
 Onward (flow.Bad e) = Unit {0}
 
 onward-to : (n : ℕ) (s t : State) (f : Flow) → Onward f → movedBy n s f ≡ to t → t ≡ gone s (s .at + 1)
@@ -82,6 +86,8 @@ onward-to n s t (flow.Goto i) h e = absurd h
 onward-to n s t (flow.Call i) h e = absurd h
 onward-to n s t flow.Return h e = absurd h
 onward-to n s t flow.Stop h e = absurd h
+onward-to n s t (flow.Enter limit step) h e = absurd h
+onward-to n s t (flow.Leave i) h e = absurd h
 onward-to n s t (flow.Bad x) h e = let z : _≡_ {A = ℕ} 0 1 = cc in absurd (omega arith)
 
 -- The verb of a code from 1 to 6.
@@ -96,10 +102,11 @@ low-verb (suc (suc (suc (suc (suc zero))))) l m = (act.Case true, refl)
 low-verb (suc (suc (suc (suc (suc (suc zero)))))) l m = (act.Case false, refl)
 low-verb (suc (suc (suc (suc (suc (suc (suc code))))))) l m = absurd (omega arith)
 
-store-verb : (code : ℕ) → WritesA code → (x : Act) × (verbOf code ≡ verb.At x)
+store-verb : (code : ℕ) → WritesA code → (code ≡ 14 → ⊥) → (x : Act) × (verbOf code ≡ verb.At x)
 unfolding verbOf
-store-verb code (inl h) = low-verb code (h .0) (h .1)
-store-verb code (inr e) = (act.Edit, rw e)
+store-verb code (inl h) n = low-verb code (h .0) (h .1)
+store-verb code (inr (inl e)) n = (act.Edit, rw e)
+store-verb code (inr (inr e)) n = absurd (n e)
 
 back-store : (x : Act) → WritesA (codeBack (verb.At x))
 back-store act.Set = inl (omega arith, omega arith)
@@ -108,46 +115,58 @@ back-store (act.Count true) = inl (omega arith, omega arith)
 back-store (act.Count false) = inl (omega arith, omega arith)
 back-store (act.Case true) = inl (omega arith, omega arith)
 back-store (act.Case false) = inl (omega arith, omega arith)
-back-store act.Edit = inr refl
+back-store act.Edit = inr (inl refl)
+
+-- The codes that may store: those that write their place a, and those that go on with a loop.
+abbrev Stores : ℕ → Type 0
+Stores code = WritesA code ⊎ Repeats code
+
+stores-some : (code : ℕ) → Stores code → 1 ≤ code
+stores-some code (inl h) = writes-some code h
+stores-some code (inr (inl e)) = omega (arith, e)
+stores-some code (inr (inr e)) = omega (arith, e)
 
 number-nothing : (r : Num) (k : ℤ → Flow) → onNumber r k .write ≡ write.Nothing
 number-nothing (Value v) k = refl
 number-nothing (Failed e) k = refl
 
 module _ (c : Code) (s : State) (d : List ℕ) where
-  pub stores-next : WritesA (c .statement (s .at) .code) → (t : State) → nextOf c s d ≡ to t → t ≡ gone s (s .at + 1)
+  pub stores-next : WritesA (c .statement (s .at) .code) → (c .statement (s .at) .code ≡ 14 → ⊥) → (t : State) → nextOf c s d ≡ to t → t ≡ gone s (s .at + 1)
   unfolding turnOf
-  stores-next a t e =
-      let x = store-verb (c .statement (s .at) .code) a in
-      onward-to (c .statements) s t (turnOf c (s .at) d .flow)
-      (subst (λ (v : Verb). Onward (turnBy c (s .at) d v (c .statement (s .at)) .flow)) (sym (x .1))
-      (act-case (λ u. Onward (u .flow)) (λ f w. tt) (λ w. tt) c d (s .at) (x .0) (c .statement (s .at)))) e
+  stores-next a n t e =
+      let x = store-verb (c .statement (s .at) .code) a n in
+      onward-to (c .statements) s t (turnOf c (lookOf s) (s .at) d .flow)
+      (subst (λ (v : Verb). Onward (turnBy c (lookOf s) (s .at) d v (c .statement (s .at)) .flow)) (sym (x .1))
+      (act-case (λ u. Onward (u .flow)) (λ f w. tt) (λ w. tt) c d (lookOf s) (s .at) (x .0) (c .statement (s .at)))) e
 
-  -- What is stored by a statement that does nothing at a place: nothing.
-  nothing-by : (v : Verb) → (turnBy c (s .at) d v (c .statement (s .at)) .write ≡ write.Nothing) ⊎ ((x : Act) × (v ≡ verb.At x))
-  unfolding turnBy
-  nothing-by (verb.At x) = inr (x, refl)
+  -- What is stored by a statement of another code: nothing.
+  nothing-by : (v : Verb) → (turnBy c (lookOf s) (s .at) d v (c .statement (s .at)) .write ≡ write.Nothing) ⊎ Stores (codeBack v)
+  unfolding turnBy exits
+  nothing-by (verb.At x) = inr (inl (back-store x))
   nothing-by verb.Goto = inl refl
   nothing-by verb.IfZero = inl (number-nothing (numberOf c d (workedOf c d (c .items (c .statement (s .at) .b)))) (ifZero (c .statement (s .at) .c)))
   nothing-by verb.Call = inl refl
   nothing-by verb.Return = inl refl
   nothing-by verb.Stop = inl refl
   nothing-by verb.Computed = inl (number-nothing (numberOf c d (workedOf c d (c .items (c .statement (s .at) .b)))) (choose (s .at) (c .statement (s .at) .a)))
+  nothing-by verb.For = inr (inl (inr (inr refl)))
+  nothing-by verb.LoopEnd = inr (inr (inl refl))
+  nothing-by verb.ExitLoop = inl (cond-either (λ t. t .write ≡ write.Nothing) (eqb (s .opened) 0) (failed fault.NoLoop) _ refl refl)
+  nothing-by verb.NextLoop = inr (inr (inr refl))
   nothing-by verb.Bad = inl refl
 
-  pub jumps-keep-data : (WritesA (c .statement (s .at) .code) → ⊥) → dataAfter c s d ≡ d
+  pub jumps-keep-data : (WritesA (c .statement (s .at) .code) → ⊥) → (Repeats (c .statement (s .at) .code) → ⊥) → dataAfter c s d ≡ d
   unfolding turnOf applied
-  jumps-keep-data l = by (nothing-by (verbOf (c .statement (s .at) .code)))
+  jumps-keep-data x y = by (nothing-by (verbOf (c .statement (s .at) .code)))
     where
-      none : (x : Act) → verbOf (c .statement (s .at) .code) ≡ verb.At x
-          → (verbOf (c .statement (s .at) .code) ≡ verb.Bad) ⊎ (codeBack (verbOf (c .statement (s .at) .code)) ≡ c .statement (s .at) .code)
-          → ⊥
-      none x e (inl q) =
-          let z : _≡_ {A = Verb} verb.Bad (verb.At x) = sym q ∙ e in omega (arith, ap codeBack z, writes-some (codeBack (verb.At x)) (back-store x))
-      none x e (inr q) = l (subst WritesA (sym (ap codeBack e) ∙ q) (back-store x))
+      none : (code : ℕ) → Stores code → (WritesA code → ⊥) → (Repeats code → ⊥) → ⊥
+      none code (inl h) x y = x h
+      none code (inr h) x y = y h
 
-      by : (turnBy c (s .at) d (verbOf (c .statement (s .at) .code)) (c .statement (s .at)) .write ≡ write.Nothing)
-          ⊎ ((x : Act) × (verbOf (c .statement (s .at) .code) ≡ verb.At x))
+      by : (turnBy c (lookOf s) (s .at) d (verbOf (c .statement (s .at) .code)) (c .statement (s .at)) .write ≡ write.Nothing)
+          ⊎ Stores (codeBack (verbOf (c .statement (s .at) .code)))
           → dataAfter c s d ≡ d
       by (inl e) = rw e
-      by (inr (x, e)) = absurd (none x e (verb-code (c .statement (s .at) .code)))
+      by (inr h) =
+          let code = c .statement (s .at) .code in
+          absurd (none code (subst Stores (sym (code-of code (verbOf code) (stores-some (codeBack (verbOf code)) h) refl)) h) x y)

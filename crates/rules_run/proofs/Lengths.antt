@@ -18,6 +18,7 @@ use Rattle.rules_unit.specs.Checks.{checkOf}
 use Rattle.rules_unit.proofs.Sound.{passed-parts}
 use Rattle.rules_run.specs.declared.State.{State}
 use Rattle.rules_run.specs.Turns.{turnOf}
+use Rattle.rules_run.specs.States.{lookOf}
 use Rattle.rules_run.specs.Runs.{runFrom}
 use Rattle.rules_run.proofs.Outside.{applied-length}
 use Rattle.rules_run.proofs.Room.{turn-room}
@@ -34,7 +35,7 @@ eighteen-sound =
     }
 
 -- Whatever the mark is, the dialect is sound.
-parts-dialect : (u : List ℕ) → SoundDialect (partsOf u .dialect)
+pub parts-dialect : (u : List ℕ) → SoundDialect (partsOf u .dialect)
 unfolding markOf partsOf
 parts-dialect u =
     cond-case Sound (eqb (getD u (length u - 2) 0) 0x44) _ mark.Wrong
@@ -49,7 +50,7 @@ pub run-length : (c : Code) → Limit (c .dialect .limit) → Top (c .dialect .t
     → length (runFrom c m s d k .bytes) ≡ length d
 run-length c limit bound =
     every-run c (λ m s d k r. length (r .bytes) ≡ length d) (λ m s d k h. refl) (λ s d k h. refl) (λ m s d k f h q. refl)
-    (λ m s s′ d k r h q x. x ∙ applied-length c d (turnOf c (s .at) d .write) (turn-room c d limit bound (s .at)))
+    (λ m s s′ d k r h q x. x ∙ applied-length c d (turnOf c (lookOf s) (s .at) d .write) (turn-room c d limit bound (lookOf s) (s .at)))
 
 module _ (u : List ℕ) (p : Parts) (e : checkOf u ≡ checked.Passed p) where
   pub passed-dialect : SoundDialect (p .dialect)

@@ -17,10 +17,12 @@ pub mod States
 pub mod Steps
 pub mod Runs
 pub mod Calls
+pub mod Lengths
 pub mod SoundRuns
 pub mod Malformed
-pub mod Lengths
 pub mod Resumed
 pub mod Answers
 pub mod OpenCalls
 pub mod Jumps
+pub mod OpenLoops
+pub mod Controls

@@ -4,89 +4,82 @@
 use Prim.Native.Nat.{ℕ, _+_, _-_, _<_, _≤_}
 use native.Mathlib.Omega.{arith}
 use mathlib.Core.Path.{_≡_, refl, sym, ap, _∙_, subst}
-use mathlib.Core.Bool.{Bool, true, false, false≢true}
-use mathlib.Core.Logic.{_↔_, _⊎_, inl, inr}
+use mathlib.Core.Bool.{Bool, true, false}
+use mathlib.Core.Logic.{_↔_}
 use mathlib.Core.List.{List}
 use lib.Dec.{ltb, eqb}
 use lib.ListN.{getD, set}
 use borrow.Author.Tests.{ltb-true, ltb-false, lt-ltb, le-ltb, eqb-true, eqb-false, eq-eqb, ne-eqb}
 use Rattle.rules.specs.declared.Fault.{Fault}
 use Rattle.rules.specs.declared.Fault.the-variants as fault
-use Rattle.rules_unit.specs.declared.Statement.{Statement}
-use Rattle.rules_unit.specs.declared.Verb.{Verb}
 use Rattle.rules_unit.specs.declared.Verb.the-variants as verb
 use Rattle.rules_unit.specs.Codes.{Code}
 use Rattle.rules_unit.specs.Table.{verbOf}
-use Rattle.rules_unit.proofs.Table.{codeBack, verb-code}
+use Rattle.rules_unit.proofs.Table.{code-of}
 use Rattle.rules_run.specs.declared.Flow.{Flow}
 use Rattle.rules_run.specs.declared.Flow.the-variants as flow
 use Rattle.rules_run.specs.declared.State.{State}
+use Rattle.rules_run.specs.States.{lookOf}
 use Rattle.rules_run.specs.Turns.{turnBy, turnOf}
 use Rattle.rules_run.specs.Runs.{Moved, to, stuck, movedBy, nextOf}
-use Rattle.rules_run.proofs.Cases.{MayGo, turn-case}
-use Rattle.rules_run.proofs.Working.{workb}
-
--- ---- a statement that is neither CALL nor RETURN
-
--- It neither opens nor closes a call, and gives neither 24 nor 25.
-abbrev Keeps : Flow → Type 0
-Keeps flow.Next = Unit {0}
-Keeps (flow.Goto i) = Unit {0}
-Keeps (flow.Call i) = ⊥
-Keeps flow.Return = ⊥
-Keeps flow.Stop = Unit {0}
-Keeps (flow.Bad e) = workb e ≡ true
-
-abbrev MovedKeeps : State → Moved → Type 0
-MovedKeeps s (to t) = (t .depth ≡ s .depth) × (t .returns ≡ s .returns)
-MovedKeeps s (stuck f) = workb f ≡ true
-
-moved-keeps : (n : ℕ) (s : State) (f : Flow) → Keeps f → MovedKeeps s (movedBy n s f)
-unfolding movedBy
-moved-keeps n s flow.Next h = (refl, refl)
-moved-keeps n s (flow.Goto i) h = (refl, refl)
-moved-keeps n s (flow.Call i) h = absurd h
-moved-keeps n s flow.Return h = absurd h
-moved-keeps n s flow.Stop h = (refl, refl)
-moved-keeps n s (flow.Bad e) h = h
-
-may-keeps : (i : ℕ) (v : Verb) (t : Statement) → (v ≡ verb.Call → ⊥) → (v ≡ verb.Return → ⊥) → (f : Flow) → MayGo i v t f → Keeps f
-may-keeps i v t x y flow.Next h = tt
-may-keeps i v t x y (flow.Goto j) h = tt
-may-keeps i v t x y (flow.Call j) h = x (h .0)
-may-keeps i v t x y flow.Return h = y h
-may-keeps i v t x y flow.Stop h = tt
-may-keeps i v t x y (flow.Bad e) h = absurd h
+use Rattle.rules_run.proofs.Cases.{MayFail, MayGo, turn-case}
 
 module _ (c : Code) (s : State) (d : List ℕ) where
   abbrev code : ℕ
   code = c .statement (s .at) .code
 
-  -- What a code's verb tells of the code.
-  code-of : (v : Verb) → (v ≡ verb.Bad → ⊥) → verbOf code ≡ v → code ≡ codeBack v
-  code-of v n e = by (verb-code code)
-    where
-      by : (verbOf code ≡ verb.Bad) ⊎ (codeBack (verbOf code) ≡ code) → code ≡ codeBack v
-      by (inl q) = absurd (n (sym e ∙ q))
-      by (inr q) = sym q ∙ ap codeBack e
+  -- ---- a statement that is neither CALL nor RETURN
 
-  pub other-keeps : (code ≡ 9 → ⊥) → (code ≡ 10 → ⊥) → MovedKeeps s (nextOf c s d)
+  -- A fault that it may give.
+  abbrev Fails : Fault → Type 0
+  Fails e = MayFail c (lookOf s) d (verbOf code) (c .statement (s .at)) e
+
+  -- It neither opens nor closes a call, and gives neither 24 nor 25.
+  abbrev Keeps : Flow → Type 0
+  Keeps flow.Next = Unit {0}
+  Keeps (flow.Goto i) = Unit {0}
+  Keeps (flow.Call i) = ⊥
+  Keeps flow.Return = ⊥
+  Keeps flow.Stop = Unit {0}
+  Keeps (flow.Enter limit step) = Unit {0}
+  Keeps (flow.Leave i) = Unit {0}
+  Keeps (flow.Bad e) = Fails e
+
+  abbrev MovedKeeps : Moved → Type 0
+  MovedKeeps (to t) = (t .depth ≡ s .depth) × (t .returns ≡ s .returns)
+  MovedKeeps (stuck f) = Fails f
+
+  moved-keeps : (f : Flow) → Keeps f → MovedKeeps (movedBy (c .statements) s f)
+  unfolding movedBy
+  moved-keeps flow.Next h = (refl, refl)
+  moved-keeps (flow.Goto i) h = (refl, refl)
+  moved-keeps (flow.Call i) h = absurd h
+  moved-keeps flow.Return h = absurd h
+  moved-keeps flow.Stop h = (refl, refl)
+  moved-keeps (flow.Enter limit step) h = (refl, refl)
+  moved-keeps (flow.Leave i) h = (refl, refl)
+  moved-keeps (flow.Bad e) h = h
+
+  may-keeps : (code ≡ 9 → ⊥) → (code ≡ 10 → ⊥) → (f : Flow) → MayGo c (lookOf s) (s .at) d (verbOf code) (c .statement (s .at)) f → Keeps f
+  may-keeps x y flow.Next h = tt
+  may-keeps x y (flow.Goto j) h = tt
+  may-keeps x y (flow.Call j) h = x (code-of code verb.Call (omega arith) (h .0))
+  may-keeps x y flow.Return h = y (code-of code verb.Return (omega arith) h)
+  may-keeps x y flow.Stop h = tt
+  may-keeps x y (flow.Enter limit step) h = tt
+  may-keeps x y (flow.Leave j) h = tt
+  may-keeps x y (flow.Bad e) h = absurd h
+
+  other-keeps : (code ≡ 9 → ⊥) → (code ≡ 10 → ⊥) → MovedKeeps (nextOf c s d)
   unfolding turnOf
   other-keeps x y =
-      moved-keeps (c .statements) s (turnOf c (s .at) d .flow)
-      (turn-case (λ t. Keeps (t .flow)) (λ e m. m) (λ w. tt) c d (s .at) (verbOf code) (c .statement (s .at))
-      (may-keeps (s .at) (verbOf code) (c .statement (s .at)) (λ e. x (code-of verb.Call no-bad e)) (λ e. y (code-of verb.Return no-bad′ e))))
-    where
-      no-bad : verb.Call ≡ verb.Bad → ⊥
-      no-bad e = let z : _≡_ {A = ℕ} 9 0 = ap codeBack e in omega (arith, z)
-
-      no-bad′ : verb.Return ≡ verb.Bad → ⊥
-      no-bad′ e = let z : _≡_ {A = ℕ} 10 0 = ap codeBack e in omega (arith, z)
+      moved-keeps (turnOf c (lookOf s) (s .at) d .flow)
+      (turn-case (λ t. Keeps (t .flow)) c (lookOf s) (s .at) d (verbOf code) (c .statement (s .at)) (λ e m. m) (λ w f m. may-keeps x y f m))
 
   -- ---- CALL, RETURN and STOP
 
   pub call-opens : code ≡ 9 → s .depth < 50
-      → nextOf c s d ≡ to (record { at = c .statement (s .at) .c; depth = s .depth + 1; returns = set (s .returns) (s .depth) (s .at + 1) })
+      → nextOf c s d ≡ to (record { at = c .statement (s .at) .c; depth = s .depth + 1; returns = set (s .returns) (s .depth) (s .at + 1); opened = s .opened; loops = s .loops })
   unfolding turnOf turnBy verbOf movedBy
   call-opens e h = rw (e, lt-ltb (s .depth) 50 h)
 
@@ -95,17 +88,17 @@ module _ (c : Code) (s : State) (d : List ℕ) where
   call-full e h = rw (e, le-ltb (s .depth) 50 h)
 
   pub return-closes : code ≡ 10 → (k : ℕ) → s .depth ≡ k + 1
-      → nextOf c s d ≡ to (record { at = getD (s .returns) k 0; depth = k; returns = set (s .returns) k 0 })
+      → nextOf c s d ≡ to (record { at = getD (s .returns) k 0; depth = k; returns = set (s .returns) k 0; opened = s .opened; loops = s .loops })
   unfolding turnOf turnBy verbOf movedBy
   return-closes e k h =
       let q : s .depth - 1 ≡ k = omega arith in
-      rw (e, ne-eqb (s .depth) 0 (λ z. omega arith)) (ap (λ (x : ℕ). to (record { at = getD (s .returns) x 0; depth = x; returns = set (s .returns) x 0 })) q)
+      rw (e, ne-eqb (s .depth) 0 (λ z. omega arith)) (ap (λ (x : ℕ). to (record { at = getD (s .returns) x 0; depth = x; returns = set (s .returns) x 0; opened = s .opened; loops = s .loops })) q)
 
   pub return-none : code ≡ 10 → s .depth ≡ 0 → nextOf c s d ≡ stuck fault.NoCall
   unfolding turnOf turnBy verbOf movedBy
   return-none e h = rw (e, eq-eqb (s .depth) 0 h)
 
-  pub stop-keeps : code ≡ 11 → nextOf c s d ≡ to (record { at = c .statements; depth = s .depth; returns = s .returns })
+  pub stop-keeps : code ≡ 11 → nextOf c s d ≡ to (record { at = c .statements; depth = s .depth; returns = s .returns; opened = s .opened; loops = s .loops })
   unfolding turnOf turnBy verbOf movedBy
   stop-keeps e = rw e
 
@@ -113,9 +106,6 @@ module _ (c : Code) (s : State) (d : List ℕ) where
 
   not-stuck : (t : State) (f : Fault) → to t ≡ stuck f → ⊥
   not-stuck t f e = let z : _≡_ {A = ℕ} 0 1 = cc in omega arith
-
-  other-not : (f : Fault) → workb f ≡ false → (code ≡ 9 → ⊥) → (code ≡ 10 → ⊥) → nextOf c s d ≡ stuck f → ⊥
-  other-not f h x y e = false≢true (sym h ∙ subst (MovedKeeps s) e (other-keeps x y))
 
   pub full-exactly : (nextOf c s d ≡ stuck fault.CallsFull) ↔ (code ≡ 9) × (50 ≤ s .depth)
   full-exactly = (to-full, λ h. call-full (h .0) (h .1))
@@ -137,7 +127,7 @@ module _ (c : Code) (s : State) (d : List ℕ) where
           by : (t : Bool) → eqb code 9 ≡ t → (v : Bool) → eqb code 10 ≡ v → (code ≡ 9) × (50 ≤ s .depth)
           by true q v r = open-at e (eqb-true code 9 q) (ltb (s .depth) 50) refl
           by false q true r = absurd (closed-at e (eqb-true code 10 r) (eqb (s .depth) 0) refl)
-          by false q false r = absurd (other-not fault.CallsFull refl (eqb-false code 9 q) (eqb-false code 10 r) e)
+          by false q false r = absurd (subst MovedKeeps e (other-keeps (eqb-false code 9 q) (eqb-false code 10 r)))
 
   pub none-exactly : (nextOf c s d ≡ stuck fault.NoCall) ↔ (code ≡ 10) × (s .depth ≡ 0)
   none-exactly = (to-none, λ h. return-none (h .0) (h .1))
@@ -159,8 +149,8 @@ module _ (c : Code) (s : State) (d : List ℕ) where
           by : (t : Bool) → eqb code 9 ≡ t → (v : Bool) → eqb code 10 ≡ v → (code ≡ 10) × (s .depth ≡ 0)
           by true q v r = absurd (open-at e (eqb-true code 9 q) (ltb (s .depth) 50) refl)
           by false q true r = closed-at e (eqb-true code 10 r) (eqb (s .depth) 0) refl
-          by false q false r = absurd (other-not fault.NoCall refl (eqb-false code 9 q) (eqb-false code 10 r) e)
+          by false q false r = absurd (subst MovedKeeps e (other-keeps (eqb-false code 9 q) (eqb-false code 10 r)))
 
   -- A statement that is completed, and is neither CALL nor RETURN, keeps the open calls.
   pub calls-kept : (code ≡ 9 → ⊥) → (code ≡ 10 → ⊥) → (t : State) → nextOf c s d ≡ to t → (t .depth ≡ s .depth) × (t .returns ≡ s .returns)
-  calls-kept x y t e = subst (MovedKeeps s) e (other-keeps x y)
+  calls-kept x y t e = subst MovedKeeps e (other-keeps x y)

@@ -5,7 +5,7 @@
 -- Assumes nothing.
 use Prim.Native.Nat.{ℕ, _+_, _<_, _≤_}
 use native.Mathlib.Omega.{arith}
-use mathlib.Core.Path.{_≡_, refl, sym, _∙_}
+use mathlib.Core.Path.{_≡_, refl, sym, _∙_, subst}
 use mathlib.Core.Bool.{Bool, true, false}
 use mathlib.Core.List.{List, []}
 use lib.Dec.{ltb}
@@ -21,10 +21,11 @@ use Rattle.rules_unit.specs.Codes.{Code}
 use Rattle.rules_unit.specs.Table.{verbOf}
 use Rattle.rules_run.specs.declared.Flow.the-variants as flow
 use Rattle.rules_run.specs.declared.Turn.{Turn}
+use Rattle.rules_run.specs.declared.Look.{Look}
 use Rattle.rules_run.specs.declared.Write.{Write}
 use Rattle.rules_run.specs.declared.Write.the-variants as write
 use Rattle.rules_run.specs.Turns.{stored, cased, cleared, applied, Room, turnOf}
-use Rattle.rules_run.proofs.Cases.{turn-case}
+use Rattle.rules_run.proofs.Cases.{MayGo, turn-case}
 use Rattle.rules_run.proofs.Stored.{stored-low, stored-high, stored-length, stored-none}
 
 -- ---- the span of a store
@@ -127,11 +128,11 @@ module _ (c : Code) (d : List ℕ) where
 -- ---- errors
 
 -- "A statement that ends in a run error has changed nothing."
-pub error-stores-nothing : (c : Code) (i : ℕ) (d : List ℕ) (e : Fault) → turnOf c i d .flow ≡ flow.Bad e → turnOf c i d .write ≡ write.Nothing
+pub error-stores-nothing : (c : Code) (l : Look) (i : ℕ) (d : List ℕ) (e : Fault) → turnOf c l i d .flow ≡ flow.Bad e → turnOf c l i d .write ≡ write.Nothing
 unfolding turnOf
-error-stores-nothing c i d =
-    turn-case Quiet (λ e m f q. refl) (λ w e q. let z : _≡_ {A = ℕ} 0 1 = cc in absurd (omega arith)) c d i (verbOf (c .statement i .code)) (c .statement i)
-    (λ f l e q. refl)
+error-stores-nothing c l i d =
+    turn-case Quiet c l i d (verbOf (c .statement i .code)) (c .statement i) (λ e m f q. refl)
+    (λ w f m e q. absurd (subst (MayGo c l i d (verbOf (c .statement i .code)) (c .statement i)) q m))
   where
     Quiet : Turn → Type 0
     Quiet t = (e : Fault) → t .flow ≡ flow.Bad e → t .write ≡ write.Nothing

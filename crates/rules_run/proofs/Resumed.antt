@@ -16,7 +16,7 @@ use Rattle.rules_run.specs.declared.Stop.the-variants as stop
 use Rattle.rules_run.specs.States.{Sound}
 use Rattle.rules_run.specs.Runs.{counting, runFrom, runOf}
 use Rattle.rules_run.proofs.Runs.{run-counted, resumed}
-use Rattle.rules_run.proofs.SoundRuns.{run-sound}
+use Rattle.rules_run.proofs.SoundRuns.{passed-in, run-sound}
 use Rattle.rules_run.proofs.Calls.{beforeb, call-runs, every-call}
 use Rattle.rules_run.proofs.Lengths.{passed-length}
 
@@ -28,14 +28,14 @@ call-resumed u d s m n =
     every-call (λ r. r .outcome .stop ≡ stop.Spent → runOf u d s (m + n) ≡ counting (r .outcome .count) (runOf u (r .bytes) (r .outcome .state) n)) u d s m
     (λ e b z. absurd (false≢true (sym (ap beforeb z) ∙ b))) again
   where
-    again : (p : Parts) → checkOf u ≡ checked.Passed p → length d ≡ p .d → Sound (p .n) s → runFrom (codeOf u p) m s d 0 .outcome .stop ≡ stop.Spent
+    again : (p : Parts) → checkOf u ≡ checked.Passed p → length d ≡ p .d → Sound (codeOf u p) s → runFrom (codeOf u p) m s d 0 .outcome .stop ≡ stop.Spent
         → runOf u d s (m + n)
         ≡ counting (runFrom (codeOf u p) m s d 0 .outcome .count) (runOf u (runFrom (codeOf u p) m s d 0 .bytes) (runFrom (codeOf u p) m s d 0 .outcome .state) n)
     again p e l t z =
         let r = runFrom (codeOf u p) m s d 0 in
         let k = r .outcome .count in
         let l′ : length (r .bytes) ≡ p .d = passed-length u p e m s d 0 ∙ l in
-        let t′ : Sound (p .n) (r .outcome .state) = run-sound (codeOf u p) (passed-sound u p e .code) m s d 0 t in
+        let t′ : Sound (codeOf u p) (r .outcome .state) = run-sound (codeOf u p) (passed-in u p e) (passed-sound u p e .code) m s d 0 t in
         call-runs u d s (m + n) p e l t
         ∙ resumed (codeOf u p) n m s d 0 z
         ∙ ap (runFrom (codeOf u p) n (r .outcome .state) (r .bytes)) (sym (add-zero k))

@@ -1,11 +1,12 @@
--- Every store of a statement has room, and what it stores can be made (document 01, "Moves and arithmetic").
+-- Every store of a statement has room, and what it stores can be made (document 01, "Moves and arithmetic"; request 4 of document 02, "FOR loops").
 -- Assumes nothing.
 use Prim.Native.Nat.{ℕ, _^_, _≤_}
 use native.Mathlib.Omega.{arith}
 use mathlib.Core.Path.{refl}
 use mathlib.Core.Bool.{Bool, true, false}
 use mathlib.Core.List.{List}
-use lib.IntN.{ℤ, pos, _+ℤ_, _-ℤ_}
+use lib.Dec.{ltb, eqb}
+use lib.IntN.{ℤ, pos, natAbs, _+ℤ_, _-ℤ_}
 use lib.ListN.{length, take, drop}
 use Rattle.rules.specs.declared.Fault.{Fault}
 use Rattle.rules.specs.declared.Fault.the-variants as fault
@@ -14,6 +15,7 @@ use Rattle.rules.specs.declared.Num.the-variants.{Value, Failed}
 use Rattle.rules.specs.Values.{Val, Limit, Top}
 use Rattle.rules.specs.Arithmetic.{addOf, subOf}
 use Rattle.rules.specs.Moves.{alphaOf}
+use Rattle.rules.proofs.Walk.{cond-either}
 use Rattle.rules.proofs.Signed.{pow-le18}
 use Rattle.rules.proofs.Range.{InRange, range-kept}
 use Rattle.rules.proofs.Answers.{range-alpha}
@@ -25,14 +27,16 @@ use Rattle.rules_unit.specs.declared.Verb.{Verb}
 use Rattle.rules_unit.specs.declared.Verb.the-variants as verb
 use Rattle.rules_unit.specs.Table.{verbOf}
 use Rattle.rules_unit.specs.Codes.{Code}
+use Rattle.rules_unit.specs.Expressions.{nextAt}
 use Rattle.rules_run.specs.declared.Worked.{Worked}
 use Rattle.rules_run.specs.declared.Worked.the-variants as worked
 use Rattle.rules_run.specs.declared.Write.{Write}
 use Rattle.rules_run.specs.declared.Write.the-variants as write
 use Rattle.rules_run.specs.declared.Flow.{Flow}
 use Rattle.rules_run.specs.declared.Turn.{Turn}
-use Rattle.rules_run.specs.Evaluation.{readAt, workedOf, numberOf}
-use Rattle.rules_run.specs.Turns.{Room, failed, moveNum, moveWorked, onPlace, counted, countAt, caseAt, editNum, editAt, onNumber, ifZero, choose, actAt, turnBy, turnOf}
+use Rattle.rules_run.specs.declared.Look.{Look}
+use Rattle.rules_run.specs.Evaluation.{readAt, workedOf, numberOf, valueAt}
+use Rattle.rules_run.specs.Turns.{Room, turn, failed, moveNum, moveWorked, onPlace, counted, countAt, caseAt, editNum, editAt, onNumber, ifZero, choose, onValue, fitsb, controls, enterFlow, enterAt, enters, entryOf, passFlow, passAt, onLoop, repeats, exits, actAt, turnBy, turnOf}
 use Rattle.rules_run.proofs.Ranges.{range-up, read-range}
 use Rattle.rules_run.proofs.Bounded.{Bounded, worked-bounded, number-bounded}
 
@@ -124,17 +128,62 @@ module _ (c : Code) (d : List ℕ) (limit : Limit (c .dialect .limit)) (bound : 
   fit-act act.Edit s decimal a n p =
       fit-edit decimal a n p (workedOf c d (c .items (s .b))) (fits (c .items (s .b))) (numberOf c d (workedOf c d (c .items (s .c)))) (number-in (c .items (s .c)))
 
-  fit-by : (i : ℕ) (v : Verb) (s : Statement) → Fit (turnBy c i d v s)
-  unfolding turnBy
-  fit-by i (verb.At x) s = fit-place (workedOf c d (c .items (s .a))) (actAt c d x s) (fits (c .items (s .a))) (fit-act x s)
-  fit-by i verb.Goto s = record { room = tt }
-  fit-by i verb.IfZero s = fit-jump (numberOf c d (workedOf c d (c .items (s .b)))) (ifZero (s .c))
-  fit-by i verb.Call s = record { room = tt }
-  fit-by i verb.Return s = record { room = tt }
-  fit-by i verb.Stop s = record { room = tt }
-  fit-by i verb.Computed s = fit-jump (numberOf c d (workedOf c d (c .items (s .b)))) (choose i (s .a))
-  fit-by i verb.Bad s = fit-failed fault.Malformed
+  -- ---- the statements of a loop
 
-  pub turn-room : (i : ℕ) → Room c (length d) (turnOf c i d .write)
+  fit-value : (r : Num) (k : ℤ → Turn) → InRange (10 ^ 18) r → ((v : ℤ) → Val (10 ^ 18) v → Fit (k v)) → Fit (onValue r k)
+  fit-value (Value v) k x h = h v x
+  fit-value (Failed e) k x h = fit-failed e
+
+  fit-controls : (a n : ℕ) → At true a n → (v : ℤ) → Val (10 ^ 18) v → (f : Flow) → Fit (controls a n v f)
+  fit-controls a n p v x f =
+      cond-either Fit (fitsb n v) (turn (write.Number a n v) f) (failed fault.TooLong) (record { room = (p .0, omega (arith, p .1 refl, limit .most), x) }) (fit-failed fault.TooLong)
+
+  fit-enter : (s : Statement) (decimal : Bool) (a n : ℕ) → At decimal a n → Fit (enterAt c d s decimal a n)
+  fit-enter s true a n p =
+      fit-value (valueAt c d (s .b)) _ (number-in (c .items (s .b)))
+      (λ v x. fit-value (valueAt c d (nextAt c (s .b))) _ (number-in (c .items (nextAt c (s .b))))
+      (λ last y. fit-value (valueAt c d (nextAt c (nextAt c (s .b)))) _ (number-in (c .items (nextAt c (nextAt c (s .b)))))
+      (λ step z. cond-either Fit (eqb (natAbs step) 0) (failed fault.ZeroStep) _ (fit-failed fault.ZeroStep) (fit-controls a n p v x (enterFlow (s .c) v last step)))))
+  fit-enter s false a n p = fit-failed fault.Malformed
+
+  fit-enters : (l : Look) (s : Statement) → Fit (enters c l d s)
+  unfolding enters
+  fit-enters l s =
+      cond-either Fit (ltb (l .opened) 16) _ (failed fault.LoopsFull) (fit-place (workedOf c d (c .items (s .a))) (enterAt c d s) (fits (c .items (s .a))) (fit-enter s)) (fit-failed fault.LoopsFull)
+
+  fit-pass : (l : Look) (decimal : Bool) (a n : ℕ) → At decimal a n → Fit (passAt c l d decimal a n)
+  fit-pass l true a n p =
+      fit-value (readAt c d a n) _ (read-in a n)
+      (λ x y. fit-value (addOf (c .dialect .top) x (l .last .step)) _ (range-up (bound .most) (addOf (c .dialect .top) x (l .last .step)) (range-kept (c .dialect .top) (x +ℤ l .last .step)))
+      (λ v z. fit-controls a n p v z (passFlow c l v)))
+  fit-pass l false a n p = fit-failed fault.Malformed
+
+  fit-loop : (l : Look) (t : Turn) → Fit t → Fit (onLoop l t)
+  fit-loop l t f = cond-either Fit (eqb (l .opened) 0) (failed fault.NoLoop) t (fit-failed fault.NoLoop) f
+
+  fit-repeats : (l : Look) → Fit (repeats c l d)
+  unfolding repeats
+  fit-repeats l = fit-loop l _ (fit-place (workedOf c d (c .items (entryOf c l .a))) (passAt c l d) (fits (c .items (entryOf c l .a))) (fit-pass l))
+
+  fit-exits : (l : Look) → Fit (exits c l)
+  unfolding exits
+  fit-exits l = fit-loop l _ (record { room = tt })
+
+  fit-by : (l : Look) (i : ℕ) (v : Verb) (s : Statement) → Fit (turnBy c l i d v s)
+  unfolding turnBy
+  fit-by l i (verb.At x) s = fit-place (workedOf c d (c .items (s .a))) (actAt c d x s) (fits (c .items (s .a))) (fit-act x s)
+  fit-by l i verb.Goto s = record { room = tt }
+  fit-by l i verb.IfZero s = fit-jump (numberOf c d (workedOf c d (c .items (s .b)))) (ifZero (s .c))
+  fit-by l i verb.Call s = record { room = tt }
+  fit-by l i verb.Return s = record { room = tt }
+  fit-by l i verb.Stop s = record { room = tt }
+  fit-by l i verb.Computed s = fit-jump (numberOf c d (workedOf c d (c .items (s .b)))) (choose i (s .a))
+  fit-by l i verb.For s = fit-enters l s
+  fit-by l i verb.LoopEnd s = fit-repeats l
+  fit-by l i verb.ExitLoop s = fit-exits l
+  fit-by l i verb.NextLoop s = fit-repeats l
+  fit-by l i verb.Bad s = fit-failed fault.Malformed
+
+  pub turn-room : (l : Look) (i : ℕ) → Room c (length d) (turnOf c l i d .write)
   unfolding turnOf
-  turn-room i = fit-by i (verbOf (c .statement i .code)) (c .statement i) .room
+  turn-room l i = fit-by l i (verbOf (c .statement i .code)) (c .statement i) .room

@@ -3,7 +3,7 @@
 use Prim.Native.Nat.{ℕ, _+_, _-_, _<_, _≤_}
 use native.Mathlib.Nat.{add-zero}
 use native.Mathlib.Omega.{arith}
-use mathlib.Core.Path.{_≡_, sym, ap, _∙_}
+use mathlib.Core.Path.{_≡_, refl, sym, ap, _∙_}
 use mathlib.Core.List.{List, [], _++_, append-assoc}
 use lib.ListN.{length, take, drop, getD, length-append, length-drop, take-append-drop, List·getD-append}
 use lib.Seq.{length-take-le, getD-append-add, getD-take, getD-drop, take-at, drop-at, take-take, drop-drop, take-append-le}
@@ -41,6 +41,13 @@ module _ (d : List ℕ) (a : ℕ) (new : List ℕ) where
   stored-length h =
       length-append (take a d) (new ++ drop (a + length new) d)
       ∙ omega (arith, length-take-le a d (omega arith), length-append new (drop (a + length new) d), length-drop (a + length new) d)
+
+-- what is stored stands there
+pub stored-back : (d : List ℕ) (a : ℕ) (new : List ℕ) → a ≤ length d → take (length new) (drop a (stored d a new)) ≡ new
+unfolding stored
+stored-back d a new h =
+    let rest : List ℕ = drop (a + length new) d in
+    ap (take (length new)) (drop-at (take a d) (new ++ rest) a (length-take-le a d h)) ∙ take-at new rest (length new) refl
 
 -- nothing stored: the data stays
 pub stored-none : (d : List ℕ) (a : ℕ) → stored d a [] ≡ d

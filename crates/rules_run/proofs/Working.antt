@@ -1,7 +1,7 @@
--- The faults that a statement's own work may give: 20 to 23 and 26, and Malformed. 24 and 25 are of the open calls alone (document 01, "Stops and
--- their numbers").
---   workb e       e is another fault than 24 and 25
---   Works w       an expression comes to no such fault
+-- The faults that working out an expression may give: 20 to 23 and 26, and Malformed. The others are of the open calls and loops alone (document 01,
+-- "Stops and their numbers").
+--   workb e       e is such a fault
+--   Works w       an expression comes to no other fault
 -- Assumes nothing.
 use Prim.Native.Nat.{ℕ}
 use mathlib.Core.Path.{_≡_, refl}
@@ -40,6 +40,9 @@ workb fault.ZeroDivisor = true
 workb fault.CallsFull = false
 workb fault.NoCall = false
 workb fault.RoundCount = true
+workb fault.ZeroStep = false
+workb fault.LoopsFull = false
+workb fault.NoLoop = false
 
 abbrev pub Works : Worked → Type 0
 Works (worked.Number v) = Unit {0}

@@ -68,7 +68,7 @@ abbrev pub Refuses : List ℕ → List ℕ → State → Stop → Type 0
 Refuses u d s stop.End = ⊥
 Refuses u d s (stop.Refused x) = Says u (checked.Refused x)
 Refuses u d s stop.WrongSize = SoundUnit u (partsOf u) × (length d ≡ partsOf u .d → ⊥)
-Refuses u d s stop.Unsound = SoundUnit u (partsOf u) × (length d ≡ partsOf u .d) × (Sound (partsOf u .n) s → ⊥)
+Refuses u d s stop.Unsound = SoundUnit u (partsOf u) × (length d ≡ partsOf u .d) × (Sound (decoded u) s → ⊥)
 Refuses u d s (stop.Failed f) = ⊥
 Refuses u d s stop.Spent = ⊥
 
@@ -84,15 +84,15 @@ pub record IsRefused (u d : List ℕ) (s : State) (r : Ran) : Type 0 where
 pub record Ready (u d : List ℕ) (s : State) : Type 0 where
   pub unit : SoundUnit u (partsOf u)
   pub size : length d ≡ partsOf u .d
-  pub state : Sound (partsOf u .n) s
+  pub state : Sound (decoded u) s
 
 -- What a call does: it is refused, or it is a run.
 abbrev pub Does : List ℕ → List ℕ → State → ℕ → Ran → Type 0
 Does u d s m r = IsRefused u d s r ⊎ (Ready u d s × RunSays (decoded u) m s d r)
 
--- The numbers of a run: 0, 20 to 26, 30.
+-- The numbers of a run: 0, 20 to 29, 30.
 abbrev pub RunNumber : ℕ → Type 0
-RunNumber n = (n ≡ 0) ⊎ (((20 ≤ n) × (n ≤ 26)) ⊎ (n ≡ 30))
+RunNumber n = (n ≡ 0) ⊎ (((20 ≤ n) × (n ≤ 29)) ⊎ (n ≡ 30))
 
 pub record IsRun (u d : List ℕ) (s : State) (m : ℕ) (r : Ran) : Type 0 where
   pub ready : Ready u d s
@@ -139,6 +139,9 @@ pub data StopNo : Type 0 where
   no-24 : StopNo
   no-25 : StopNo
   no-26 : StopNo
+  no-27 : StopNo
+  no-28 : StopNo
+  no-29 : StopNo
   no-30 : StopNo
 
 abbrev pub noOf : StopNo → ℕ
@@ -157,6 +160,9 @@ noOf no-23 = 23
 noOf no-24 = 24
 noOf no-25 = 25
 noOf no-26 = 26
+noOf no-27 = 27
+noOf no-28 = 28
+noOf no-29 = 29
 noOf no-30 = 30
 
 -- "No. | Given when | Place named"
@@ -176,7 +182,7 @@ Given u d s m no-5 place = FirstThree u × FirstStatement (decoded u) place
 -- "6 | data buffer isn't D bytes | 0"
 Given u d s m no-6 place = (SoundUnit u (partsOf u) × (length d ≡ partsOf u .d → ⊥)) × (place ≡ 0)
 -- "7 | resume state unsound | 0"
-Given u d s m no-7 place = (SoundUnit u (partsOf u) × (length d ≡ partsOf u .d) × (Sound (partsOf u .n) s → ⊥)) × (place ≡ 0)
+Given u d s m no-7 place = (SoundUnit u (partsOf u) × (length d ≡ partsOf u .d) × (Sound (decoded u) s → ⊥)) × (place ≡ 0)
 -- "20 | more than 18 digits | statement"
 Given u d s m no-20 place = (x : Stopped u d s m (stop.Failed fault.TooLong)) × (place ≡ x .state .at)
 -- "21 | subscript or substring | statement"
@@ -191,5 +197,11 @@ Given u d s m no-24 place = (x : Stopped u d s m (stop.Failed fault.CallsFull)) 
 Given u d s m no-25 place = (x : Stopped u d s m (stop.Failed fault.NoCall)) × (place ≡ x .state .at)
 -- "26 | rounding count | statement"
 Given u d s m no-26 place = (x : Stopped u d s m (stop.Failed fault.RoundCount)) × (place ≡ x .state .at)
+-- "27 zero step"
+Given u d s m no-27 place = (x : Stopped u d s m (stop.Failed fault.ZeroStep)) × (place ≡ x .state .at)
+-- "28 more than 16 open loops"
+Given u d s m no-28 place = (x : Stopped u d s m (stop.Failed fault.LoopsFull)) × (place ≡ x .state .at)
+-- "29 loop end, EXITLOOP or NEXTLOOP with no loop open"
+Given u d s m no-29 place = (x : Stopped u d s m (stop.Failed fault.NoLoop)) × (place ≡ x .state .at)
 -- "30 | allowance spent before the end | next statement"
 Given u d s m no-30 place = (x : Stopped u d s m stop.Spent) × (place ≡ x .state .at)

@@ -5,6 +5,7 @@
 --   apply c d i x y        what an item makes of the values that it takes
 --   workedOf c d is        an expression over the data d
 --   numberOf c d w         what it is as a number; textOf c d w, as an alpha source
+--   valueAt c d e          what the expression at e is as a number
 --   Within c size w        what an expression comes to lies in its range, or inside the data or the literals
 -- "items left to right, reads where they stand": the items are a list and the values held another, the last held first. A last reference is a
 -- place and is not read. Every rule is total: what a passed check never lets arise is Malformed.
@@ -180,6 +181,10 @@ numberOf c d (worked.Number v) = Value v
 numberOf c d (worked.Place decimal a n) = cond decimal (readAt c d a n) (Failed fault.Malformed)
 numberOf c d (worked.Text p l) = Failed fault.Malformed
 numberOf c d (worked.Failed e) = Failed e
+
+-- "starting at a given offset"
+abbrev pub valueAt : Code → List ℕ → ℕ → Num
+valueAt c d e = numberOf c d (workedOf c d (c .items e))
 
 -- The characters that an alpha source comes to, over the data d.
 abbrev pub textOf : Code → List ℕ → Worked → List ℕ

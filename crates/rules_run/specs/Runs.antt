@@ -1,4 +1,4 @@
--- The run (document 01, "Stops and their numbers").
+-- The run (document 01, "Stops and their numbers"; request 4 of document 02, "FOR loops").
 --   movedBy n s f           where a statement's flow leads from the state s, or the fault that stops it there
 --   nextOf c s d, dataAfter c s d    where the statement at s leads, and what it makes of the data
 --   runFrom c m s d k       at most m statements from the state s and the data d, after k completed ones
@@ -24,7 +24,7 @@ use Rattle.rules_run.specs.declared.Stop.{Stop}
 use Rattle.rules_run.specs.declared.Stop.the-variants as stop
 use Rattle.rules_run.specs.declared.Outcome.{Outcome}
 use Rattle.rules_run.specs.Turns.{applied, turnOf}
-use Rattle.rules_run.specs.States.{soundb, gone, called, returned}
+use Rattle.rules_run.specs.States.{soundb, gone, called, returned, entered, closed, lookOf}
 use Rattle.rules_run.specs.Stops.{stopPlace}
 
 -- ---- one step
@@ -40,14 +40,16 @@ movedBy n s (flow.Goto i) = to (gone s i)
 movedBy n s (flow.Call i) = cond (ltb (s .depth) 50) (to (called s i)) (stuck fault.CallsFull)
 movedBy n s flow.Return = cond (eqb (s .depth) 0) (stuck fault.NoCall) (to (returned s))
 movedBy n s flow.Stop = to (gone s n)
+movedBy n s (flow.Enter limit step) = to (entered s limit step)
+movedBy n s (flow.Leave i) = to (closed s i)
 movedBy n s (flow.Bad e) = stuck e
 
 -- Where the statement at s leads over the data d, or the fault that stops it there; and what it makes of the data.
 abbrev pub nextOf : Code → State → List ℕ → Moved
-nextOf c s d = movedBy (c .statements) s (turnOf c (s .at) d .flow)
+nextOf c s d = movedBy (c .statements) s (turnOf c (lookOf s) (s .at) d .flow)
 
 abbrev pub dataAfter : Code → State → List ℕ → List ℕ
-dataAfter c s d = applied c d (turnOf c (s .at) d .write)
+dataAfter c s d = applied c d (turnOf c (lookOf s) (s .at) d .write)
 
 -- ---- the run
 
@@ -74,7 +76,7 @@ onMoved (stuck f) k e = e f
 unfoldable pub runFrom : Code → ℕ → State → List ℕ → ℕ → Ran
 runFrom c zero s d k = cond (ltb (s .at) (c .statements)) (ended (c .statements) stop.Spent s k d) (ended (c .statements) stop.End s k d)
 runFrom c (suc m) s d k =
-    let t = turnOf c (s .at) d in
+    let t = turnOf c (lookOf s) (s .at) d in
     let more = onMoved (movedBy (c .statements) s (t .flow)) (λ s′. runFrom c m s′ (applied c d (t .write)) (suc k)) (λ f. ended (c .statements) (stop.Failed f) s k d) in
     cond (ltb (s .at) (c .statements)) more (ended (c .statements) stop.End s k d)
 
@@ -88,7 +90,7 @@ refused e s d = ended 0 e s 0 d
 unfoldable pub runChecked : List ℕ → Parts → List ℕ → State → ℕ → Ran
 runChecked u p d s m =
     let ran = runFrom (codeOf u p) m s d 0 in
-    cond (eqb (length d) (p .d)) (cond (soundb (p .n) s) ran (refused stop.Unsound s d)) (refused stop.WrongSize s d)
+    cond (eqb (length d) (p .d)) (cond (soundb (codeOf u p) s) ran (refused stop.Unsound s d)) (refused stop.WrongSize s d)
 
 abbrev pub runBy : List ℕ → List ℕ → State → ℕ → Checked → Ran
 runBy u d s m (checked.Passed p) = runChecked u p d s m

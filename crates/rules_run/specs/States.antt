@@ -1,16 +1,26 @@
--- The resume state (document 01, "Stops and their numbers").
---   soundb n s              s is sound for a unit of n statements, as a test; Sound says the same with quantifiers
+-- The resume state (document 01, "Stops and their numbers"; request 4 of document 02, "FOR loops").
+--   soundb c s              s is sound for the unit c, as a test; Sound says the same with quantifiers
+--   LoopSound c l           l is an open loop of the unit
 --   started                 the state before the first statement
 --   gone, called, returned  what a jump, a CALL and a RETURN make of it
+--   entered, closed         what opening a loop, and closing the one opened last, make of it
+--   lookOf s                what a statement sees of it; LookSound c l, that a sound state is seen
 -- Assumes nothing.
 use mathlib.Core.Path.{_≡_}
 use mathlib.Core.Bool.{Bool, true, cond}
 use mathlib.Core.List.{List, [], _∷_}
 use Prim.Native.Nat.{ℕ, _+_, _-_, _<_, _≤_}
 use lib.Dec.{ltb, leb, eqb}
+use lib.IntN.{ℤ, pos, natAbs}
 use lib.ListN.{length, getD, set, replicate}
 use Rattle.rules.specs.Tests.{_&&_}
+use Rattle.rules.specs.Values.{Val}
+use Rattle.rules_unit.specs.Codes.{Code}
+use Rattle.rules_run.specs.declared.Loop.{Loop}
+use Rattle.rules_run.specs.declared.Look.{Look}
 use Rattle.rules_run.specs.declared.State.{State}
+
+-- ---- calls
 
 -- "50 return numbers (0 to N), unused ones zero"
 abbrev pub returnb : ℕ → ℕ → ℕ → ℕ → Bool
@@ -21,27 +31,101 @@ unfoldable pub returnsb : ℕ → ℕ → ℕ → List ℕ → Bool
 returnsb n depth i [] = true
 returnsb n depth i (x ∷ xs) = let rest = returnsb n depth (i + 1) xs in returnb n depth i x && rest
 
--- "The resume state holds a statement number (0 to N), the number of open calls (0 to 50) and 50 return numbers"
-unfoldable pub soundb : ℕ → State → Bool
-soundb n s = leb (s .at) n && leb (s .depth) 50 && returnsb n (s .depth) 0 (s .returns)
+-- ---- loops
 
--- The same sentence with quantifiers.
-pub record Sound (n : ℕ) (s : State) : Type 0 where
-  pub place : s .at ≤ n
+-- A slot without a loop.
+abbrev pub noLoop : Loop
+noLoop = record { entry = 0; limit = pos 0; step = pos 0 }
+
+-- "an open loop names an entry statement of the unit beside its limit and nonzero step, both in the value range"
+unfoldable pub loopb : Code → Loop → Bool
+loopb c l =
+    ltb (l .entry) (c .statements)
+    && eqb (c .statement (l .entry) .code) 14
+    && ltb (natAbs (l .limit)) (c .dialect .top)
+    && ltb (natAbs (l .step)) (c .dialect .top)
+    && ltb 0 (natAbs (l .step))
+
+unfoldable pub emptyb : Loop → Bool
+emptyb l = eqb (l .entry) 0 && eqb (natAbs (l .limit)) 0 && eqb (natAbs (l .step)) 0
+
+abbrev pub slotb : Code → ℕ → ℕ → Loop → Bool
+slotb c opened i l = cond (ltb i opened) (loopb c l) (emptyb l)
+
+-- The slots from the place i on.
+unfoldable pub slotsb : Code → ℕ → ℕ → List Loop → Bool
+slotsb c opened i [] = true
+slotsb c opened i (l ∷ ls) = let rest = slotsb c opened (i + 1) ls in slotb c opened i l && rest
+
+-- The same sentence as a statement.
+pub record LoopSound (c : Code) (l : Loop) : Type 0 where
+  pub low : l .entry < c .statements
+  pub enters : c .statement (l .entry) .code ≡ 14
+  pub limit : Val (c .dialect .top) (l .limit)
+  pub step : Val (c .dialect .top) (l .step)
+  pub moves : 0 < natAbs (l .step)
+
+-- ---- the state
+
+-- "The resume state holds a statement number (0 to N), the number of open calls (0 to 50) and 50 return numbers"; "28 more than 16 open loops"
+unfoldable pub soundb : Code → State → Bool
+soundb c s =
+    leb (s .at) (c .statements)
+    && leb (s .depth) 50
+    && returnsb (c .statements) (s .depth) 0 (s .returns)
+    && leb (s .opened) 16
+    && eqb (length (s .loops)) 16
+    && slotsb c (s .opened) 0 (s .loops)
+
+-- The same sentences with quantifiers.
+pub record Sound (c : Code) (s : State) : Type 0 where
+  pub place : s .at ≤ c .statements
   pub calls : s .depth ≤ 50
-  pub used : (i : ℕ) → i < s .depth → i < length (s .returns) → getD (s .returns) i 0 ≤ n
+  pub used : (i : ℕ) → i < s .depth → i < length (s .returns) → getD (s .returns) i 0 ≤ c .statements
   pub unused : (i : ℕ) → s .depth ≤ i → i < length (s .returns) → getD (s .returns) i 0 ≡ 0
+  pub nested : s .opened ≤ 16
+  pub slots : length (s .loops) ≡ 16
+  pub running : (i : ℕ) → i < s .opened → LoopSound c (getD (s .loops) i noLoop)
+  pub vacant : (i : ℕ) → s .opened ≤ i → i < 16 → getD (s .loops) i noLoop ≡ noLoop
 
 abbrev pub started : State
-started = record { at = 0; depth = 0; returns = replicate 50 0 }
+started = record { at = 0; depth = 0; returns = replicate 50 0; opened = 0; loops = replicate 16 noLoop }
 
 abbrev pub gone : State → ℕ → State
-gone s to = record { at = to; depth = s .depth; returns = s .returns }
+gone s to = record { at = to; depth = s .depth; returns = s .returns; opened = s .opened; loops = s .loops }
 
 -- "A CALL at i stores i+1"
 abbrev pub called : State → ℕ → State
-called s to = record { at = to; depth = s .depth + 1; returns = set (s .returns) (s .depth) (s .at + 1) }
+called s to =
+    record { at = to; depth = s .depth + 1; returns = set (s .returns) (s .depth) (s .at + 1); opened = s .opened; loops = s .loops }
 
 -- "a RETURN goes on there and its entry becomes zero"
 abbrev pub returned : State → State
-returned s = record { at = getD (s .returns) (s .depth - 1) 0; depth = s .depth - 1; returns = set (s .returns) (s .depth - 1) 0 }
+returned s =
+    record { at = getD (s .returns) (s .depth - 1) 0; depth = s .depth - 1; returns = set (s .returns) (s .depth - 1) 0; opened = s .opened; loops = s .loops }
+
+-- "Open loops live in the resume state": the loop of the statement where the state is, opened.
+abbrev pub entered : State → ℤ → ℤ → State
+entered s limit step =
+    record {
+      at = s .at + 1;
+      depth = s .depth;
+      returns = s .returns;
+      opened = s .opened + 1;
+      loops = set (s .loops) (s .opened) (record { entry = s .at; limit = limit; step = step });
+    }
+
+-- The loop opened last, closed: its slot becomes zero, as the entry of a RETURN does.
+abbrev pub closed : State → ℕ → State
+closed s to =
+    record { at = to; depth = s .depth; returns = s .returns; opened = s .opened - 1; loops = set (s .loops) (s .opened - 1) noLoop }
+
+-- ---- what a statement sees
+
+-- "the loop opened last"
+abbrev pub lookOf : State → Look
+lookOf s = record { opened = s .opened; last = cond (eqb (s .opened) 0) noLoop (getD (s .loops) (s .opened - 1) noLoop) }
+
+pub record LookSound (c : Code) (l : Look) : Type 0 where
+  pub most : l .opened ≤ 16
+  pub last : 0 < l .opened → LoopSound c (l .last)

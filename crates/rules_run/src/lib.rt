@@ -4,7 +4,7 @@ use rules_unit::Refusal;
 ghost use mathlib.Core.Path.{_≡_};
 ghost use Prim.Native.Nat.{_+_, _<_, _≤_};
 ghost use Rattle.rules_run.specs.Turns.{failed, stores, goes};
-ghost use Rattle.rules_run.specs.States.{gone, called, returned};
+ghost use Rattle.rules_run.specs.States.{noLoop, gone, called, returned, entered, closed, lookOf};
 ghost use Rattle.rules_run.specs.Stops.{stopNumber};
 
 // The bytes that a reference names.
@@ -95,6 +95,10 @@ pub enum Flow {
     Call(u16),
     Return,
     Stop,
+    // A loop of this statement is opened, with its limit and its step.
+    Enter { limit: i64, step: i64 },
+    // The loop opened last is closed.
+    Leave(u16),
     Bad(Fault),
 }
 
@@ -134,21 +138,50 @@ pub fn goes(f: Flow) -> Turn
     }
 }
 
-// The resume state: the statement to go on at, and the calls still open with the numbers that they return to.
+// An open loop: its entry statement, its limit and its step.
+pub struct Loop {
+    pub entry: u16,
+    pub limit: i64,
+    pub step: i64,
+}
+
+// A slot without a loop.
+pub fn no_loop() -> Loop
+    ensures { λ r. ⌜ r ≡ noLoop ⌝ }
+{
+    Loop {
+        entry: 0,
+        limit: 0,
+        step: 0,
+    }
+}
+
+// What a statement sees of the state: how many loops are open, and the one opened last.
+pub struct Look {
+    pub opened: u16,
+    pub last: Loop,
+}
+
+// The resume state: the statement to go on at, the calls still open with the numbers that they return to, and the loops still open.
 pub struct State {
     pub at: u16,
     pub depth: u16,
     pub returns: [u16; 50],
+    pub opened: u16,
+    pub loops: [Loop; 16],
 }
 
 impl State {
-    // CALL: the number after this statement is stored, and the run goes on at to.
+    // CALL: the number after this statement is stored, and the run goes on at to. The return numbers are changed in a copy of their own, here and in
+    // `back`: changed where they stand, they have the compiler copy the whole state some times over, 667 instructions more for a CALL and its RETURN.
     pub fn call(mut self, to: u16) -> Self
         requires { ⌜ (self .at < 65535) × (self .depth < 50) ⌝ }
         ensures { λ r. ⌜ r ≡ called self to ⌝ }
     {
         let d = self.depth as usize;
-        self.returns[d] = self.at + 1;
+        let mut returns = self.returns;
+        returns[d] = self.at + 1;
+        self.returns = returns;
         self.depth = self.depth + 1;
         self.at = to;
         self
@@ -160,10 +193,59 @@ impl State {
         ensures { λ r. ⌜ r ≡ returned self ⌝ }
     {
         let d = (self.depth - 1) as usize;
-        self.at = self.returns[d];
-        self.returns[d] = 0;
+        let mut returns = self.returns;
+        self.at = returns[d];
+        returns[d] = 0;
+        self.returns = returns;
         self.depth = self.depth - 1;
         self
+    }
+
+    // FOR: a loop of this statement is opened, and the run goes on at the next one.
+    pub fn enter(mut self, limit: i64, step: i64) -> Self
+        requires { ⌜ (self .at < 65535) × (self .opened < 16) ⌝ }
+        ensures { λ r. ⌜ r ≡ entered self limit step ⌝ }
+    {
+        let i = self.opened as usize;
+        self.loops[i] = Loop {
+            entry: self.at,
+            limit: limit,
+            step: step,
+        };
+        self.opened = self.opened + 1;
+        self.at = self.at + 1;
+        self
+    }
+
+    // The loop opened last is closed, its slot becomes zero, and the run goes on at to.
+    pub fn leave(mut self, to: u16) -> Self
+        requires { ⌜ (0 < self .opened) × (self .opened ≤ 16) ⌝ }
+        ensures { λ r. ⌜ r ≡ closed self to ⌝ }
+    {
+        let i = (self.opened - 1) as usize;
+        self.loops[i] = no_loop();
+        self.opened = self.opened - 1;
+        self.at = to;
+        self
+    }
+
+    // What a statement sees.
+    pub fn look(self) -> Look
+        requires { ⌜ self .opened ≤ 16 ⌝ }
+        ensures { λ r. ⌜ r ≡ lookOf self ⌝ }
+    {
+        let opened = self.opened;
+        if opened == 0 {
+            return Look {
+                opened: 0,
+                last: no_loop(),
+            };
+        }
+        let i = (opened - 1) as usize;
+        Look {
+            opened: opened,
+            last: self.loops[i],
+        }
     }
 
     // The run goes on at to.
@@ -208,7 +290,7 @@ pub struct Outcome {
     pub state: State,
 }
 
-// Document 01's number for a stop.
+// The papers' number for a stop.
 pub fn stop_number(s: Stop) -> u8
     ensures { λ r. ⌜ r ≡ stopNumber s ⌝ }
 {

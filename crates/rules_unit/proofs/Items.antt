@@ -5,13 +5,14 @@
 --   known-field               a reference that keeps its own rule is to a field of the unit
 --   beyond                    past the end of the expressions there is no item
 --   items-step, items-as      the expression at an offset is its first item, and the expression that starts after that one
+--   next-behind               right before the next expression in a row stands the 00 that closes this one
 -- Assumes nothing.
-use mathlib.Core.Path.{_≡_, sym, ap, _∙_}
-use mathlib.Core.Bool.{Bool, true, false}
+use mathlib.Core.Path.{_≡_, refl, sym, ap, _∙_}
+use mathlib.Core.Bool.{Bool, true, false, false≢true}
 use mathlib.Core.List.{List}
-use Prim.Native.Nat.{ℕ, zero, suc, _+_, _<_, _≤_}
+use Prim.Native.Nat.{ℕ, zero, suc, _+_, _-_, _<_, _≤_}
 use native.Mathlib.Omega.{arith}
-use lib.ListN.{length}
+use lib.ListN.{length, take, drop}
 use borrow.Author.Tests.{le-ltb, ltb-true}
 use Rattle.rules_unit.specs.declared.Parts.{Parts}
 use Rattle.rules_unit.specs.declared.Form.{Form}
@@ -20,8 +21,9 @@ use Rattle.rules_unit.specs.declared.Op.{Op}
 use Rattle.rules_unit.specs.declared.Op.the-variants as op
 use Rattle.rules_unit.specs.declared.Item.{Item}
 use Rattle.rules_unit.specs.declared.Item.the-variants as item
-use Rattle.rules_unit.specs.Decode.{itemAt, widthOf, follow, itemsIn, itemsAt, codeOf}
-use Rattle.rules_unit.specs.Expressions.{opTakes, formTakes, takes, itemb}
+use Rattle.rules_unit.specs.Codes.{Code}
+use Rattle.rules_unit.specs.Decode.{itemAt, widthOf, follow, itemsIn, itemsAt, expressionsAt, codeOf}
+use Rattle.rules_unit.specs.Expressions.{opTakes, formTakes, takes, itemb, Known, extentOf, nextAt}
 
 pub width-some : (i : Item) → 1 ≤ widthOf i
 width-some (item.Number place len) = omega arith
@@ -101,3 +103,31 @@ items-step s at = ap (follow (itemAt s at)) (enough (length s) s (at + widthOf (
 -- i is the first item, as the code has read it
 pub items-as : (s : List ℕ) (at : ℕ) (i : Item) → i ≡ itemAt s at → itemsAt s at ≡ follow i (itemsAt s (at + widthOf i))
 items-as s at i e = items-step s at ∙ ap (λ (j : Item). follow j (itemsAt s (at + widthOf j))) (sym e)
+
+-- ---- expressions in a row
+
+module _ (c : Code) (s : List ℕ) where
+  -- The last byte of an expression of items that keep their rules is an End.
+  closes : (k at : ℕ) → Known c (itemsIn k s at) → itemAt s (at + extentOf (itemsIn k s at) - 1) ≡ item.End
+  unfolding itemsIn extentOf
+  closes zero at h = absurd (false≢true (h .0))
+  closes (suc k) at h = by (λ n. closes k (at + n)) (itemAt s at) refl h
+    where
+      -- Behind an item of n bytes.
+      further : (n x : ℕ) → itemAt s (at + n + x - 1) ≡ item.End → itemAt s (at + (n + x) - 1) ≡ item.End
+      further n x e = let q : at + (n + x) - 1 ≡ at + n + x - 1 = omega arith in rw q e
+
+      by : ((n : ℕ) → Known c (itemsIn k s (at + n)) → itemAt s (at + n + extentOf (itemsIn k s (at + n)) - 1) ≡ item.End) → (i : Item) → itemAt s at ≡ i
+          → Known c (follow i (itemsIn k s (at + widthOf i)))
+          → itemAt s (at + extentOf (follow i (itemsIn k s (at + widthOf i))) - 1) ≡ item.End
+      by more (item.Number place len) e h = further 4 (extentOf (itemsIn k s (at + 4))) (more 4 (h .1))
+      by more (item.Reference form field) e h = further 3 (extentOf (itemsIn k s (at + 3))) (more 3 (h .1))
+      by more (item.Text place len) e h = further 5 (extentOf (itemsIn k s (at + 5))) (more 5 (h .1))
+      by more (item.Operator o) e h = further 1 (extentOf (itemsIn k s (at + 1))) (more 1 (h .1))
+      by more item.End e h = let q : at + 1 - 1 ≡ at = omega arith in rw q e
+      by more item.Bad e h = absurd (false≢true (h .0))
+
+pub next-behind : (u : List ℕ) (p : Parts) (e : ℕ) → Known (codeOf u p) (codeOf u p .items e)
+    → itemAt (take (p .e) (drop (expressionsAt p) u)) (nextAt (codeOf u p) e - 1) ≡ item.End
+unfolding itemsAt
+next-behind u p e h = let s = take (p .e) (drop (expressionsAt p) u) in closes (codeOf u p) s (suc (length s)) e h

@@ -25,8 +25,8 @@ use Rattle.rules_unit.specs.Decode.{codeOf}
 use Rattle.rules_unit.specs.Table.{verbOf, rowOf, usesBy, usesOf}
 use Rattle.rules_unit.specs.Expressions.{useb, usesb}
 use Rattle.rules_unit.specs.WellFormed.{UseSound}
-use Rattle.rules_unit.specs.Checks.{isGoto, gotosb, tableb, roleb, rowb, shapeb, foundOf, onward, statementsFrom}
-use Rattle.rules_unit.specs.Sound.{TableSound, RoleSound, RowSound, ShapeSound, UsesSound, StatementSound}
+use Rattle.rules_unit.specs.Checks.{isGoto, gotosb, tableb, endb, roleb, rowb, shapeb, foundOf, onward, statementsFrom}
+use Rattle.rules_unit.specs.Sound.{TableSound, EndSound, RoleSound, RowSound, ShapeSound, UsesSound, StatementSound}
 use Rattle.rules_unit.specs.Answers.{FirstStatement, FirstExpression}
 use Rattle.rules_unit.proofs.WellFormed.{tells-self, use-tells}
 use Rattle.rules_unit.proofs.Tells.{Tells, tells-lt, tells-le, tells-eq, tells-true, tells-false, tells-as, tells-and, tells-no, tells-fails, one-more}
@@ -60,12 +60,20 @@ module _ (c : Code) where
       (λ r. (r .least, (r .most, (r .inside, λ j g h. r .gotos j (omega arith) (omega arith)))))
       (tells-and (tells-le 1 n) (tells-and (tells-le n 255) (tells-and (tells-lt (i + n) (c .statements)) (gotos-tell n (i + 1)))))
 
+  end-tells : (i end : ℕ) → Tells (endb c i end) (EndSound c i end)
+  unfolding endb
+  end-tells i end =
+      tells-as (λ r. record { behind = r .0; low = r .1 .0; ends = r .1 .1 }) (λ r. (r .behind, (r .low, r .ends)))
+      (tells-and (tells-lt i end) (tells-and (tells-lt end (c .statements)) (tells-eq (c .statement end .code) 15)))
+
   role-tells : (i : ℕ) (r : Role) (x : ℕ) → Tells (roleb c i r x) (RoleSound c i r x)
   role-tells i role.Unused x = tells-eq x 0
   role-tells i (role.Written w) x = tells-true
   role-tells i (role.Read w) x = tells-true
   role-tells i role.Target x = tells-lt x (c .statements)
   role-tells i role.Table x = table-tells i x
+  role-tells i role.Numbers x = tells-true
+  role-tells i role.End x = end-tells i x
   role-tells i role.Never x = tells-false
 
   row-tells : (i : ℕ) (r : Row) (s : Statement) → Tells (rowb c i r s) (RowSound c i r s)
@@ -97,16 +105,16 @@ module _ (c : Code) where
       of : Each (x ∷ xs) → UseSound c x × Each xs
       of f = (f zero (omega arith), λ k h. f (suc k) (omega arith))
 
-  uses-tell : (i : ℕ) → Tells (usesb c (usesOf (c .statement i))) (UsesSound c i)
-  uses-tell i = tells-as (λ f. record { each = f }) (λ r. r .each) (list-tells (usesOf (c .statement i)))
+  uses-tell : (i : ℕ) → Tells (usesb c (usesOf c (c .statement i))) (UsesSound c i)
+  uses-tell i = tells-as (λ f. record { each = f }) (λ r. r .each) (list-tells (usesOf c (c .statement i)))
 
   -- The test of each use of a sound statement.
-  pub uses-good : (i : ℕ) → UsesSound c i → (k : ℕ) → k < length (usesOf (c .statement i)) → useb c (getD (usesOf (c .statement i)) k use-of.Nothing) ≡ true
-  uses-good i s k h = use-tells c (getD (usesOf (c .statement i)) k use-of.Nothing) .of (s .each k h)
+  pub uses-good : (i : ℕ) → UsesSound c i → (k : ℕ) → k < length (usesOf c (c .statement i)) → useb c (getD (usesOf c (c .statement i)) k use-of.Nothing) ≡ true
+  uses-good i s k h = use-tells c (getD (usesOf c (c .statement i)) k use-of.Nothing) .of (s .each k h)
 
   -- Every use of a statement is of the sort that is wanted, where r is its row.
   abbrev pub Used : Row → Statement → Type 0
-  Used r s = (k : ℕ) → k < length (usesBy r s) → useb c (getD (usesBy r s) k use-of.Nothing) ≡ true
+  Used r s = (k : ℕ) → k < length (usesBy c r s) → useb c (getD (usesBy c r s) k use-of.Nothing) ≡ true
 
   -- ---- what is found of one statement
 
@@ -129,9 +137,9 @@ module _ (c : Code) where
 
   found-means : (i : ℕ) → Finds i (foundOf c i)
   unfolding foundOf
-  found-means i = by (shapeb c i) (usesb c (usesOf (c .statement i))) refl refl
+  found-means i = by (shapeb c i) (usesb c (usesOf c (c .statement i))) refl refl
     where
-      by : (x y : Bool) → shapeb c i ≡ x → usesb c (usesOf (c .statement i)) ≡ y → Finds i (cond x (cond y found.Good found.BadExpression) found.BadShape)
+      by : (x y : Bool) → shapeb c i ≡ x → usesb c (usesOf c (c .statement i)) ≡ y → Finds i (cond x (cond y found.Good found.BadExpression) found.BadShape)
       by true true e f = record { shape = shape-tells i .to e; uses = uses-tell i .to f }
       by true false e f = (shape-tells i .to e, tells-fails (uses-tell i) f)
       by false y e f = tells-fails (shape-tells i) e

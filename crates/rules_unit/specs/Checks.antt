@@ -98,6 +98,14 @@ unfoldable pub tableb : Code → ℕ → ℕ → Bool
 tableb c i n =
     leb 1 n && leb n 255 && ltb (i + n) (c .statements) && gotosb c n (i + 1)
 
+-- The code of a loop end.
+abbrev pub isLoopEnd : Statement → Bool
+isLoopEnd s = eqb (s .code) 15
+
+-- "the number of a loop end (code 15) that stands behind the statement, inside the unit" (docs/ENCODING.md): of the FOR at i.
+unfoldable pub endb : Code → ℕ → ℕ → Bool
+endb c i end = ltb i end && ltb end (c .statements) && isLoopEnd (c .statement end)
+
 -- "Unused parts are zero."; "Targets are below N."
 abbrev pub roleb : Code → ℕ → Role → ℕ → Bool
 roleb c i role.Unused x = eqb x 0
@@ -105,6 +113,8 @@ roleb c i (role.Written w) x = true
 roleb c i (role.Read w) x = true
 roleb c i role.Target x = ltb x (c .statements)
 roleb c i role.Table x = tableb c i x
+roleb c i role.Numbers x = true
+roleb c i role.End x = endb c i x
 roleb c i role.Never x = false
 
 unfoldable pub rowb : Code → ℕ → Row → Statement → Bool
@@ -116,7 +126,7 @@ shapeb c i = eqb (c .statement i .zero) 0 && rowb c i (rowOf (verbOf (c .stateme
 
 -- "5 before a's 4 before b's 4": both 4 name the statement
 unfoldable pub foundOf : Code → ℕ → Found
-foundOf c i = cond (shapeb c i) (cond (usesb c (usesOf (c .statement i))) found.Good found.BadExpression) found.BadShape
+foundOf c i = cond (shapeb c i) (cond (usesb c (usesOf c (c .statement i))) found.Good found.BadExpression) found.BadShape
 
 -- ---- the check
 

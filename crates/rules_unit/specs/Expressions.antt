@@ -4,6 +4,7 @@
 --   itemb c i          an item's own rule; Known c is, that every item keeps it
 --   sortAt c e         the sort of the expression at an offset, Wrong where it is badly formed
 --   alphaSort k        whether an expression of the sort k is an alpha source
+--   nextAt c e         where the expression behind the one at e starts
 --   suits w k          whether an expression of the sort k is of the sort wanted
 -- Assumes nothing.
 use mathlib.Core.Path.{_≡_}
@@ -27,6 +28,7 @@ use Rattle.rules_unit.specs.declared.Want.the-variants as want
 use Rattle.rules_unit.specs.declared.Use.{Use}
 use Rattle.rules_unit.specs.declared.Use.the-variants as use-of
 use Rattle.rules_unit.specs.Codes.{Code, decimalb}
+use Rattle.rules_unit.specs.Decode.{widthOf}
 
 -- ---- items
 
@@ -136,6 +138,26 @@ sortFrom c (i ∷ is) n k =
 -- An offset outside the expressions has no items but Bad.
 unfoldable pub sortAt : Code → ℕ → Sort
 sortAt c e = sortFrom c (c .items e) 0 sort.Number
+
+-- ---- expressions in a row
+
+-- No item behind this one belongs to the expression.
+abbrev pub closesb : Item → Bool
+closesb (item.Number place len) = false
+closesb (item.Reference h field) = false
+closesb (item.Text place len) = false
+closesb (item.Operator o) = false
+closesb item.End = true
+closesb item.Bad = true
+
+-- The bytes of an expression, with the 00 that closes it. What is no item ends it, and is not counted.
+unfoldable pub extentOf : List Item → ℕ
+extentOf [] = 1
+extentOf (i ∷ is) = let rest = extentOf is in cond (closesb i) 0 (widthOf i + rest)
+
+-- Of expressions in a row each starts behind the 00 that closes the one before it.
+abbrev pub nextAt : Code → ℕ → ℕ
+nextAt c e = e + extentOf (c .items e)
 
 -- ---- uses
 

@@ -4,6 +4,7 @@
 --   EntrySound c i        the field entry i by itself; InOrder c i j two entries that are no records
 --   EntryFits c i         the field entry i, by itself and after those before it
 --   TableSound c i n      the GOTO statements behind a computed GOTO
+--   EndSound c i end      the loop end of a FOR
 --   RoleSound c i r x     the part x of the statement at i, by its role; RowSound c i r s all three
 --   ShapeSound c i        what 5 is about; UsesSound c i what 4 is about; StatementSound c i both
 --   SoundCode c           all entries and all statements
@@ -83,6 +84,12 @@ pub record TableSound (c : Code) (i n : ℕ) : Type 0 where
   pub inside : i + n < c .statements
   pub gotos : (j : ℕ) → i < j → j ≤ i + n → isGoto (c .statement j) ≡ true
 
+-- "the number of a loop end (code 15) that stands behind the statement, inside the unit" (docs/ENCODING.md): of the FOR at i.
+pub record EndSound (c : Code) (i end : ℕ) : Type 0 where
+  pub behind : i < end
+  pub low : end < c .statements
+  pub ends : c .statement end .code ≡ 15
+
 -- "Unused parts are zero."; "Targets are below N."
 abbrev pub RoleSound : Code → ℕ → Role → ℕ → Type 0
 RoleSound c i role.Unused x = x ≡ 0
@@ -90,6 +97,8 @@ RoleSound c i (role.Written w) x = Unit {0}
 RoleSound c i (role.Read w) x = Unit {0}
 RoleSound c i role.Target x = x < c .statements
 RoleSound c i role.Table x = TableSound c i x
+RoleSound c i role.Numbers x = Unit {0}
+RoleSound c i role.End x = EndSound c i x
 RoleSound c i role.Never x = ⊥
 
 pub record RowSound (c : Code) (i : ℕ) (r : Row) (s : Statement) : Type 0 where
@@ -104,7 +113,7 @@ pub record ShapeSound (c : Code) (i : ℕ) : Type 0 where
 
 -- Each of its expressions is well formed, and of the sort that its use wants.
 pub record UsesSound (c : Code) (i : ℕ) : Type 0 where
-  pub each : (k : ℕ) → k < length (usesOf (c .statement i)) → UseSound c (getD (usesOf (c .statement i)) k use-of.Nothing)
+  pub each : (k : ℕ) → k < length (usesOf c (c .statement i)) → UseSound c (getD (usesOf c (c .statement i)) k use-of.Nothing)
 
 pub record StatementSound (c : Code) (i : ℕ) : Type 0 where
   pub shape : ShapeSound c i

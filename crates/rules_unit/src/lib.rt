@@ -111,7 +111,7 @@ pub enum Act {
     Edit,
 }
 
-// What a statement does, by its code: something at its place, or where the run goes on; Bad for a code that is none.
+// What a statement does, by its code: something at its place, where the run goes on, or something about a loop; Bad for a code that is none.
 pub enum Verb {
     At(Act),
     Goto,
@@ -120,6 +120,11 @@ pub enum Verb {
     Return,
     Stop,
     Computed,
+    // The entry of a loop.
+    For,
+    LoopEnd,
+    ExitLoop,
+    NextLoop,
     Bad,
 }
 
@@ -160,6 +165,10 @@ pub enum Role {
     Target,
     // How many GOTO statements stand right after the statement.
     Table,
+    // Three numbers in a row, which are read: where the first one starts.
+    Numbers,
+    // The number of the loop end of a FOR.
+    End,
     // Wrong, whatever it is: the statement has no such code.
     Never,
 }

@@ -14,7 +14,7 @@ ghost use Rattle.rules_unit.specs.declared.Form.the-variants as form;
 ghost use Rattle.rules_unit.specs.declared.Item.the-variants as item;
 ghost use Rattle.rules_unit.specs.Decode.{Fills, SoundDialect, referenceAt, numberAt, textAt, itemBy, itemAt, itemsAt, codeOf};
 ghost use Rattle.rules_run.specs.declared.Worked.the-variants as worked;
-ghost use Rattle.rules_run.specs.Evaluation.{workedOf, numberOf, Within};
+ghost use Rattle.rules_run.specs.Evaluation.{workedOf, numberOf, Within, valueAt};
 ghost use Rattle.run_evaluate.specs.declared.Step.the-variants as step;
 ghost use Rattle.run_evaluate.specs.Steps.{heldOn, formOf, loneb, Ready, Leads};
 
@@ -373,4 +373,16 @@ pub fn number_of(unit: &[u8], parts: Parts, bytes: &[u8], w: Worked) -> Num
         Worked::Text { place: _, len: _ } => Num::Failed(Fault::Malformed),
         Worked::Failed(e) => Num::Failed(e),
     }
+}
+
+// The number that the expression at an offset comes to. Those who work out one number among several call it, so that the compiler leaves it out of the
+// loop of the run; the jumps on a number, which are worked out more often, have their own.
+pub fn value_at(unit: &[u8], parts: Parts, bytes: &[u8], e: u16) -> Num
+    requires { ⌜ Fills (now unit) parts ⌝ }
+    requires { ⌜ SoundDialect (parts .dialect) ⌝ }
+    requires { ⌜ length (now bytes) < 65536 ⌝ }
+    ensures { λ r. ⌜ r ≡ valueAt (codeOf (now (unit .entry)) parts) (now (bytes .entry)) e ⌝ }
+{
+    let w = worked(unit, parts, bytes, e);
+    number_of(unit, parts, bytes, w)
 }

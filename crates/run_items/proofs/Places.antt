@@ -2,9 +2,10 @@
 -- Assumes nothing.
 use mathlib.Core.Path.{_≡_, sym, ap, _∙_}
 use mathlib.Core.Bool.{Bool, true, false, cond, not}
-use mathlib.Core.List.{List}
-use Prim.Native.Nat.{ℕ, _+_, _-_, _≤_, _<_}
+use mathlib.Core.List.{List, []}
+use Prim.Native.Nat.{ℕ, _+_, _-_, _^_, _≤_, _<_}
 use native.Mathlib.Nat.{add-sub-cancel-left}
+use native.Mathlib.Omega.{arith}
 use lib.Dec.{ltb, eqb}
 use lib.IntN.{ℤ}
 use lib.ListN.{length, take, drop}
@@ -12,15 +13,16 @@ use borrow.Author.Tests.{lt-ltb, le-ltb, eq-eqb, ne-eqb, not-true, not-false}
 use mir.Syntax.{w64}
 use mir.Val.{SFits, toZ, ofZ}
 use Rattle.rules.specs.declared.Num.{Num}
-use Rattle.rules.specs.declared.Num.the-variants.{Failed}
+use Rattle.rules.specs.declared.Num.the-variants.{Value, Failed}
 use Rattle.rules.specs.declared.Fault.the-variants as fault
-use Rattle.rules.specs.Values.{readOf}
-use Rattle.rules.proofs.Signed.{op-plain}
+use Rattle.rules.specs.Values.{Val, readOf}
+use Rattle.rules.proofs.Signed.{op-plain, again, pow-le18}
+use Rattle.rules.proofs.Range.{of-range}
 use Rattle.rules_unit.specs.declared.Parts.{Parts}
 use Rattle.rules_unit.specs.declared.Field.{Field}
 use Rattle.rules_unit.specs.declared.Form.{Form}
 use Rattle.rules_unit.specs.Codes.{isDecimal}
-use Rattle.rules_unit.specs.Decode.{codeOf}
+use Rattle.rules_unit.specs.Decode.{SoundDialect, codeOf}
 use Rattle.rules_unit.specs.Expressions.{formTakes}
 use Rattle.rules_run.specs.declared.Span.{Span}
 use Rattle.rules_run.specs.declared.Span.the-variants.{At, Outside}
@@ -29,10 +31,18 @@ use Rattle.rules_run.specs.declared.Worked.the-variants as worked
 use Rattle.rules_run.specs.Spans.{spanOf}
 use Rattle.rules_run.specs.Evaluation.{readSpan, reference, asPlace, placeBy}
 use Rattle.rules_run.proofs.Located as located
+use Rattle.rules_run.proofs.Ranges.{read-range}
 
 -- The part of the data that the reader is handed.
 pub read-part : (limit sign l b a n : ℕ) (d : List ℕ) (r : Num) → l ≡ limit → b ≡ sign → r ≡ readOf l b (take (a + n - a) (drop a d)) → r ≡ readOf limit sign (take n (drop a d))
 read-part limit sign l b a n d r e f q = rw (e, f, add-sub-cancel-left a n) at q
+
+-- What is read can be an operand.
+pub read-again : (p : Parts) (d : List ℕ) (a n : ℕ) (x : Num) (v : ℤ) → SoundDialect (p .dialect) → x ≡ readOf (p .dialect .limit) (p .dialect .sign) (take n (drop a d)) → x ≡ Value v
+    → Val (10 ^ 18) (toZ w64 (ofZ w64 v))
+read-again p d a n x v dialect e g =
+    again
+    (of-range (sym e ∙ g) (read-range (codeOf [] p) d (10 ^ 18) (omega arith) (dialect .bound .most) (pow-le18 (omega (arith, dialect .limit .most))) a n))
 
 -- "it must stay inside the D bytes"
 pub found-inside : (size : ℕ) (entry : Field) (h : Form) (x y : ℤ) (s : Span) (a n : ℕ) → s ≡ spanOf size entry h x y → s ≡ At a n → a + n ≤ size

@@ -7,17 +7,21 @@ use mathlib.Core.Path.{_≡_, refl, sym, ap, _∙_}
 use mathlib.Core.Bool.{Bool, true, false, cond, not}
 use mathlib.Core.List.{[], _∷_}
 use lib.Dec.{ltb, eqb}
+use lib.IntN.{ℤ}
+use mir.Syntax.{w64}
+use mir.Val.{SFits, toZ, ofZ}
 use borrow.Author.Tests.{ltb-true, eqb-false}
 use denote.Enum.Declared.{tagOf}
 use types.Run.{OneOf, miss}
 use Rattle.rules.specs.declared.Fault.{Fault}
 use Rattle.rules.specs.declared.Fault.the-variants as fault
 use Rattle.rules.proofs.Walk.{cond-either}
+use Rattle.rules.proofs.Signed.{back}
 use Rattle.rules_run.specs.declared.Flow.{Flow}
 use Rattle.rules_run.specs.declared.Flow.the-variants as flow
 use Rattle.rules_run.specs.declared.State.{State}
 use Rattle.rules_run.specs.declared.Turn.{Turn}
-use Rattle.rules_run.specs.States.{gone, called, returned}
+use Rattle.rules_run.specs.States.{gone, called, returned, entered, closed}
 use Rattle.rules_run.specs.Turns.{failed}
 use Rattle.rules_run.specs.Runs.{Moved, to, stuck, movedBy}
 use Rattle.rules_run.proofs.Flow.{the-type}
@@ -31,6 +35,8 @@ led n s (flow.Goto i) = to (gone s i)
 led n s (flow.Call i) = to (called s i)
 led n s flow.Return = to (returned s)
 led n s flow.Stop = to (gone s n)
+led n s (flow.Enter limit step) = to (entered s limit step)
+led n s (flow.Leave i) = to (closed s i)
 led n s (flow.Bad e) = stuck e
 
 module _ (n : ℕ) (s : State) (t : Turn) where
@@ -50,6 +56,8 @@ module _ (n : ℕ) (s : State) (t : Turn) where
   by-moves (flow.Call i) e = call-moves i (ltb (s .depth) 50) e
   by-moves flow.Return e = return-moves (eqb (s .depth) 0) e
   by-moves flow.Stop e = rw e
+  by-moves (flow.Enter limit step) e = rw e
+  by-moves (flow.Leave i) e = rw e
   by-moves (flow.Bad k) e = rw e
 
   -- A turn leads where the rule says.
@@ -71,6 +79,8 @@ module _ (n : ℕ) (s : State) (t : Turn) where
   by-write s′ (flow.Call i) h = either-write s′ (ltb (s .depth) 50) fault.CallsFull h
   by-write s′ flow.Return h = other-write s′ (eqb (s .depth) 0) fault.NoCall h
   by-write s′ flow.Stop h = refl
+  by-write s′ (flow.Enter limit step) h = refl
+  by-write s′ (flow.Leave i) h = refl
   by-write s′ (flow.Bad k) h = refl
 
   -- One that goes on stores what its statement stores.
@@ -86,6 +96,8 @@ module _ (P : Turn → Type 0) (depth : ℕ) (t : Turn) (fails : (e : Fault) →
   by-either (flow.Call i) = cond-either P (ltb depth 50) t (failed fault.CallsFull) own (fails fault.CallsFull)
   by-either flow.Return = cond-either P (eqb depth 0) (failed fault.NoCall) t (fails fault.NoCall) own
   by-either flow.Stop = own
+  by-either (flow.Enter limit step) = own
+  by-either (flow.Leave i) = own
   by-either (flow.Bad k) = own
 
   pub under-either : P (turnUnder depth t)
@@ -107,9 +119,13 @@ led-as n s f g z e h = rw e h
 pub to-as : (s s′ : State) → s ≡ s′ → to s ≡ to s′
 to-as s s′ e = rw e
 
+-- s′ is what the code made of its own copies of the limit and the step.
+pub entered-as : (s s′ : State) {limit step : ℤ} → SFits w64 limit → SFits w64 step → s′ ≡ entered s (toZ w64 (ofZ w64 limit)) (toZ w64 (ofZ w64 step)) → s′ ≡ entered s limit step
+entered-as s s′ f g e = rw (back f, back g) at e
+
 -- What the code's `if let Flow::Bad` leaves: the flow's tag is one of the others.
-pub never-bad : (f : Flow) (e : Fault) → OneOf (0 ∷ (1 ∷ (2 ∷ (3 ∷ (4 ∷ []))))) (tagOf the-type f) → f ≡ flow.Bad e → ⊥
-never-bad f e o h = miss (0 ∷ (1 ∷ (2 ∷ (3 ∷ (4 ∷ []))))) 5 tt (rw h at o)
+pub never-bad : (f : Flow) (e : Fault) → OneOf (0 ∷ (1 ∷ (2 ∷ (3 ∷ (4 ∷ (5 ∷ (6 ∷ []))))))) (tagOf the-type f) → f ≡ flow.Bad e → ⊥
+never-bad f e o h = miss (0 ∷ (1 ∷ (2 ∷ (3 ∷ (4 ∷ (5 ∷ (6 ∷ []))))))) 7 tt (rw h at o)
 
 -- ---- the calls of a flow that is followed
 
@@ -120,6 +136,8 @@ freeb depth (flow.Goto i) = true
 freeb depth (flow.Call i) = ltb depth 50
 freeb depth flow.Return = not (eqb depth 0)
 freeb depth flow.Stop = true
+freeb depth (flow.Enter limit step) = true
+freeb depth (flow.Leave i) = true
 freeb depth (flow.Bad e) = true
 
 module _ (depth : ℕ) (t : Turn) where
@@ -137,6 +155,8 @@ module _ (depth : ℕ) (t : Turn) where
   by-room (flow.Call i) e = call-room i (ltb depth 50) refl e
   by-room flow.Return e = return-room (eqb depth 0) refl e
   by-room flow.Stop e = rw e
+  by-room (flow.Enter limit step) e = rw e
+  by-room (flow.Leave i) e = rw e
   by-room (flow.Bad k) e = rw e
 
   under-room : freeb depth (turnUnder depth t .flow) ≡ true

@@ -18,6 +18,8 @@ underBy depth t (flow.Goto i) = t
 underBy depth t (flow.Call i) = cond (ltb depth 50) t (failed fault.CallsFull)
 underBy depth t flow.Return = cond (eqb depth 0) (failed fault.NoCall) t
 underBy depth t flow.Stop = t
+underBy depth t (flow.Enter limit step) = t
+underBy depth t (flow.Leave i) = t
 underBy depth t (flow.Bad e) = t
 
 unfoldable pub turnUnder : ℕ → Turn → Turn

@@ -1,7 +1,6 @@
 -- What INCR, DECR, UPCASE and LOCASE answer of a place that is found, one law for each way.
 -- Assumes nothing.
-use Prim.Native.Nat.{ℕ, _^_}
-use native.Mathlib.Omega.{arith}
+use Prim.Native.Nat.{ℕ}
 use mathlib.Core.Path.{_≡_, refl, sym, _∙_, ap}
 use mathlib.Core.Bool.{Bool, true, false}
 use mathlib.Core.List.{List}
@@ -13,16 +12,14 @@ use Rattle.rules.specs.declared.Fault.{Fault}
 use Rattle.rules.specs.declared.Fault.the-variants as fault
 use Rattle.rules.specs.declared.Num.{Num}
 use Rattle.rules.specs.declared.Num.the-variants.{Value, Failed}
-use Rattle.rules.specs.Values.{Val, readOf}
+use Rattle.rules.specs.Values.{readOf}
 use Rattle.rules.specs.Arithmetic.{addOf, subOf}
-use Rattle.rules.proofs.Signed.{back, again, pow-le18}
-use Rattle.rules.proofs.Range.{of-range}
+use Rattle.rules.proofs.Signed.{back}
 use Rattle.rules_unit.specs.declared.Parts.{Parts}
-use Rattle.rules_unit.specs.Decode.{SoundDialect, codeOf}
+use Rattle.rules_unit.specs.Decode.{codeOf}
 use Rattle.rules_run.specs.declared.Write.the-variants as write
 use Rattle.rules_run.specs.declared.Turn.{Turn}
 use Rattle.rules_run.specs.Turns.{failed, stores, moveNum, counted, countAt, caseAt}
-use Rattle.rules_run.proofs.Ranges.{read-range}
 
 -- ---- INCR and DECR
 
@@ -51,13 +48,6 @@ module _ (u : List ℕ) (p : Parts) (d : List ℕ) (up decimal : Bool) (a n : �
   pub count-failed : (x : Num) (f : Fault) → decimal ≡ true → x ≡ readOf (p .dialect .limit) (p .dialect .sign) (take n (drop a d)) → x ≡ Failed f → t ≡ failed f
       → t ≡ countAt (codeOf u p) d up decimal a n
   count-failed x f h e g k = rw (h, sym e ∙ g, counted-failed (p .dialect .top) up f) k
-
--- what is read can be an operand
-pub read-again : (u : List ℕ) (p : Parts) (d : List ℕ) (a n : ℕ) (x : Num) (v : ℤ) → SoundDialect (p .dialect) → x ≡ readOf (p .dialect .limit) (p .dialect .sign) (take n (drop a d)) → x ≡ Value v
-    → Val (10 ^ 18) (toZ w64 (ofZ w64 v))
-read-again u p d a n x v dialect e g =
-    again
-    (of-range (sym e ∙ g) (read-range (codeOf u p) d (10 ^ 18) (omega arith) (dialect .bound .most) (pow-le18 (omega (arith, dialect .limit .most))) a n))
 
 -- ---- UPCASE and LOCASE
 

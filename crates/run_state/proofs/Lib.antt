@@ -1,4 +1,6 @@
 pub mod Returns
+pub mod Loops
+pub mod Slots
 pub mod Answers
+pub mod Words
 pub mod Reading
-pub mod Writing

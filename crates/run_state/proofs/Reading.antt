@@ -1,77 +1,177 @@
 -- The resume state read from its numbers w, one law for each way out of the code.
 -- Assumes nothing.
-use Prim.Native.Nat.{ℕ, zero, suc, _+_, _<_, _≤_}
-use native.Mathlib.Nat.{add-comm}
+use Prim.Native.Nat.{ℕ, zero, suc, _+_, _-_, _*_, _%_, _<_, _≤_}
+use native.Mathlib.Numerals.{add-one}
 use native.Mathlib.Omega.{arith}
 use mathlib.Core.Path.{_≡_, refl, sym, ap, _∙_}
-use mathlib.Core.Bool.{true, false}
+use mathlib.Core.Bool.{Bool, true, false, not}
 use mathlib.Core.List.{List, [], _∷_}
-use lib.Dec.{leb}
-use lib.ListN.{length, getD, take, drop, set, length-drop, drop-of-length-le}
-use lib.Seq.{drop-cons, getD-drop}
-use borrow.Author.Tests.{le-leb, lt-leb, eq-eqb, ne-eqb}
-use Rattle.rules.proofs.Walk.{cond-same}
+use lib.Dec.{ltb, leb}
+use lib.IntN.{ℤ, pos, negsuc, _-ℤ_}
+use lib.ListN.{length, getD, take, drop, set, replicate, drop-of-length-le}
+use lib.Seq.{drop-cons, take-all}
+use borrow.Author.Tests.{ltb-true, lt-ltb, le-ltb, le-leb, lt-leb, leb-true, eq-eqb, ne-eqb, not-true, not-false}
+use mir.Syntax.{w64}
+use mir.Val.{SFits, toZ, ofZ}
+use Rattle.rules.proofs.Signed.{back, abs-fits}
+use Rattle.rules.proofs.Tests.{both}
+use Rattle.rules_run.specs.declared.Loop.{Loop}
 use Rattle.rules_run.specs.declared.State.{State}
-use Rattle.rules_host.specs.Laid.{laid}
-use Rattle.rules_host.proofs.Laid.{laid-next, laid-all, laid-same}
-use Rattle.rules_host.specs.Numbers.{smallb, stateb, noState, stateOf}
+use Rattle.rules_run.specs.States.{noLoop}
+use Rattle.rules_host.specs.Numbers.{listed, valueb, valueOf, signedb, goodb, goodFrom, stateb, noState, returnAt, loopAt, stateOf}
+use Rattle.rules_host.proofs.Listed.{length-listed, getD-listed}
 
--- ---- numbers that are no state's
+-- ---- one number
 
-over : (w : List ℕ) (i : ℕ) → i < length w → 65535 < getD w i 0 → smallb w ≡ false
-unfolding smallb
-over [] i h k = absurd (omega arith)
-over (x ∷ w) zero h k = rw (lt-leb x 65535 k)
-over (x ∷ w) (suc i) h k = rw (over w i (omega arith) k) (cond-same (leb x 65535) false)
+pub value-low : (x : ℕ) → x < 1000000000000000000 → true ≡ valueb x
+value-low x h = rw (lt-ltb x 1000000000000000000 h)
 
-module _ (w : List ℕ) (z : State) (is : z ≡ noState) where
-  -- There are not 52.
-  pub read-other : (length w ≡ 52 → ⊥) → z ≡ stateOf w
-  unfolding stateOf stateb
-  read-other h = rw (ne-eqb (length w) 52 h) is
+pub value-high : (x : ℕ) (r : Bool) → 1000000000000000000 ≤ x → r ≡ ltb 17446744073709551616 x → r ≡ valueb x
+value-high x r h e = rw (le-ltb x 1000000000000000000 h) e
 
-  -- One is over 65,535.
-  pub read-over : (i : ℕ) → 65535 < getD w i 0 → length w ≡ 52 → i < length w → z ≡ stateOf w
-  unfolding stateOf stateb
-  read-over i k l h = rw (eq-eqb (length w) 52 l, over w i h k) is
+pub signed-low : (k : ℕ) → k < 53 → false ≡ signedb k
+signed-low k h = rw (lt-leb 53 k h)
 
-  pub read-return : (i : ℕ) → i < 50 → 65535 < getD w (i + 2) 0 → length w ≡ 52 → z ≡ stateOf w
-  read-return i h k l = read-over (i + 2) k l (omega arith)
+pub signed-high : (k : ℕ) (r : Bool) → 53 ≤ k → r ≡ ltb 0 ((k - 53) % 3) → r ≡ signedb k
+signed-high k r h e = rw (le-leb 53 k h) e
 
--- ---- numbers that are
+module _ (k x : ℕ) (r : Bool) where
+  pub good-signed : (t : Bool) → t ≡ signedb k → t ≡ true → r ≡ valueb x → r ≡ goodb k x
+  unfolding goodb
+  good-signed t e q f = rw (sym e ∙ q) f
 
--- Those from i on are small exactly where all are.
-abbrev pub passed : List ℕ → ℕ → Type 0
-passed w i = smallb (drop i w) ≡ smallb w
+  pub good-plain : (t : Bool) → t ≡ signedb k → t ≡ false → r ≡ leb x 65535 → r ≡ goodb k x
+  unfolding goodb
+  good-plain t e q f = rw (sym e ∙ q) f
 
-pub passed-next : (w : List ℕ) (i : ℕ) → i < length w → getD w i 0 ≤ 65535 → passed w i → passed w (suc i)
-unfolding smallb
-passed-next w i h k e =
-    let f : smallb (drop i w) ≡ smallb (drop (suc i) w) = rw (drop-cons w i 0 h, le-leb (getD w i 0) 65535 k) in
-    sym f ∙ e
+-- ---- all numbers: those from k on answer what all of them answer
+
+module _ (w : List ℕ) (k : ℕ) (rest : goodFrom k (drop k w) ≡ goodFrom 0 w) where
+  module _ (b : Bool) (h : k < length w) (e : b ≡ goodb k (getD w k 0)) where
+    pub all-wrong : not b ≡ true → false ≡ goodFrom 0 w
+    unfolding goodFrom
+    all-wrong t = let f : goodb k (getD w k 0) ≡ false = sym e ∙ not-true b t in rw (← rest, drop-cons w k 0 h, f)
+
+    pub all-onward : not b ≡ false → goodFrom (k + 1) (drop (k + 1) w) ≡ goodFrom 0 w
+    unfolding goodFrom
+    all-onward t = let f : goodb k (getD w k 0) ≡ true = sym e ∙ not-false b t in rw (← rest, drop-cons w k 0 h, f, add-one k)
+
+  pub all-end : length w ≤ k → true ≡ goodFrom 0 w
+  unfolding goodFrom
+  all-end h = rw (← rest, drop-of-length-le w h)
+
+good-at : (w : List ℕ) (j i : ℕ) → goodFrom j w ≡ true → i < length w → goodb (j + i) (getD w i 0) ≡ true
+unfolding goodFrom
+good-at [] j i g h = absurd (omega arith)
+good-at (x ∷ w) j zero g h = let e : j + 0 ≡ j = omega arith in rw e (both (goodb j x) _ .0 g .0)
+good-at (x ∷ w) j (suc i) g h = let e : j + suc i ≡ j + 1 + i = omega arith in rw e (good-at w (j + 1) i (both (goodb j x) _ .0 g .1) (omega arith))
+
+zero-on : (w : List ℕ) (k : ℕ) → goodFrom 0 w ≡ true → k < length w → goodb k (getD w k 0) ≡ true
+zero-on w k g h = let e : 0 + k ≡ k = omega arith in rw e at (good-at w 0 k g h)
+
+module _ (w : List ℕ) (l : length w ≡ 101) (g : goodFrom 0 w ≡ true) where
+  pub small-at : (k : ℕ) → k < 101 → signedb k ≡ false → getD w k 0 ≤ 65535
+  unfolding goodb
+  small-at k h e = let f = zero-on w k g (omega arith) in leb-true (getD w k 0) 65535 (rw e at f)
+
+  pub value-at : (k : ℕ) → k < 101 → signedb k ≡ true → valueb (getD w k 0) ≡ true
+  unfolding goodb
+  value-at k h e = let f = zero-on w k g (omega arith) in rw e at f
+
+  pub return-small : (i : ℕ) → i < 50 → getD w (i + 2) 0 ≤ 65535
+  return-small i h = small-at (i + 2) (omega arith) (rw (lt-leb 53 (i + 2) (omega arith)))
+
+  module _ (k : ℕ) (h : k < 16) where
+    pub entry-small : getD w (k * 3 + 53) 0 ≤ 65535
+    entry-small = small-at (k * 3 + 53) (omega arith) (rw (le-leb 53 (k * 3 + 53) (omega arith), le-ltb 0 ((k * 3 + 53 - 53) % 3) (omega arith)))
+
+    pub limit-good : valueb (getD w (k * 3 + 54) 0) ≡ true
+    limit-good = value-at (k * 3 + 54) (omega arith) (rw (le-leb 53 (k * 3 + 54) (omega arith), lt-ltb 0 ((k * 3 + 54 - 53) % 3) (omega arith)))
+
+    pub step-good : valueb (getD w (k * 3 + 55) 0) ≡ true
+    step-good = value-at (k * 3 + 55) (omega arith) (rw (le-leb 53 (k * 3 + 55) (omega arith), lt-ltb 0 ((k * 3 + 55 - 53) % 3) (omega arith)))
+
+-- ---- lists, put one after the other
+
+module _ {A : Type 0} (z : A) where
+  next : (xs l : List A) (i : ℕ) → length l ≡ length xs → i < length xs → take i l ≡ take i xs → take (suc i) (set l i (getD xs i z)) ≡ take (suc i) xs
+  next [] l i e h q = absurd (omega arith)
+  next (x ∷ xs) [] i e h q = absurd (omega arith)
+  next (x ∷ xs) (y ∷ l) zero e h q = refl
+  next (x ∷ xs) (y ∷ l) (suc i) e h q = let t : (y ≡ x) × (take i l ≡ take i xs) = (cc, cc) in rw (t .0) (ap (λ (m : List A). x ∷ m) (next xs l i (omega arith) (omega arith) (t .1)))
 
 module _ (w : List ℕ) where
-  pub read-start : length w ≡ 52 → getD w 0 0 ≤ 65535 → getD w 1 0 ≤ 65535 → passed w (0 + 2)
-  read-start l h k = passed-next w 1 (omega arith) k (passed-next w 0 (omega arith) h refl)
+  pub returns-next : (i : ℕ) (m : List ℕ) (v : ℕ) → length m ≡ 50 → i < 50 → take i m ≡ take i (listed 50 (returnAt w)) → v ≡ getD w (i + 2) 0
+      → take (i + 1) (set m i v) ≡ take (i + 1) (listed 50 (returnAt w))
+  returns-next i m v e h q r =
+      let n = length-listed 50 (returnAt w) in
+      let x : v ≡ getD (listed 50 (returnAt w)) i 0 = r ∙ sym (getD-listed 50 (returnAt w) i 0 h) in
+      rw (x, add-one i) (next 0 (listed 50 (returnAt w)) m i (e ∙ sym n) (omega (arith, n)) q)
 
-  module _ (i : ℕ) (l : length w ≡ 52) (h : i < 50) where
-    pub read-next : getD w (i + 2) 0 ≤ 65535 → passed w (i + 2) → passed w (i + 1 + 2)
-    read-next k e =
-        let f : i + 1 + 2 ≡ suc (i + 2) = omega arith in
-        rw f (passed-next w (i + 2) (omega arith) k e)
+  pub loops-next : (k : ℕ) (m : List Loop) (v : Loop) → length m ≡ 16 → k < 16 → take k m ≡ take k (listed 16 (loopAt w)) → v ≡ loopAt w k
+      → take (k + 1) (set m k v) ≡ take (k + 1) (listed 16 (loopAt w))
+  loops-next k m v e h q r =
+      let n = length-listed 16 (loopAt w) in
+      let x : v ≡ getD (listed 16 (loopAt w)) k noLoop = r ∙ sym (getD-listed 16 (loopAt w) k noLoop h) in
+      rw (x, add-one k) (next noLoop (listed 16 (loopAt w)) m k (e ∙ sym n) (omega (arith, n)) q)
 
-    -- One more return number is put.
-    pub read-put : (l₀ m : List ℕ) → m ≡ laid (take i (drop 2 w)) l₀ → set m i (getD w (i + 2) 0) ≡ laid (take (i + 1) (drop 2 w)) l₀
-    read-put l₀ m e =
-        let f : getD (drop 2 w) i 0 ≡ getD w (i + 2) 0 = getD-drop 2 w i 0 ∙ ap (λ (j : ℕ). getD w j 0) (add-comm 2 i) in
-        rw f at (laid-next (drop 2 w) l₀ m i (omega (arith, length-drop 2 w)) e)
+  pub returns-all : (i : ℕ) (m : List ℕ) → length m ≡ 50 → 50 ≤ i → take i m ≡ take i (listed 50 (returnAt w)) → m ≡ listed 50 (returnAt w)
+  returns-all i m e h q = sym (take-all i m (omega arith)) ∙ q ∙ take-all i (listed 50 (returnAt w)) (omega (arith, length-listed 50 (returnAt w)))
 
-  -- All are passed and put.
-  pub read-all : (i : ℕ) (l₀ m : List ℕ) → length w ≡ 52 → 50 ≤ i → passed w (i + 2) → length l₀ ≡ 50 → m ≡ laid (take i (drop 2 w)) l₀
-      → _≡_ {A = State} (record { at = getD w 0 0; depth = getD w 1 0; returns = m }) (stateOf w)
-  unfolding stateOf stateb smallb
-  read-all i l₀ m l h e k f =
-      let d : length (drop 2 w) ≡ 50 = omega (arith, length-drop 2 w) in
-      let small : smallb w ≡ true = sym e ∙ ap smallb (drop-of-length-le w {i = i + 2} (omega arith)) in
-      let put : m ≡ drop 2 w = laid-all (drop 2 w) l₀ m i (omega arith) f ∙ laid-same (drop 2 w) l₀ (d ∙ sym k) in
-      rw (eq-eqb (length w) 52 l, small, put)
+  pub loops-all : (k : ℕ) (m : List Loop) → length m ≡ 16 → 16 ≤ k → take k m ≡ take k (listed 16 (loopAt w)) → m ≡ listed 16 (loopAt w)
+  loops-all k m e h q = sym (take-all k m (omega arith)) ∙ q ∙ take-all k (listed 16 (loopAt w)) (omega (arith, length-listed 16 (loopAt w)))
+
+  -- ---- the whole
+
+  pub read-other : (z : State) → z ≡ noState → (length w ≡ 101 → ⊥) → z ≡ stateOf w
+  unfolding stateOf stateb
+  read-other z e h = rw (ne-eqb (length w) 101 h) e
+
+  pub read-none : (z : State) (b : Bool) → z ≡ noState → length w ≡ 101 → b ≡ goodFrom 0 w → not b ≡ true → z ≡ stateOf w
+  unfolding stateOf stateb
+  read-none z b e l f h = rw (eq-eqb (length w) 101 l, ← f, not-true b h) e
+
+  pub read-all : (b : Bool) (returns : List ℕ) (loops : List Loop) → length w ≡ 101 → b ≡ goodFrom 0 w → not b ≡ false → returns ≡ listed 50 (returnAt w) → loops ≡ listed 16 (loopAt w)
+      → _≡_ {A = State} (record { at = getD w 0 0; depth = getD w 1 0; returns = returns; opened = getD w 52 0; loops = loops }) (stateOf w)
+  unfolding stateOf stateb
+  read-all b returns loops l f h e q = rw (eq-eqb (length w) 101 l, ← f, not-false b h, e, q)
+
+-- ---- a signed number, and a slot
+
+minus : (m : ℕ) → negsuc 0 -ℤ pos m ≡ negsuc m
+minus zero = refl
+minus (suc m) = let e : 0 + m ≡ m = omega arith in rw e
+
+module _ (x : ℕ) where
+  pub value-plain : x < 1000000000000000000 → toZ w64 x ≡ valueOf x
+  value-plain h = rw (lt-ltb x 1000000000000000000 h) (back {z = pos x} (abs-fits (omega arith)))
+
+  module _ (h : 1000000000000000000 ≤ x) (e : valueb x ≡ true) where
+    far : 17446744073709551616 < x
+    far = ltb-true 17446744073709551616 x (rw (le-ltb x 1000000000000000000 h) at e)
+
+    pub high-cast : SFits w64 (pos (18446744073709551615 - x))
+    high-cast = abs-fits (omega (arith, far))
+
+    turned : SFits w64 (negsuc (18446744073709551615 - x))
+    turned = abs-fits (omega (arith, far))
+
+    pub high-fits : SFits w64 (negsuc 0 -ℤ toZ w64 (18446744073709551615 - x))
+    high-fits = rw (back high-cast, minus (18446744073709551615 - x)) turned
+
+    pub high-value : toZ w64 (ofZ w64 (negsuc 0 -ℤ toZ w64 (18446744073709551615 - x))) ≡ valueOf x
+    high-value = rw (le-ltb x 1000000000000000000 h, back high-cast, minus (18446744073709551615 - x)) (back turned)
+
+pub loop-read : (w : List ℕ) (k : ℕ) (x x′ y y′ : ℤ) → x ≡ valueOf (getD w (k * 3 + 54) 0) → x′ ≡ x → y ≡ valueOf (getD w (k * 3 + 55) 0) → y′ ≡ y
+    → _≡_ {A = Loop} (record { entry = getD w (k * 3 + 53) 0; limit = x′; step = y′ }) (loopAt w k)
+loop-read w k x x′ y y′ e f g h = rw (f, e, h, g)
+
+pub none-state : (x : Loop) (z : State) → x ≡ noLoop → z ≡ record { at = 65535; depth = 0; returns = replicate 50 0; opened = 0; loops = replicate 16 x } → z ≡ noState
+none-state x z e q = q ∙ rw e
+
+module _ (w : List ℕ) (b : Bool) (l : length w ≡ 101) (e : b ≡ goodFrom 0 w) (h : not b ≡ false) where
+  pub all-told : goodFrom 0 w ≡ true
+  all-told = sym e ∙ not-false b h
+
+  pub plain-small : (k : ℕ) → k < 53 → getD w k 0 ≤ 65535
+  plain-small k f = small-at w l all-told k (omega arith) (rw (lt-leb 53 k f))

@@ -8,9 +8,11 @@ use mathlib.Core.Bool.{Bool, true, false, not}
 use mathlib.Core.List.{List}
 use lib.ListN.{length, getD, drop, drop-of-length-le}
 use lib.Seq.{drop-cons}
-use borrow.Author.Tests.{le-leb, lt-leb, not-true, not-false}
+use borrow.Author.Tests.{le-leb, lt-leb, eq-eqb, not-true, not-false}
+use Rattle.rules_unit.specs.declared.Parts.{Parts}
+use Rattle.rules_unit.specs.Decode.{codeOf}
 use Rattle.rules_run.specs.declared.State.{State}
-use Rattle.rules_run.specs.States.{returnb, returnsb, soundb}
+use Rattle.rules_run.specs.States.{returnb, returnsb, slotsb, soundb}
 
 module _ (n depth i : ℕ) (l : List ℕ) (z : Bool) (rest : returnsb n depth i (drop i l) ≡ z) where
   -- A return number that is wrong.
@@ -32,17 +34,29 @@ module _ (n depth i : ℕ) (l : List ℕ) (z : Bool) (rest : returnsb n depth i 
   unfolding returnsb
   returns-end e h = let k : length l ≤ i = omega arith in rw (← rest, drop-of-length-le l k)
 
-module _ (n : ℕ) (s : State) where
-  pub sound-past : n < s .at → false ≡ soundb n s
+module _ (u : List ℕ) (p : Parts) (s : State) where
+  pub sound-past : p .n < s .at → false ≡ soundb (codeOf u p) s
   unfolding soundb
-  sound-past h = rw (lt-leb (s .at) n h)
+  sound-past h = rw (lt-leb (s .at) (p .n) h)
 
-  pub sound-deep : s .at ≤ n → 50 < s .depth → false ≡ soundb n s
+  pub sound-deep : s .at ≤ p .n → 50 < s .depth → false ≡ soundb (codeOf u p) s
   unfolding soundb
-  sound-deep h k = rw (le-leb (s .at) n h, lt-leb (s .depth) 50 k)
+  sound-deep h k = rw (le-leb (s .at) (p .n) h, lt-leb (s .depth) 50 k)
 
-  pub sound-returns : (b : Bool) → s .at ≤ n → s .depth ≤ 50 → b ≡ returnsb n (s .depth) 0 (s .returns) → b ≡ soundb n s
-  unfolding soundb
-  sound-returns b h k e = rw (le-leb (s .at) n h, le-leb (s .depth) 50 k) e
+  module _ (b : Bool) (h : s .at ≤ p .n) (k : s .depth ≤ 50) (e : b ≡ returnsb (p .n) (s .depth) 0 (s .returns)) where
+    pub sound-returns : not b ≡ true → false ≡ soundb (codeOf u p) s
+    unfolding soundb
+    sound-returns f = rw (le-leb (s .at) (p .n) h, le-leb (s .depth) 50 k, ← e, not-true b f)
 
-pub ruleset sound-laws = (sound-past, sound-deep, sound-returns)
+    module _ (f : not b ≡ false) where
+      -- m is the code's own bound
+      pub sound-many : (m : ℕ) → m < s .opened → 16 ≤ m → false ≡ soundb (codeOf u p) s
+      unfolding soundb
+      sound-many m g q = rw (le-leb (s .at) (p .n) h, le-leb (s .depth) 50 k, ← e, not-false b f, lt-leb (s .opened) 16 (omega arith))
+
+      pub sound-slots : (r : Bool) → s .opened ≤ 16 → length (s .loops) ≡ 16 → r ≡ slotsb (codeOf u p) (s .opened) 0 (s .loops) → r ≡ soundb (codeOf u p) s
+      unfolding soundb
+      sound-slots r g l q =
+          rw (le-leb (s .at) (p .n) h, le-leb (s .depth) 50 k, ← e, not-false b f, le-leb (s .opened) 16 g, eq-eqb (length (s .loops)) 16 l) q
+
+pub ruleset sound-laws = (sound-past, sound-deep, sound-returns, sound-many, sound-slots)

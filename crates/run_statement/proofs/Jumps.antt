@@ -14,19 +14,14 @@ use Rattle.rules.specs.declared.Fault.{Fault}
 use Rattle.rules.specs.declared.Num.{Num}
 use Rattle.rules.specs.declared.Num.the-variants.{Value, Failed}
 use Rattle.rules.specs.Values.{Val, isNeg}
-use Rattle.rules.proofs.Signed.{back, again, zero-abs, pos-abs, pow-le18}
-use Rattle.rules.proofs.Range.{of-range}
-use Rattle.rules_unit.specs.declared.Parts.{Parts}
-use Rattle.rules_unit.specs.declared.Item.{Item}
+use Rattle.rules.proofs.Signed.{back, again, zero-abs, pos-abs}
 use Rattle.rules_unit.specs.Codes.{Code}
-use Rattle.rules_unit.specs.Decode.{SoundDialect, codeOf}
 use Rattle.rules_run.specs.declared.Worked.{Worked}
 use Rattle.rules_run.specs.declared.Flow.{Flow}
 use Rattle.rules_run.specs.declared.Flow.the-variants as flow
 use Rattle.rules_run.specs.declared.Turn.{Turn}
-use Rattle.rules_run.specs.Evaluation.{workedOf, numberOf}
+use Rattle.rules_run.specs.Evaluation.{numberOf}
 use Rattle.rules_run.specs.Turns.{failed, goes, onNumber, ifZero, choose}
-use Rattle.rules_run.proofs.Bounded.{worked-bounded, number-bounded}
 
 -- x is what the callee found, w what the rule has, and r the number that it is
 module _ (c : Code) (d : List ℕ) (x w : Worked) (r : Num) (k : ℤ → Flow) (t : Turn) (e : x ≡ w) (q : r ≡ numberOf c d x) where
@@ -35,16 +30,6 @@ module _ (c : Code) (d : List ℕ) (x w : Worked) (r : Num) (k : ℤ → Flow) (
 
   pub jump-failed : (f : Fault) → r ≡ Failed f → t ≡ failed f → t ≡ onNumber (numberOf c d w) k
   jump-failed f h j = rw (← e, sym q ∙ h) j
-
--- the number is in the range of values
-pub number-again : (u : List ℕ) (p : Parts) (d : List ℕ) (is : List Item) (x : Worked) (r : Num) (v : ℤ) → SoundDialect (p .dialect) → x ≡ workedOf (codeOf u p) d is
-    → r ≡ numberOf (codeOf u p) d x → r ≡ Value v → Val (10 ^ 18) (toZ w64 (ofZ w64 v))
-number-again u p d is x r v dialect e q h =
-    let most : 10 ^ p .dialect .limit ≤ 10 ^ 18 = pow-le18 (omega (arith, dialect .limit .most)) in
-    let c : Code = codeOf u p in
-    again
-    (of-range (sym q ∙ h)
-    (rw e (number-bounded c d (10 ^ 18) (omega arith) (dialect .bound .most) most _ (workedOf c d is) (worked-bounded c d (10 ^ 18) (omega arith) (dialect .bound .most) most is))))
 
 -- ---- go to the target if a number is zero
 

@@ -2,6 +2,7 @@
 use rules::Fault;
 use rules::Num;
 use rules_run::Flow;
+use rules_run::Look;
 use rules_run::Turn;
 use rules_run::Worked;
 use rules_run::Write;
@@ -15,26 +16,14 @@ ghost use Prim.Native.Nat.{_+_, _^_, _≤_, _<_};
 ghost use lib.ListN.{length};
 ghost use Rattle.rules.specs.Values.{Val};
 ghost use Rattle.rules_unit.specs.declared.Act.the-variants as act;
-ghost use Rattle.rules_unit.specs.declared.Verb.the-variants as verb;
 ghost use Rattle.rules_unit.specs.Decode.{Fills, SoundDialect, codeOf};
-ghost use Rattle.rules_unit.specs.Sound.{ShapeSound};
+ghost use Rattle.rules_unit.specs.Sound.{SoundCode};
 ghost use Rattle.rules_run.specs.declared.Worked.the-variants as worked;
-ghost use Rattle.rules_run.specs.Evaluation.{workedOf, numberOf};
-ghost use Rattle.rules_run.specs.Turns.{editBy, ifZero, choose, actAt, turnBy, turnOf};
+ghost use Rattle.rules_run.specs.Evaluation.{workedOf, valueAt};
+ghost use Rattle.rules_run.specs.States.{LookSound};
+ghost use Rattle.rules_run.specs.Turns.{onPlace, editBy, onNumber, ifZero, choose, actAt, turnOf};
 
 // ---- SET, CLEAR, INCR, DECR, UPCASE, LOCASE, SET with a mask
-
-// The number that the expression at an offset comes to. Both ways of a mask call it, so that the compiler leaves it out of the loop of the run, where
-// if_zero and computed, which are worked out more often, have their own.
-fn number_at(unit: &[u8], parts: Parts, bytes: &[u8], e: u16) -> Num
-    requires { ⌜ Fills (now unit) parts ⌝ }
-    requires { ⌜ SoundDialect (parts .dialect) ⌝ }
-    requires { ⌜ length (now bytes) < 65536 ⌝ }
-    ensures { λ r. ⌜ r ≡ numberOf (codeOf (now (unit .entry)) parts) (now (bytes .entry)) (workedOf (codeOf (now (unit .entry)) parts) (now (bytes .entry)) (codeOf (now (unit .entry)) parts .items e)) ⌝ }
-{
-    let w = run_evaluate::worked(unit, parts, bytes, e);
-    run_evaluate::number_of(unit, parts, bytes, w)
-}
 
 // A number formatted by an alpha place as mask.
 fn edit_place(
@@ -50,9 +39,9 @@ fn edit_place(
     requires { ⌜ Fills (now unit) parts ⌝ }
     requires { ⌜ SoundDialect (parts .dialect) ⌝ }
     requires { ⌜ length (now bytes) < 65536 ⌝ }
-    ensures { λ r. ⌜ r ≡ editBy start len (worked.Place false from count) (numberOf (codeOf (now (unit .entry)) parts) (now (bytes .entry)) (workedOf (codeOf (now (unit .entry)) parts) (now (bytes .entry)) (codeOf (now (unit .entry)) parts .items (s .c)))) ⌝ }
+    ensures { λ r. ⌜ r ≡ editBy start len (worked.Place false from count) (valueAt (codeOf (now (unit .entry)) parts) (now (bytes .entry)) (s .c)) ⌝ }
 {
-    match number_at(unit, parts, bytes, s.c) {
+    match run_evaluate::value_at(unit, parts, bytes, s.c) {
         Num::Value(v) => rules_run::stores(Write::Edit {
             start,
             len,
@@ -78,9 +67,9 @@ fn edit_literal(
     requires { ⌜ Fills (now unit) parts ⌝ }
     requires { ⌜ SoundDialect (parts .dialect) ⌝ }
     requires { ⌜ length (now bytes) < 65536 ⌝ }
-    ensures { λ r. ⌜ r ≡ editBy start len (worked.Text place count) (numberOf (codeOf (now (unit .entry)) parts) (now (bytes .entry)) (workedOf (codeOf (now (unit .entry)) parts) (now (bytes .entry)) (codeOf (now (unit .entry)) parts .items (s .c)))) ⌝ }
+    ensures { λ r. ⌜ r ≡ editBy start len (worked.Text place count) (valueAt (codeOf (now (unit .entry)) parts) (now (bytes .entry)) (s .c)) ⌝ }
 {
-    match number_at(unit, parts, bytes, s.c) {
+    match run_evaluate::value_at(unit, parts, bytes, s.c) {
         Num::Value(v) => rules_run::stores(Write::EditLiteral {
             start,
             len,
@@ -169,12 +158,12 @@ fn at_place(
     }
 }
 
-// What a statement with a place answers. Only a computed GOTO looks at its own number, so the contracts of the others name 0.
+// What a statement with a place answers.
 fn on_place(unit: &[u8], parts: Parts, bytes: &[u8], act: Act, s: Statement) -> Turn
     requires { ⌜ Fills (now unit) parts ⌝ }
     requires { ⌜ SoundDialect (parts .dialect) ⌝ }
     requires { ⌜ length (now bytes) < 65536 ⌝ }
-    ensures { λ r. ⌜ r ≡ turnBy (codeOf (now (unit .entry)) parts) 0 (now (bytes .entry)) (verb.At act) s ⌝ }
+    ensures { λ r. ⌜ r ≡ onPlace (workedOf (codeOf (now (unit .entry)) parts) (now (bytes .entry)) (codeOf (now (unit .entry)) parts .items (s .a))) (actAt (codeOf (now (unit .entry)) parts) (now (bytes .entry)) act s) ⌝ }
 {
     match run_evaluate::place(unit, parts, bytes, s.a) {
         Worked::Number(_) => rules_run::failed(Fault::Malformed),
@@ -205,7 +194,7 @@ fn if_zero(unit: &[u8], parts: Parts, bytes: &[u8], s: Statement) -> Turn
     requires { ⌜ Fills (now unit) parts ⌝ }
     requires { ⌜ SoundDialect (parts .dialect) ⌝ }
     requires { ⌜ length (now bytes) < 65536 ⌝ }
-    ensures { λ r. ⌜ r ≡ turnBy (codeOf (now (unit .entry)) parts) 0 (now (bytes .entry)) verb.IfZero s ⌝ }
+    ensures { λ r. ⌜ r ≡ onNumber (valueAt (codeOf (now (unit .entry)) parts) (now (bytes .entry)) (s .b)) (ifZero (s .c)) ⌝ }
 {
     let w = run_evaluate::worked(unit, parts, bytes, s.b);
     match run_evaluate::number_of(unit, parts, bytes, w) {
@@ -240,7 +229,7 @@ fn computed(unit: &[u8], parts: Parts, bytes: &[u8], at: u16, s: Statement) -> T
     requires { ⌜ SoundDialect (parts .dialect) ⌝ }
     requires { ⌜ length (now bytes) < 65536 ⌝ }
     requires { ⌜ at + s .a < 65535 ⌝ }
-    ensures { λ r. ⌜ r ≡ turnBy (codeOf (now (unit .entry)) parts) at (now (bytes .entry)) verb.Computed s ⌝ }
+    ensures { λ r. ⌜ r ≡ onNumber (valueAt (codeOf (now (unit .entry)) parts) (now (bytes .entry)) (s .b)) (choose at (s .a)) ⌝ }
 {
     let w = run_evaluate::worked(unit, parts, bytes, s.b);
     match run_evaluate::number_of(unit, parts, bytes, w) {
@@ -251,16 +240,18 @@ fn computed(unit: &[u8], parts: Parts, bytes: &[u8], at: u16, s: Statement) -> T
 
 // ---- a statement
 
-// What a statement answers over the data: what it stores, and where the run goes on. Nothing is changed here. Of the check it needs what 5 is about: the
-// statements behind a computed GOTO lie inside the unit, so their numbers are words. The statements with a place have one call between them, and this
-// function has one caller, `run_loop::turn_at`, which says why.
-pub fn work(unit: &[u8], parts: Parts, bytes: &[u8], at: u16) -> Turn
+// What a statement answers over the data, where it sees look of the state: what it stores, and where the run goes on. Nothing is changed here. It asks
+// for a sound unit, and uses that the statements behind a computed GOTO and the loop end of a FOR lie inside the unit, so that their numbers are words. The
+// statements with a place have one call between them, and this function has one caller, `run_loop::turn_at`, which says why. Those that work on loops have
+// four calls of one function, `run_passes::loop_turn`, which says why too.
+pub fn work(unit: &[u8], parts: Parts, bytes: &[u8], at: u16, look: Look) -> Turn
     requires { ⌜ Fills (now unit) parts ⌝ }
     requires { ⌜ SoundDialect (parts .dialect) ⌝ }
     requires { ⌜ length (now bytes) < 65536 ⌝ }
     requires { ⌜ at < parts .n ⌝ }
-    requires { ⌜ ShapeSound (codeOf (now unit) parts) at ⌝ }
-    ensures { λ r. ⌜ r ≡ turnOf (codeOf (now (unit .entry)) parts) at (now (bytes .entry)) ⌝ }
+    requires { ⌜ SoundCode (codeOf (now unit) parts) ⌝ }
+    requires { ⌜ LookSound (codeOf (now unit) parts) look ⌝ }
+    ensures { λ r. ⌜ r ≡ turnOf (codeOf (now (unit .entry)) parts) look at (now (bytes .entry)) ⌝ }
 {
     let s = unit_decode::statement(unit, parts, at);
     let verb = unit_decode::verb_of(s.code);
@@ -272,6 +263,10 @@ pub fn work(unit: &[u8], parts: Parts, bytes: &[u8], at: u16) -> Turn
         Verb::Return => rules_run::goes(Flow::Return),
         Verb::Stop => rules_run::goes(Flow::Stop),
         Verb::Computed => computed(unit, parts, bytes, at, s),
+        Verb::For => run_passes::loop_turn(unit, parts, bytes, look, verb, s),
+        Verb::LoopEnd => run_passes::loop_turn(unit, parts, bytes, look, verb, s),
+        Verb::ExitLoop => run_passes::loop_turn(unit, parts, bytes, look, verb, s),
+        Verb::NextLoop => run_passes::loop_turn(unit, parts, bytes, look, verb, s),
         Verb::Bad => rules_run::failed(Fault::Malformed),
     }
 }

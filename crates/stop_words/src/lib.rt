@@ -42,6 +42,9 @@ pub fn words(stop: u64, text: &mut [u8]) -> usize
         24 => put(b"Calls nested to a depth greater than 50", text),
         25 => put(b"RETURN with no CALL or XCALL", text),
         26 => put(b"The rounding count is not 0 to 18", text),
+        27 => put(b"The step of a loop is zero", text),
+        28 => put(b"Loops nested to a depth greater than 16", text),
+        29 => put(b"Loop end, EXITLOOP or NEXTLOOP with no loop open", text),
         30 => put(b"The allowance was spent before the end", text),
         _ => 0,
     }

@@ -22,7 +22,7 @@ use Rattle.rules_unit.specs.declared.Checked.{Checked}
 use Rattle.rules_unit.specs.declared.Checked.the-variants as checked
 use Rattle.rules_unit.specs.Expressions.{usesb}
 use Rattle.rules_unit.specs.Table.{verbOf, rowOf, usesOf}
-use Rattle.rules_unit.specs.Checks.{isGoto, gotosb, tableb, roleb, rowb, shapeb, foundOf, statementsFrom}
+use Rattle.rules_unit.specs.Checks.{isGoto, gotosb, tableb, isLoopEnd, endb, roleb, rowb, shapeb, foundOf, statementsFrom}
 use Rattle.rules_unit.proofs.Statements.{left-suc, left-none, statements-more, statements-stop, statements-end}
 
 -- ---- the loop over a table: it ends at n, j is the next statement, and z is what the whole loop answers
@@ -66,6 +66,20 @@ module _ (u : List ℕ) (p : Parts) (i : ℕ) where
     unfolding tableb
     table-in z least most h w = rw (le-leb 1 n least, le-leb n 255 most, lt-ltb (i + n) (p .n) (omega arith)) w
 
+  -- the loop end of a FOR, where s is the statement that the code has read there
+  module _ (end : ℕ) where
+    pub end-before : end ≤ i → false ≡ endb (codeOf u p) i end
+    unfolding endb
+    end-before h = rw (le-ltb i end h)
+
+    pub end-past : i < end → p .n ≤ end → false ≡ endb (codeOf u p) i end
+    unfolding endb
+    end-past h k = rw (lt-ltb i end h, le-ltb end (p .n) k)
+
+    pub end-is : (s : Statement) (z : Bool) → i < end → end < p .n → s ≡ codeOf u p .statement end → z ≡ isLoopEnd s → z ≡ endb (codeOf u p) i end
+    unfolding endb
+    end-is s z h k e w = rw (lt-ltb i end h, lt-ltb end (p .n) k, ← e) w
+
   -- a part, where its role is known
   pub role-as : (r q : Role) (x : ℕ) (z : Bool) → r ≡ q → z ≡ roleb (codeOf u p) i q x → z ≡ roleb (codeOf u p) i r x
   role-as r q x z e w = rw e w
@@ -85,7 +99,7 @@ module _ (u : List ℕ) (p : Parts) (i : ℕ) where
     unfolding foundOf
     found-5 h = rw (← e₁, not-true b h)
 
-    module _ (e₂ : not b ≡ false) (s : Statement) (d : Bool) (e₃ : s ≡ codeOf u p .statement i) (e₄ : d ≡ usesb (codeOf u p) (usesOf s)) where
+    module _ (e₂ : not b ≡ false) (s : Statement) (d : Bool) (e₃ : s ≡ codeOf u p .statement i) (e₄ : d ≡ usesb (codeOf u p) (usesOf (codeOf u p) s)) where
       pub found-4 : not d ≡ true → found.BadExpression ≡ foundOf (codeOf u p) i
       unfolding foundOf
       found-4 h = rw (← e₁, not-false b e₂, ← e₃, ← e₄, not-true d h)

@@ -9,7 +9,8 @@ use rules_unit::Statement;
 ghost use mathlib.Core.Path.{_≡_};
 ghost use Prim.Native.Nat.{_+_, _<_, _≤_};
 ghost use Rattle.rules_unit.specs.Decode.{Fills, codeOf};
-ghost use Rattle.rules_unit.specs.Checks.{isGoto, gotosb, tableb, roleb, rowb, shapeb, foundOf, statementsFrom, partsCheck, checkOf};
+ghost use Rattle.rules_unit.specs.Checks.{isGoto, gotosb, tableb, isLoopEnd, endb, roleb, rowb, shapeb, foundOf, statementsFrom, partsCheck, checkOf};
+ghost use Rattle.unit_decode.specs.Rows.{RowsOf};
 ghost use Rattle.unit_sorts.specs.Notes.{NotedOf};
 
 // ---- 5
@@ -56,6 +57,27 @@ fn table_good(unit: &[u8], parts: Parts, i: u16, n: u16) -> bool
     gotos(unit, parts, i + 1, n)
 }
 
+// Whether a statement is a loop end.
+fn is_loop_end(s: Statement) -> bool
+    ensures { λ r. ⌜ r ≡ isLoopEnd s ⌝ }
+{
+    s.code == 15
+}
+
+// Whether the statement `end` is the loop end of a FOR at i: it stands behind it, inside the unit.
+fn end_good(unit: &[u8], parts: Parts, i: u16, end: u16) -> bool
+    requires { ⌜ Fills (now unit) parts ⌝ }
+    ensures { λ r. ⌜ r ≡ endb (codeOf (now (unit .entry)) parts) i end ⌝ }
+{
+    if end <= i {
+        return false;
+    }
+    if parts.n <= end {
+        return false;
+    }
+    is_loop_end(unit_decode::statement(unit, parts, end))
+}
+
 // Whether the part x of the statement at i is right, by its role.
 fn role_good(unit: &[u8], parts: Parts, i: u16, role: Role, x: u16) -> bool
     requires { ⌜ Fills (now unit) parts ⌝ }
@@ -68,6 +90,8 @@ fn role_good(unit: &[u8], parts: Parts, i: u16, role: Role, x: u16) -> bool
         Role::Read(_) => true,
         Role::Target => x < parts.n,
         Role::Table => table_good(unit, parts, i, x),
+        Role::Numbers => true,
+        Role::End => end_good(unit, parts, i, x),
         Role::Never => false,
     }
 }
@@ -107,31 +131,35 @@ fn shape_good(unit: &[u8], parts: Parts, i: u16) -> bool
 // ---- the check
 
 // What is found of the statement i: 5 before 4. What is found of its expressions is noted.
-fn found_of(unit: &[u8], parts: Parts, notes: &mut [u8], i: u16) -> Found
+fn found_of(unit: &[u8], parts: Parts, notes: &mut [u8], rows: &mut [u16], i: u16) -> Found
     requires { ⌜ Fills (now unit) parts ⌝ }
     requires { ⌜ NotedOf (now unit) parts (now notes) ⌝ }
+    requires { ⌜ RowsOf (now unit) parts (now rows) ⌝ }
     requires { ⌜ i < parts .n ⌝ }
     ensures { λ r. ⌜ r ≡ foundOf (codeOf (now (unit .entry)) parts) i ⌝ }
     ensures { λ _. ⌜ NotedOf (now (unit .entry)) parts (now (notes .exit)) ⌝ }
+    ensures { λ _. ⌜ RowsOf (now (unit .entry)) parts (now (rows .exit)) ⌝ }
 {
+    let s = unit_decode::statement(unit, parts, i);
     if !shape_good(unit, parts, i) {
         return Found::BadShape;
     }
-    if !unit_uses::uses_good(unit, parts, notes, unit_decode::statement(unit, parts, i)) {
+    if !unit_uses::uses_good(unit, parts, notes, rows, s) {
         return Found::BadExpression;
     }
     Found::Good
 }
 
-// Checks 4 and 5, statement by statement, with notes of the sorts that are found.
-fn statements_noted(unit: &[u8], parts: Parts, notes: &mut [u8]) -> Checked
+// Checks 4 and 5, statement by statement, with notes of the sorts that are found, and of the rows.
+fn statements_noted(unit: &[u8], parts: Parts, notes: &mut [u8], rows: &mut [u16]) -> Checked
     requires { ⌜ Fills (now unit) parts ⌝ }
     requires { ⌜ NotedOf (now unit) parts (now notes) ⌝ }
+    requires { ⌜ RowsOf (now unit) parts (now rows) ⌝ }
     ensures { λ r. ⌜ r ≡ statementsFrom (now (unit .entry)) parts (parts .n) 0 ⌝ }
 {
     let mut i: u16 = 0;
     while i < parts.n {
-        let found = found_of(unit, parts, notes, i);
+        let found = found_of(unit, parts, notes, rows, i);
         match found {
             Found::Good => {}
             Found::BadShape => return Checked::Refused(Refusal::BadStatement(i)),
@@ -142,13 +170,42 @@ fn statements_noted(unit: &[u8], parts: Parts, notes: &mut [u8]) -> Checked
     Checked::Passed(parts)
 }
 
-// Checks 4 and 5. There is a note for each offset of the expressions, and nothing is noted yet.
-fn statements(unit: &[u8], parts: Parts) -> Checked
+// Whether a unit has a FOR; its answer decides only how much room there is for notes.
+fn has_for(unit: &[u8], parts: Parts) -> bool
+    requires { ⌜ Fills (now unit) parts ⌝ }
+{
+    let mut i: u16 = 0;
+    while i < parts.n {
+        let s = unit_decode::statement(unit, parts, i);
+        if s.code == 14 {
+            return true;
+        }
+        i += 1;
+    }
+    false
+}
+
+// Checks 4 and 5 of a unit with a FOR. There are two notes for each offset of the expressions, and nothing is noted yet.
+fn statements_rows(unit: &[u8], parts: Parts) -> Checked
     requires { ⌜ Fills (now unit) parts ⌝ }
     ensures { λ r. ⌜ r ≡ statementsFrom (now (unit .entry)) parts (parts .n) 0 ⌝ }
 {
     let mut notes = [0u8; 16384];
-    statements_noted(unit, parts, &mut notes)
+    let mut rows = [0u16; 16384];
+    statements_noted(unit, parts, &mut notes, &mut rows)
+}
+
+// Checks 4 and 5. Where there is no FOR, no rows are noted.
+fn statements(unit: &[u8], parts: Parts) -> Checked
+    requires { ⌜ Fills (now unit) parts ⌝ }
+    ensures { λ r. ⌜ r ≡ statementsFrom (now (unit .entry)) parts (parts .n) 0 ⌝ }
+{
+    if has_for(unit, parts) {
+        return statements_rows(unit, parts);
+    }
+    let mut notes = [0u8; 16384];
+    let mut rows = [0u16; 1];
+    statements_noted(unit, parts, &mut notes, &mut rows)
 }
 
 // Checks 2 to 5 of a unit that its parts fill.

@@ -1,5 +1,5 @@
-// The coded unit's bytes, decoded: words, the trailer, field entries and where they end, items and how many values they take, statements; and the table
-// of statements. Nothing is checked here.
+// The coded unit's bytes, decoded: words, the trailer, field entries and where they end, items and how many values they take, expressions in a row,
+// statements; and the table of statements. Nothing is checked here.
 use rules_unit::Act;
 use rules_unit::Dialect;
 use rules_unit::Field;
@@ -16,12 +16,13 @@ use rules_unit::Verb;
 use rules_unit::Want;
 ghost use mathlib.Core.Path.{_≡_};
 ghost use Prim.Native.Nat.{_+_, _*_, _<_, _≤_};
-ghost use lib.ListN.{length};
+ghost use lib.ListN.{length, getD, set};
 ghost use Rattle.rules_unit.specs.declared.Verb.the-variants as verb;
 ghost use Rattle.rules_unit.specs.Codes.{isDecimal};
-ghost use Rattle.rules_unit.specs.Expressions.{opTakes, formTakes, takes};
+ghost use Rattle.rules_unit.specs.Expressions.{opTakes, formTakes, takes, closesb, extentOf, nextAt};
 ghost use Rattle.rules_unit.specs.Table.{verbOf, rowWith, rowOf};
-ghost use Rattle.rules_unit.specs.Decode.{Fills, wordAt, eighteen, markOf, dialectOf, partsOf, kindOf, fieldAt, referenceAt, numberAt, textAt, itemBy, itemAt, widthOf, statementAt, expressionsAt, literalsAt, statementsAt, fullLength, codeOf};
+ghost use Rattle.rules_unit.specs.Decode.{Fills, wordAt, eighteen, markOf, dialectOf, partsOf, kindOf, fieldAt, referenceAt, numberAt, textAt, itemBy, itemAt, widthOf, statementAt, expressionsAt, literalsAt, statementsAt, fullLength, itemsAt, codeOf};
+ghost use Rattle.unit_decode.specs.Rows.{Rows, RowsOf};
 
 // A byte as a word.
 pub fn wide(x: u8) -> u16
@@ -352,6 +353,118 @@ pub fn takes_of(item: Item) -> u16
     }
 }
 
+// ---- expressions in a row
+
+// Whether no item behind this one belongs to the expression.
+pub fn closes(item: Item) -> bool
+    ensures { λ r. ⌜ r ≡ closesb item ⌝ }
+{
+    match item {
+        Item::Number { place: _, len: _ } => false,
+        Item::Reference { form: _, field: _ } => false,
+        Item::Text { place: _, len: _ } => false,
+        Item::Operator(_) => false,
+        Item::End => true,
+        Item::Bad => true,
+    }
+}
+
+// Where the expression behind the one at an offset starts, as it is noted; 0 where nothing is.
+fn noted_row(rows: &[u16], at: usize) -> u16
+    ensures { λ r. ⌜ r ≡ getD (now (rows .entry)) at 0 ⌝ }
+{
+    if rows.len() <= at {
+        return 0;
+    }
+    rows[at]
+}
+
+// Notes for an offset where the expression behind the one there starts. An offset outside the notes is not noted.
+fn note_row(rows: &mut [u16], at: usize, next: u16)
+    ensures { λ _. ⌜ now (rows .exit) ≡ set (now (rows .entry)) at next ⌝ }
+{
+    if at < rows.len() {
+        rows[at] = next;
+    }
+}
+
+// Where the expression behind the one at an offset of the expressions s starts: behind its 00, or at what is no item.
+fn next_in(s: &[u8], rows: &[u16], at: usize) -> usize
+    requires { ⌜ Rows (now s) (now rows) ⌝ }
+    ensures { λ r. ⌜ r ≡ at + extentOf (itemsAt (now (s .entry)) at) ⌝ }
+{
+    let mut i = at;
+    while i < s.len() {
+        let known = noted_row(rows, i);
+        if 0 < known {
+            return long(known);
+        }
+        let item = item_at(s, i);
+        if let Item::End = item {
+            return i + 1;
+        }
+        if closes(item) {
+            return i;
+        }
+        i = i + width_of(item);
+    }
+    i
+}
+
+// Notes where the expression behind the one at an offset of the expressions s starts, for each of its items up to one for which it is noted.
+fn note_rows(s: &[u8], rows: &mut [u16], at: usize, next: u16)
+    requires { ⌜ Rows (now s) (now rows) ⌝ }
+    requires { ⌜ next ≡ at + extentOf (itemsAt (now s) at) ⌝ }
+    ensures { λ _. ⌜ Rows (now (s .entry)) (now (rows .exit)) ⌝ }
+{
+    let mut i = at;
+    while i < s.len() {
+        if 0 < noted_row(rows, i) {
+            return;
+        }
+        let item = item_at(s, i);
+        if closes(item) {
+            return;
+        }
+        note_row(rows, i, next);
+        i = i + width_of(item);
+    }
+}
+
+// Where the expression behind the one at an offset starts. What is noted is not looked for.
+fn next_by(unit: &[u8], parts: Parts, rows: &[u16], e: u16) -> u16
+    requires { ⌜ Fills (now unit) parts ⌝ }
+    requires { ⌜ RowsOf (now unit) parts (now rows) ⌝ }
+    ensures { λ r. ⌜ r ≡ nextAt (codeOf (now (unit .entry)) parts) e ⌝ }
+{
+    let start = expressions_offset(parts);
+    let end = literals_offset(parts);
+    next_in(&unit[start..end], rows, long(e)) as u16
+}
+
+// The same, where nothing is noted.
+pub fn next_at(unit: &[u8], parts: Parts, e: u16) -> u16
+    requires { ⌜ Fills (now unit) parts ⌝ }
+    ensures { λ r. ⌜ r ≡ nextAt (codeOf (now (unit .entry)) parts) e ⌝ }
+{
+    let rows = [0u16; 1];
+    next_by(unit, parts, &rows, e)
+}
+
+// The same, and what is found is noted.
+pub fn next_noted(unit: &[u8], parts: Parts, rows: &mut [u16], e: u16) -> u16
+    requires { ⌜ Fills (now unit) parts ⌝ }
+    requires { ⌜ RowsOf (now unit) parts (now rows) ⌝ }
+    ensures { λ r. ⌜ r ≡ nextAt (codeOf (now (unit .entry)) parts) e ⌝ }
+    ensures { λ _. ⌜ RowsOf (now (unit .entry)) parts (now (rows .exit)) ⌝ }
+{
+    let next = next_by(unit, parts, rows, e);
+    let start = expressions_offset(parts);
+    let end = literals_offset(parts);
+    note_rows(&unit[start..end], rows, long(e), next);
+    next
+}
+
 // ---- statements
 
 // What a statement of a code does; Bad for a code that is none.
@@ -372,6 +485,10 @@ pub fn verb_of(code: u8) -> Verb
         11 => Verb::Stop,
         12 => Verb::Computed,
         13 => Verb::At(Act::Edit),
+        14 => Verb::For,
+        15 => Verb::LoopEnd,
+        16 => Verb::ExitLoop,
+        17 => Verb::NextLoop,
         _ => Verb::Bad,
     }
 }
@@ -424,6 +541,10 @@ pub fn row_of(verb: Verb) -> Row
         Verb::Return => row_with(Role::Unused, Role::Unused, Role::Unused),
         Verb::Stop => row_with(Role::Unused, Role::Unused, Role::Unused),
         Verb::Computed => row_with(Role::Table, Role::Read(Want::Number), Role::Unused),
+        Verb::For => row_with(Role::Written(Want::DecimalPlace), Role::Numbers, Role::End),
+        Verb::LoopEnd => row_with(Role::Unused, Role::Unused, Role::Unused),
+        Verb::ExitLoop => row_with(Role::Unused, Role::Unused, Role::Unused),
+        Verb::NextLoop => row_with(Role::Unused, Role::Unused, Role::Unused),
         Verb::Bad => row_with(Role::Never, Role::Never, Role::Never),
     }
 }

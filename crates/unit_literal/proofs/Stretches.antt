@@ -134,7 +134,7 @@ module _ (c : Code) (from n : ℕ) (fits : from + length (c .literals) ≤ n) wh
   inside-items (item.End ∷ is) e = omega arith
   inside-items (item.Bad ∷ is) e = omega arith
 
-  inside-by : (s : Statement) → ((k : ℕ) → k < length (usesOf s) → useb c (getD (usesOf s) k use-of.Nothing) ≡ true)
+  inside-by : (s : Statement) → ((k : ℕ) → k < length (usesOf c s) → useb c (getD (usesOf c s) k use-of.Nothing) ≡ true)
       → stretchBy c from s .at + stretchBy c from s .len ≤ n
   unfolding sortAt
   inside-by s f = by (eqb (s .code) 1) refl

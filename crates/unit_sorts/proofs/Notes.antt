@@ -15,6 +15,7 @@ use Rattle.rules_unit.specs.declared.Sort.the-variants as sort
 use Rattle.rules_unit.specs.Codes.{Code}
 use Rattle.rules_unit.specs.Decode.{itemsAt}
 use Rattle.rules_unit.specs.Expressions.{sortFrom}
+use Rattle.unit_decode.proofs.Rows.{zeros}
 use Rattle.unit_sorts.specs.Notes.{isWrong, noteOf, sortBy, notedAt, Noted}
 
 note-least : (k : Sort) → noteOf k < 8
@@ -69,11 +70,6 @@ pub ruleset note-laws = (note-out, note-put)
 
 not-wrong : (k : Sort) → k ≡ sort.Wrong → isWrong k ≡ false → ⊥
 not-wrong k e h = let z : true ≡ false = rw e at h in subst T z tt
-
-pub zeros : (m e : ℕ) → _≡_ {A = ℕ} (getD (replicate m 0) e 0) 0
-zeros zero e = refl
-zeros (suc m) zero = refl
-zeros (suc m) (suc e) = zeros m e
 
 module _ (c : Code) (s : List ℕ) where
   pub noted-none : (m : ℕ) → Noted c s (replicate m 0)

@@ -3,14 +3,12 @@
 -- Assumes nothing.
 use mathlib.Core.Path.{_≡_, refl, sym, ap, _∙_}
 use mathlib.Core.Bool.{Bool, true, false, cond, not}
-use mathlib.Core.List.{List, [], _∷_}
+use mathlib.Core.List.{List}
 use Prim.Native.Nat.{ℕ, _+_, _-_, _≤_, _<_}
 use native.Mathlib.Omega.{arith}
 use lib.Dec.{leb, eqb}
 use lib.ListN.{length}
 use borrow.Author.Tests.{le-leb, lt-leb, eq-eqb, ne-eqb, not-true}
-use denote.Enum.Declared.{tagOf}
-use types.Run.{OneOf, miss}
 use Rattle.rules.proofs.Walk.{seen-no, seen-yes, cond-same}
 use Rattle.rules_unit.specs.declared.Item.{Item}
 use Rattle.rules_unit.specs.declared.Item.the-variants as item
@@ -20,12 +18,7 @@ use Rattle.rules_unit.specs.Codes.{Code}
 use Rattle.rules_unit.specs.Decode.{itemAt, widthOf, follow, itemsAt}
 use Rattle.rules_unit.specs.Expressions.{takes, itemb, sortOf, goesOn, sortFrom}
 use Rattle.unit_sorts.specs.Notes.{isWrong, notedAt, Noted}
-use Rattle.rules_unit.proofs.Item.{the-type}
 use Rattle.rules_unit.proofs.Items.{items-as, beyond}
-
--- what the code's `if let Item::End` leaves: the item's tag is one of the others
-pub not-end : (i : Item) → OneOf (0 ∷ (1 ∷ (2 ∷ (3 ∷ (5 ∷ []))))) (tagOf the-type i) → i ≡ item.End → ⊥
-not-end i h e = miss (0 ∷ (1 ∷ (2 ∷ (3 ∷ (5 ∷ []))))) 4 tt (rw e at h)
 
 next-sort : (c : Code) (i : Item) (is : List Item) (n : ℕ) (k : Sort) → (i ≡ item.End → ⊥)
     → sortFrom c (follow i is) n k

@@ -2,7 +2,7 @@
 -- Assumes nothing.
 use borrow.Author.Needs.{needs}
 use Rattle.rules_unit.proofs.Sound.{passed-by}
-use Rattle.dibol.proofs.Ways.{call-ways, sound-by}
+use Rattle.dibol.proofs.Ways.{unit-fills, unit-dialect, call-ways, sound-by}
 use Rattle.dibol.proofs.run.Statement.{statement}
 use Rattle.dibol.proofs.run.Tie as tie
 
@@ -31,7 +31,7 @@ returns : tie.Need-returns
 returns c = search call-ways depth 3
 
 sound-requires : tie.Need-sound-requires
-sound-requires c κs = search needs
+sound-requires c κs = (search unit-fills depth 3, search unit-dialect depth 3)
 
 refused-requires-3 : tie.Need-refused-requires-3
 refused-requires-3 c κs = search needs

@@ -1,6 +1,7 @@
 -- `fence::breach_alone` meets its contract: the table of a unit that passed its check tells what the rule asks, and nothing is noted.
 -- Assumes nothing.
 use borrow.Author.Needs.{needs}
+use Rattle.unit_decode.proofs.Rows.{rows-none}
 use Rattle.fence_decimals.proofs.Tables.{ahead-says}
 use Rattle.fence_statements.proofs.Notes.{both-none}
 use Rattle.fence.proofs.breach_alone.Statement.{statement}
@@ -21,8 +22,11 @@ slice-aggregate-breach-of-2 c = search needs
 slice-aggregate-breach-of-3 : tie.Need-slice-aggregate-breach-of-3
 slice-aggregate-breach-of-3 c = search needs
 
+slice-aggregate-breach-of-4 : tie.Need-slice-aggregate-breach-of-4
+slice-aggregate-breach-of-4 c = search needs
+
 breach-of-requires : tie.Need-breach-of-requires
-breach-of-requires c κs = (search needs, (search ahead-says depth 3, (search needs, both-none _ _ 1 1)))
+breach-of-requires c κs = (search needs, (search ahead-says depth 3, (search needs, (both-none _ _ 1 1, rows-none _ 1))))
 
 returns : tie.Need-returns
 returns c = search needs
@@ -36,5 +40,6 @@ breach-alone-spec =
     slice-aggregate-breach-of
     slice-aggregate-breach-of-2
     slice-aggregate-breach-of-3
+    slice-aggregate-breach-of-4
     breach-of-requires
     returns)

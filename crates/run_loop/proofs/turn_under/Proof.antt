@@ -36,6 +36,12 @@ enum-told-5 c = search needs
 enum-told-6 : tie.Need-enum-told-6
 enum-told-6 c = search needs
 
+enum-told-7 : tie.Need-enum-told-7
+enum-told-7 c = search needs
+
+enum-told-8 : tie.Need-enum-told-8
+enum-told-8 c = search needs
+
 returns-3 : tie.Need-returns-3
 returns-3 c = search (under-as, walk) depth 5
 
@@ -54,6 +60,12 @@ returns-7 c = search (under-as, walk) depth 5
 returns-8 : tie.Need-returns-8
 returns-8 c = search (under-as, walk) depth 5
 
+returns-9 : tie.Need-returns-9
+returns-9 c = search (under-as, walk) depth 5
+
+returns-10 : tie.Need-returns-10
+returns-10 c = search (under-as, walk) depth 5
+
 pub turn-under-spec : {M : Type 1} → statement M
 turn-under-spec =
     tie.close
@@ -68,9 +80,13 @@ turn-under-spec =
     returns-2
     enum-told-5
     enum-told-6
+    enum-told-7
+    enum-told-8
     returns-3
     returns-4
     returns-5
     returns-6
     returns-7
-    returns-8)
+    returns-8
+    returns-9
+    returns-10)

@@ -3,7 +3,8 @@
 -- Assumes nothing.
 use borrow.Author.Needs.{needs}
 use borrow.Author.Tests.{not-true, not-false}
-use Rattle.run_moves.proofs.Found.{count-alpha, count-sum, count-failed, read-again}
+use Rattle.run_items.proofs.Places.{read-again}
+use Rattle.run_moves.proofs.Found.{count-alpha, count-sum, count-failed}
 use Rattle.run_moves.proofs.count_at.Statement.{statement}
 use Rattle.run_moves.proofs.count_at.Tie as tie
 

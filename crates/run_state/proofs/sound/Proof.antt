@@ -1,4 +1,5 @@
--- `run_state::sound` meets its contract: the statement number, the open calls and the return numbers are tested in the order of `soundb`.
+-- `run_state::sound` meets its contract: the statement number, the open calls, the return numbers, the open loops and the slots are tested in the order of
+-- `soundb`.
 -- Assumes nothing.
 use borrow.Author.Needs.{needs}
 use Rattle.run_state.proofs.Returns.{sound-laws}
@@ -17,5 +18,23 @@ returns-sound-requires c κs = search needs
 returns-3 : tie.Need-returns-3
 returns-3 c = search sound-laws depth 3
 
+returns-4 : tie.Need-returns-4
+returns-4 c = search (sound-laws, needs) depth 3
+
+slots-sound-requires : tie.Need-slots-sound-requires
+slots-sound-requires c κs = search needs
+
+returns-5 : tie.Need-returns-5
+returns-5 c = search sound-laws depth 3
+
 pub sound-spec : {M : Type 1} → statement M
-sound-spec = tie.close (tie.spec returns returns-2 returns-sound-requires returns-3)
+sound-spec =
+    tie.close
+    (tie.spec
+    returns
+    returns-2
+    returns-sound-requires
+    returns-3
+    returns-4
+    slots-sound-requires
+    returns-5)

@@ -1,7 +1,8 @@
 -- `run_statement::at_place` meets its contract: each arm knows what is done, and its callee answers what the rule has for that.
 -- Assumes nothing.
 use borrow.Author.Needs.{needs}
-use Rattle.run_statement.proofs.Places.{within-by, at-set, at-as}
+use Rattle.run_evaluate.proofs.Answers.{within-by}
+use Rattle.run_statement.proofs.Places.{at-set, at-as}
 use Rattle.run_statement.proofs.at_place.Statement.{statement}
 use Rattle.run_statement.proofs.at_place.Tie as tie
 

@@ -2,9 +2,8 @@
 -- stands.
 -- Assumes nothing.
 use borrow.Author.Needs.{needs}
-use Rattle.rules_run.specs.Turns.{turnBy}
-use Rattle.run_statement.proofs.Jumps.{number-again, jump-by, jump-failed}
-use Rattle.run_statement.proofs.Places.{within-by}
+use Rattle.run_evaluate.proofs.Answers.{number-again, within-by}
+use Rattle.run_statement.proofs.Jumps.{jump-by, jump-failed}
 use Rattle.run_statement.proofs.computed.Statement.{statement}
 use Rattle.run_statement.proofs.computed.Tie as tie
 
@@ -30,11 +29,9 @@ failed-requires : tie.Need-failed-requires
 failed-requires c κs = search needs
 
 returns : tie.Need-returns
-unfolding turnBy
 returns c = search jump-by depth 3
 
 returns-2 : tie.Need-returns-2
-unfolding turnBy
 returns-2 c = search jump-failed depth 3
 
 pub computed-spec : {M : Type 1} → statement M

@@ -5,8 +5,8 @@ use Rattle.run_statement.proofs.Edits.{literal-value, literal-none}
 use Rattle.run_statement.proofs.edit_literal.Statement.{statement}
 use Rattle.run_statement.proofs.edit_literal.Tie as tie
 
-number-at-requires : tie.Need-number-at-requires
-number-at-requires c κs = search needs
+value-at-requires : tie.Need-value-at-requires
+value-at-requires c κs = search needs
 
 enum-known-v : tie.Need-enum-known-v
 enum-known-v c = search needs
@@ -36,7 +36,7 @@ pub edit-literal-spec : {M : Type 1} → statement M
 edit-literal-spec =
     tie.close
     (tie.spec
-    number-at-requires
+    value-at-requires
     enum-known-v
     long-requires
     long-requires-2

@@ -5,8 +5,8 @@ use Rattle.run_statement.proofs.Edits.{place-value, place-none}
 use Rattle.run_statement.proofs.edit_place.Statement.{statement}
 use Rattle.run_statement.proofs.edit_place.Tie as tie
 
-number-at-requires : tie.Need-number-at-requires
-number-at-requires c κs = search needs
+value-at-requires : tie.Need-value-at-requires
+value-at-requires c κs = search needs
 
 enum-known-v : tie.Need-enum-known-v
 enum-known-v c = search needs
@@ -30,7 +30,7 @@ pub edit-place-spec : {M : Type 1} → statement M
 edit-place-spec =
     tie.close
     (tie.spec
-    number-at-requires
+    value-at-requires
     enum-known-v
     stores-requires
     enum-known-e

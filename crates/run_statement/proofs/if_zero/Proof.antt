@@ -1,9 +1,8 @@
 -- `run_statement::if_zero` meets its contract: the number that the expression comes to tells where the run goes on, or its fault stands.
 -- Assumes nothing.
 use borrow.Author.Needs.{needs}
-use Rattle.rules_run.specs.Turns.{turnBy}
+use Rattle.run_evaluate.proofs.Answers.{within-by}
 use Rattle.run_statement.proofs.Jumps.{jump-by, jump-failed}
-use Rattle.run_statement.proofs.Places.{within-by}
 use Rattle.run_statement.proofs.if_zero.Statement.{statement}
 use Rattle.run_statement.proofs.if_zero.Tie as tie
 
@@ -29,11 +28,9 @@ failed-requires : tie.Need-failed-requires
 failed-requires c κs = search needs
 
 returns : tie.Need-returns
-unfolding turnBy
 returns c = search jump-by depth 3
 
 returns-2 : tie.Need-returns-2
-unfolding turnBy
 returns-2 c = search jump-failed depth 3
 
 pub if-zero-spec : {M : Type 1} → statement M

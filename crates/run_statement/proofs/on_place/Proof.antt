@@ -1,8 +1,7 @@
 -- `run_statement::on_place` meets its contract: a place that is found lies inside the data, and each other arm fails as the rule does.
 -- Assumes nothing.
 use borrow.Author.Needs.{needs}
-use Rattle.rules_run.specs.Turns.{turnBy}
-use Rattle.run_statement.proofs.Places.{found-inside, on-places}
+use Rattle.run_evaluate.proofs.Answers.{found-inside, on-places}
 use Rattle.run_statement.proofs.on_place.Statement.{statement}
 use Rattle.run_statement.proofs.on_place.Tie as tie
 
@@ -34,19 +33,15 @@ failed-requires-3 : tie.Need-failed-requires-3
 failed-requires-3 c κs = search needs
 
 returns : tie.Need-returns
-unfolding turnBy
 returns c = search on-places depth 3
 
 returns-2 : tie.Need-returns-2
-unfolding turnBy
 returns-2 c = search on-places depth 3
 
 returns-3 : tie.Need-returns-3
-unfolding turnBy
 returns-3 c = search on-places depth 3
 
 returns-4 : tie.Need-returns-4
-unfolding turnBy
 returns-4 c = search on-places depth 3
 
 pub on-place-spec : {M : Type 1} → statement M

@@ -2,7 +2,8 @@
 -- Assumes nothing.
 use borrow.Author.Needs.{needs}
 use Rattle.rules_run.specs.Turns.{turnBy}
-use Rattle.run_statement.proofs.Statements.{turn-as, table-fits}
+use Rattle.run_passes.specs.Passes.{loopTurn}
+use Rattle.run_statement.proofs.Statements.{turn-as, turn-loop, table-fits, end-fits}
 use Rattle.run_statement.proofs.work.Statement.{statement}
 use Rattle.run_statement.proofs.work.Tie as tie
 
@@ -57,6 +58,30 @@ computed-requires c κs = (search needs, (search needs, (search needs, search ta
 enum-told-7 : tie.Need-enum-told-7
 enum-told-7 c = search needs
 
+loop-turn-requires : tie.Need-loop-turn-requires
+loop-turn-requires c κs = (search needs, (search needs, (search needs, (search needs, (search needs, search end-fits depth 3)))))
+
+enum-told-8 : tie.Need-enum-told-8
+enum-told-8 c = search needs
+
+loop-turn-requires-2 : tie.Need-loop-turn-requires-2
+loop-turn-requires-2 c κs = (search needs, (search needs, (search needs, (search needs, (search needs, search end-fits depth 3)))))
+
+enum-told-9 : tie.Need-enum-told-9
+enum-told-9 c = search needs
+
+loop-turn-requires-3 : tie.Need-loop-turn-requires-3
+loop-turn-requires-3 c κs = (search needs, (search needs, (search needs, (search needs, (search needs, search end-fits depth 3)))))
+
+enum-told-10 : tie.Need-enum-told-10
+enum-told-10 c = search needs
+
+loop-turn-requires-4 : tie.Need-loop-turn-requires-4
+loop-turn-requires-4 c κs = (search needs, (search needs, (search needs, (search needs, (search needs, search end-fits depth 3)))))
+
+enum-told-11 : tie.Need-enum-told-11
+enum-told-11 c = search needs
+
 failed-requires : tie.Need-failed-requires
 failed-requires c κs = search needs
 
@@ -89,8 +114,24 @@ unfolding turnBy
 returns-7 c = search turn-as depth 3
 
 returns-8 : tie.Need-returns-8
+unfolding turnBy loopTurn
+returns-8 c = search turn-loop depth 3
+
+returns-9 : tie.Need-returns-9
+unfolding turnBy loopTurn
+returns-9 c = search turn-loop depth 3
+
+returns-10 : tie.Need-returns-10
+unfolding turnBy loopTurn
+returns-10 c = search turn-loop depth 3
+
+returns-11 : tie.Need-returns-11
+unfolding turnBy loopTurn
+returns-11 c = search turn-loop depth 3
+
+returns-12 : tie.Need-returns-12
 unfolding turnBy
-returns-8 c = search turn-as depth 3
+returns-12 c = search turn-as depth 3
 
 pub work-spec : {M : Type 1} → statement M
 work-spec =
@@ -113,6 +154,14 @@ work-spec =
     enum-told-6
     computed-requires
     enum-told-7
+    loop-turn-requires
+    enum-told-8
+    loop-turn-requires-2
+    enum-told-9
+    loop-turn-requires-3
+    enum-told-10
+    loop-turn-requires-4
+    enum-told-11
     failed-requires
     returns
     returns-2
@@ -121,4 +170,8 @@ work-spec =
     returns-5
     returns-6
     returns-7
-    returns-8)
+    returns-8
+    returns-9
+    returns-10
+    returns-11
+    returns-12)

@@ -102,6 +102,24 @@ slice-aggregate-put-16 c = search needs
 put-requires-16 : tie.Need-put-requires-16
 put-requires-16 c κs = search needs
 
+slice-aggregate-put-17 : tie.Need-slice-aggregate-put-17
+slice-aggregate-put-17 c = search needs
+
+put-requires-17 : tie.Need-put-requires-17
+put-requires-17 c κs = search needs
+
+slice-aggregate-put-18 : tie.Need-slice-aggregate-put-18
+slice-aggregate-put-18 c = search needs
+
+put-requires-18 : tie.Need-put-requires-18
+put-requires-18 c κs = search needs
+
+slice-aggregate-put-19 : tie.Need-slice-aggregate-put-19
+slice-aggregate-put-19 c = search needs
+
+put-requires-19 : tie.Need-put-requires-19
+put-requires-19 c κs = search needs
+
 same-length : tie.Need-same-length
 same-length c = search needs
 
@@ -214,8 +232,29 @@ returns-16 : tie.Need-returns-16
 unfolding wordsOf codes
 returns-16 c = search said-by depth 3
 
+same-length-17 : tie.Need-same-length-17
+same-length-17 c = search needs
+
 returns-17 : tie.Need-returns-17
-returns-17 c = search unsaid depth 20
+unfolding wordsOf codes
+returns-17 c = search said-by depth 3
+
+same-length-18 : tie.Need-same-length-18
+same-length-18 c = search needs
+
+returns-18 : tie.Need-returns-18
+unfolding wordsOf codes
+returns-18 c = search said-by depth 3
+
+same-length-19 : tie.Need-same-length-19
+same-length-19 c = search needs
+
+returns-19 : tie.Need-returns-19
+unfolding wordsOf codes
+returns-19 c = search said-by depth 3
+
+returns-20 : tie.Need-returns-20
+returns-20 c = search unsaid depth 23
 
 pub words-spec : {M : Type 1} → statement M
 words-spec =
@@ -253,6 +292,12 @@ words-spec =
     put-requires-15
     slice-aggregate-put-16
     put-requires-16
+    slice-aggregate-put-17
+    put-requires-17
+    slice-aggregate-put-18
+    put-requires-18
+    slice-aggregate-put-19
+    put-requires-19
     same-length
     returns
     same-length-2
@@ -285,4 +330,10 @@ words-spec =
     returns-15
     same-length-16
     returns-16
-    returns-17)
+    same-length-17
+    returns-17
+    same-length-18
+    returns-18
+    same-length-19
+    returns-19
+    returns-20)

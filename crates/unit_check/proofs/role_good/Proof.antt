@@ -26,6 +26,15 @@ table-good-requires c κs = search needs
 enum-told-6 : tie.Need-enum-told-6
 enum-told-6 c = search needs
 
+enum-told-7 : tie.Need-enum-told-7
+enum-told-7 c = search needs
+
+end-good-requires : tie.Need-end-good-requires
+end-good-requires c κs = search needs
+
+enum-told-8 : tie.Need-enum-told-8
+enum-told-8 c = search needs
+
 returns : tie.Need-returns
 returns c = search role-as depth 3
 
@@ -44,6 +53,12 @@ returns-5 c = search role-as depth 3
 returns-6 : tie.Need-returns-6
 returns-6 c = search role-as depth 3
 
+returns-7 : tie.Need-returns-7
+returns-7 c = search role-as depth 3
+
+returns-8 : tie.Need-returns-8
+returns-8 c = search role-as depth 3
+
 pub role-good-spec : {M : Type 1} → statement M
 role-good-spec =
     tie.close
@@ -55,9 +70,14 @@ role-good-spec =
     enum-told-5
     table-good-requires
     enum-told-6
+    enum-told-7
+    end-good-requires
+    enum-told-8
     returns
     returns-2
     returns-3
     returns-4
     returns-5
-    returns-6)
+    returns-6
+    returns-7
+    returns-8)

@@ -53,6 +53,30 @@ enum-told-7 c = search needs
 row-with-requires-7 : tie.Need-row-with-requires-7
 row-with-requires-7 c κs = search needs
 
+enum-told-8 : tie.Need-enum-told-8
+enum-told-8 c = search needs
+
+row-with-requires-8 : tie.Need-row-with-requires-8
+row-with-requires-8 c κs = search needs
+
+enum-told-9 : tie.Need-enum-told-9
+enum-told-9 c = search needs
+
+row-with-requires-9 : tie.Need-row-with-requires-9
+row-with-requires-9 c κs = search needs
+
+enum-told-10 : tie.Need-enum-told-10
+enum-told-10 c = search needs
+
+row-with-requires-10 : tie.Need-row-with-requires-10
+row-with-requires-10 c κs = search needs
+
+enum-told-11 : tie.Need-enum-told-11
+enum-told-11 c = search needs
+
+row-with-requires-11 : tie.Need-row-with-requires-11
+row-with-requires-11 c κs = search needs
+
 returns : tie.Need-returns
 returns c = search row-as depth 3
 
@@ -77,6 +101,18 @@ returns-7 c = search row-as depth 3
 returns-8 : tie.Need-returns-8
 returns-8 c = search row-as depth 3
 
+returns-9 : tie.Need-returns-9
+returns-9 c = search row-as depth 3
+
+returns-10 : tie.Need-returns-10
+returns-10 c = search row-as depth 3
+
+returns-11 : tie.Need-returns-11
+returns-11 c = search row-as depth 3
+
+returns-12 : tie.Need-returns-12
+returns-12 c = search row-as depth 3
+
 pub row-of-spec : {M : Type 1} → statement M
 row-of-spec =
     tie.close
@@ -97,6 +133,14 @@ row-of-spec =
     row-with-requires-6
     enum-told-7
     row-with-requires-7
+    enum-told-8
+    row-with-requires-8
+    enum-told-9
+    row-with-requires-9
+    enum-told-10
+    row-with-requires-10
+    enum-told-11
+    row-with-requires-11
     returns
     returns-2
     returns-3
@@ -104,4 +148,8 @@ row-of-spec =
     returns-5
     returns-6
     returns-7
-    returns-8)
+    returns-8
+    returns-9
+    returns-10
+    returns-11
+    returns-12)

@@ -9,9 +9,9 @@ use native.Mathlib.Omega.{arith}
 use Rattle.rules_unit.specs.declared.Item.{Item}
 use Rattle.rules_unit.specs.Decode.{codeOf}
 use Rattle.rules_unit.proofs.Items.{width-some, width-most}
+use Rattle.unit_decode.proofs.Rows.{not-end}
 use Rattle.unit_sorts.specs.Notes.{Noted}
 use Rattle.unit_sorts.proofs.Leads.{Leads, lead-start, lead-few, lead-most, lead-on, lead-noted}
-use Rattle.unit_sorts.proofs.Turns.{not-end}
 use Rattle.unit_sorts.proofs.note_in.Statement.{statement}
 use Rattle.unit_sorts.proofs.note_in.Tie as tie
 

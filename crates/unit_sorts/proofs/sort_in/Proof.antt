@@ -14,7 +14,8 @@ use Rattle.rules_unit.specs.Decode.{itemsAt, codeOf}
 use Rattle.rules_unit.specs.Expressions.{sortFrom}
 use Rattle.rules.proofs.Walk.{seen-yes}
 use Rattle.rules_unit.proofs.Items.{width-some, width-most}
-use Rattle.unit_sorts.proofs.Turns.{not-end, turn-beyond, turn-one, turn-none, turn-last, turn-noted, turn-item, turn-few, turn-full, turn-on}
+use Rattle.unit_decode.proofs.Rows.{not-end}
+use Rattle.unit_sorts.proofs.Turns.{turn-beyond, turn-one, turn-none, turn-last, turn-noted, turn-item, turn-few, turn-full, turn-on}
 use Rattle.unit_sorts.proofs.sort_in.Statement.{statement}
 use Rattle.unit_sorts.proofs.sort_in.Tie as tie
 

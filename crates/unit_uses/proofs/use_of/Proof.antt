@@ -23,6 +23,15 @@ enum-told-3 c = search needs
 enum-told-4 : tie.Need-enum-told-4
 enum-told-4 c = search needs
 
+read-number-requires : tie.Need-read-number-requires
+read-number-requires c κs = search needs
+
+enum-told-5 : tie.Need-enum-told-5
+enum-told-5 c = search needs
+
+enum-told-6 : tie.Need-enum-told-6
+enum-told-6 c = search needs
+
 returns : tie.Need-returns
 returns c = search use-as depth 3
 
@@ -41,6 +50,12 @@ returns-5 c = search use-as depth 3
 returns-6 : tie.Need-returns-6
 returns-6 c = search use-as depth 3
 
+returns-7 : tie.Need-returns-7
+returns-7 c = search use-as depth 3
+
+returns-8 : tie.Need-returns-8
+returns-8 c = search use-as depth 3
+
 pub use-of-spec : {M : Type 1} → statement M
 use-of-spec =
     tie.close
@@ -51,9 +66,14 @@ use-of-spec =
     enum-told-2
     enum-told-3
     enum-told-4
+    read-number-requires
+    enum-told-5
+    enum-told-6
     returns
     returns-2
     returns-3
     returns-4
     returns-5
-    returns-6)
+    returns-6
+    returns-7
+    returns-8)

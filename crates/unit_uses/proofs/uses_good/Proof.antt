@@ -17,9 +17,19 @@ uses-good-by-requires c κs = search needs
 same-length : tie.Need-same-length
 same-length c = search needs
 
+same-length-2 : tie.Need-same-length-2
+same-length-2 c = search needs
+
 returns : tie.Need-returns
-returns c = (search uses-own depth 3, search needs)
+returns c = (search uses-own depth 3, (search needs, search needs))
 
 pub uses-good-spec : {M : Type 1} → statement M
 uses-good-spec =
-    tie.close (tie.spec verb-of-requires row-of-requires uses-good-by-requires same-length returns)
+    tie.close
+    (tie.spec
+    verb-of-requires
+    row-of-requires
+    uses-good-by-requires
+    same-length
+    same-length-2
+    returns)

@@ -1,0 +1,4 @@
+pub mod Values
+pub mod Entries
+pub mod Passes
+pub mod Turns
