@@ -14,6 +14,7 @@ use Rattle.rules_unit.specs.Table.{verbOf}
 use Rattle.rules_unit.specs.Expressions.{digitsb, numberb}
 use Rattle.rules_run.specs.Spans.{within, startEndSpan, posLengthSpan, spanOf}
 use Rattle.rules_run.specs.Evaluation.{digitsFrom, literalNumber, stepBy, placeBy, place, lastOf, workedFrom, workedOf, calc}
+use Rattle.rules_run.specs.States.{started, lookOf}
 use Rattle.rules_run.specs.Turns.{stored, applied, turnBy, turnOf}
 use Rattle.promises.specs.Rows.{number, text, stop, Row, _is_, AllHold, limit, top, sign, bytes, minus, answer, into, image, AM, NZ, NUM, unit, expression, range, back, after}
 
@@ -46,7 +47,7 @@ rows =
     -- *" 1-2 " into D4 is "001r"
     ∷ into 4 (alphaOf top (bytes " 1-2 ")) is text (bytes "001r")
     -- *AM(2,6) from AM(1,5) gives AM "aabcdeghijklm"
-    ∷ after 0 13 (turnOf unit 0 image) is text (bytes "aabcdeghijklm")
+    ∷ after 0 13 (turnOf unit (lookOf started) 0 image) is text (bytes "aabcdeghijklm")
     ∷ []
 
 pub bench-values : AllHold rows

@@ -6,7 +6,7 @@
 --   references    bounds, by the fields of the bench values
 --   items         how an item is read from its bytes, and what is cut off at their end
 --   literals      the alpha literal of a statement
---   states        which resume states are sound
+--   states, open-loops    which resume states are sound
 --   lengths       the ranges of a unit's parts, and that the longest unit has 57,353 bytes
 -- Assumes nothing.
 use mathlib.Core.Path.{_≡_, refl}
@@ -28,10 +28,10 @@ use Rattle.rules_unit.specs.Checks.{filledb, rangesb, entryb, goodFields, rowb,
 use Rattle.rules_unit.specs.Literals.{stretchOf, literalOf}
 use Rattle.rules_run.specs.Spans.{within, subscriptSpan, startEndSpan, posLengthSpan, spanOf}
 use Rattle.rules_run.specs.Evaluation.{digitsFrom, literalNumber, reference, stepBy, placeBy, place, lastOf, workedFrom, workedOf, calc}
-use Rattle.rules_run.specs.States.{returnsb, soundb}
+use Rattle.rules_run.specs.States.{noLoop, returnsb, loopb, emptyb, slotsb, soundb}
 use Rattle.rules_run.specs.Turns as turns
 use Rattle.promises.specs.Rows.{number, text, stop, Row, _is_, AllHold, limit, top, sign, bytes, minus, answer, into, AM, NZ, NUM, expression, element, range, forth, back}
-use Rattle.promises.specs.Samples.{named, cleared, read, of-one, of-two, of-forty, sound, parts}
+use Rattle.promises.specs.Samples.{named, cleared, read, of-one, of-two, of-forty, nine, sound, opens, slot, parts}
 
 -- ---- values, moves and arithmetic
 
@@ -254,12 +254,57 @@ pub record States : Type 0 where
   pub one-more : sound 3 51 9 0 ≡ false
   pub returns-past : sound 3 2 10 48 ≡ false
   pub returns-zero : sound 3 2 0 48 ≡ true
-  pub unused-not-zero : soundb 9 (record { at = 3; depth = 1; returns = 4 ∷ 5 ∷ replicate 48 0 }) ≡ false
+  pub unused-not-zero : soundb nine (record { at = 3; depth = 1; returns = 4 ∷ 5 ∷ replicate 48 0; opened = 0; loops = replicate 16 noLoop }) ≡ false
 
 pub states : States
-unfolding returnsb soundb
+unfolding returnsb loopb emptyb slotsb soundb
 states =
     record { at-the-end = refl; past-the-end = refl; fifty-calls = refl; one-more = refl; returns-past = refl; returns-zero = refl; unused-not-zero = refl }
+
+-- "an open loop names an entry statement of the unit beside its limit and nonzero step, both in the value range"; 16 slots, unused ones zero
+pub record OpenLoops : Type 0 where
+  pub one-open : opens 1 (slot 3 (pos 9) (pos 2) ∷ []) 15 ≡ true
+  pub twice-open : opens 2 (slot 3 (pos 9) (pos 2) ∷ slot 3 (minus 9) (minus 1) ∷ []) 14 ≡ true
+  pub sixteen-open : opens 16 (replicate 16 (slot 3 (pos 0) (pos 1))) 0 ≡ true
+  pub one-more : opens 17 (replicate 17 (slot 3 (pos 0) (pos 1))) 0 ≡ false
+  pub one-more-counted : opens 17 (replicate 16 (slot 3 (pos 0) (pos 1))) 0 ≡ false
+  pub a-slot-short : opens 1 (slot 3 (pos 9) (pos 2) ∷ []) 14 ≡ false
+  pub no-entry : opens 1 (slot 4 (pos 9) (pos 2) ∷ []) 15 ≡ false
+  pub past-the-last : opens 1 (slot 9 (pos 9) (pos 2) ∷ []) 15 ≡ false
+  pub greatest : opens 1 (slot 3 (minus 999999999999999999) (pos 999999999999999999) ∷ []) 15 ≡ true
+  pub limit-past : opens 1 (slot 3 (pos 1000000000000000000) (pos 2) ∷ []) 15 ≡ false
+  pub limit-past-below : opens 1 (slot 3 (minus 1000000000000000000) (pos 2) ∷ []) 15 ≡ false
+  pub step-past : opens 1 (slot 3 (pos 9) (minus 1000000000000000000) ∷ []) 15 ≡ false
+  pub step-past-above : opens 1 (slot 3 (pos 9) (pos 1000000000000000000) ∷ []) 15 ≡ false
+  pub step-zero : opens 1 (slot 3 (pos 9) (pos 0) ∷ []) 15 ≡ false
+  pub unused-not-zero : opens 0 (slot 3 (pos 9) (pos 2) ∷ []) 15 ≡ false
+  pub unused-entry : opens 0 (slot 3 (pos 0) (pos 0) ∷ []) 15 ≡ false
+  pub unused-limit : opens 0 (slot 0 (pos 9) (pos 0) ∷ []) 15 ≡ false
+  pub unused-step : opens 0 (slot 0 (pos 0) (pos 2) ∷ []) 15 ≡ false
+
+pub open-loops : OpenLoops
+unfolding returnsb loopb emptyb slotsb soundb
+open-loops =
+    record {
+      one-open = refl;
+      twice-open = refl;
+      sixteen-open = refl;
+      one-more = refl;
+      one-more-counted = refl;
+      a-slot-short = refl;
+      no-entry = refl;
+      past-the-last = refl;
+      greatest = refl;
+      limit-past = refl;
+      limit-past-below = refl;
+      step-past = refl;
+      step-past-above = refl;
+      step-zero = refl;
+      unused-not-zero = refl;
+      unused-entry = refl;
+      unused-limit = refl;
+      unused-step = refl;
+    }
 
 -- ---- lengths
 

@@ -6,7 +6,7 @@
 -- The claims are about the contract of `dibol::run`: `Post` is what its `ensures` says of its arguments a, its result r and what it leaves, s. Numbers
 -- are document 01's. Hosts has the same of `dibol_run`.
 --
---   run-or-refused            a call is refused by a number from 1 to 7, or is a run, and ends with 0, 20 to 26 or 30
+--   run-or-refused            a call is refused by a number from 1 to 7, or is a run, and ends with 0, 20 to 29 or 30
 --   refused-changes-nothing   after 1 to 7 the data and the state are as given, and the count is 0
 --   error-changes-nothing     a run error leaves the data as its statement found it and the state at that statement, which isn't counted
 --   nothing-allowed, nothing-left   an allowance of 0 gives 30, or 0 where the state is already at N
@@ -52,7 +52,7 @@ module _ (κs : Lifetimes.Lfts 2) (a : _) (r : Outcome) (s : _) (post : run.Post
   refused-changes-nothing = refused-by-number unit bytes state allowance ran run-or-refused
 
   -- "A statement that ends in a run error has changed nothing."
-  pub error-changes-nothing : 20 ≤ stopNumber (r .stop) → stopNumber (r .stop) ≤ 26 → Erred (decoded unit) allowance state bytes (stopNumber (r .stop)) ran
+  pub error-changes-nothing : 20 ≤ stopNumber (r .stop) → stopNumber (r .stop) ≤ 29 → Erred (decoded unit) allowance state bytes (stopNumber (r .stop)) ran
   error-changes-nothing = erred-by-number unit bytes state allowance ran run-or-refused
 
   -- "An allowance of 0 gives 30, or 0 where the state is already at N."

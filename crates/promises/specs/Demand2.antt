@@ -8,17 +8,17 @@
 --
 --   does-exactly        a call is permitted exactly when it is refused as demand 1 says, or passes all checks, as many statements as are counted, one
 --                       after the other, lead to its state and its data, and the run goes no further for the reason that its stop gives
---   given-exactly       each number, 0 to 7, 20 to 26 and 30, is given and its place named exactly when the table says so
+--   given-exactly       each number, 0 to 7, 20 to 29 and 30, is given and its place named exactly when the table says so
 --   kept-20, read-20, read-22, div-23, round-26, span-exactly, outside-21    of the run errors in an expression the cause of each, both ways
 --   call-opens, call-full, return-closes, return-none, stop-keeps-calls, others-keep-calls    what each statement does to the open calls
---   stores-next, jumps-keep-data    codes 1 to 6 and 13 go on at the next statement, and the others leave the data
+--   stores-next, jumps-keep-data    codes 1 to 6 and 13 go on at the next statement; those that neither write a place nor go on with a loop leave the data
 --   goto-goes, zero-goes, other-falls, computed-goes, computed-falls    where the jumps lead
 --   full-exactly, none-exactly    24 and 25 are given by a statement exactly when the table says so
 --   ends, spent, errs, goes    the rule of a run, one step of it: the end, the allowance spent, a run error, a completed statement
 --   counts-within       no more statements are completed than are allowed
 --   start-is-sound      the state before the first statement is sound for every unit, so a run from it is never refused 7
 --   state-stays-sound   a call hands back a sound state where it was given one
---   run-numbers         a call that passes all checks ends with 0, 20 to 26 or 30: a passed check never lets 4 arise in a run
+--   run-numbers         a call that passes all checks ends with 0, 20 to 29 or 30: a passed check never lets 4 arise in a run
 -- Assumes nothing.
 use Prim.Native.Nat.{ℕ, zero, suc, _+_, _≤_, _<_}
 use mathlib.Core.Path.{_≡_, sym, subst}
@@ -37,8 +37,8 @@ use Rattle.rules.proofs.Causes as causes
 use Rattle.rules_unit.specs.declared.Field.{Field}
 use Rattle.rules_unit.specs.declared.Form.{Form}
 use Rattle.rules_unit.specs.Codes.{Code}
-use Rattle.rules_unit.specs.Decode.{partsOf}
-use Rattle.rules_unit.specs.Table.{WritesA}
+use Rattle.rules_unit.specs.Decode.{partsOf, decoded}
+use Rattle.rules_unit.specs.Table.{WritesA, Repeats}
 use Rattle.rules_unit.specs.Sound.{SoundUnit}
 use Rattle.rules_unit.proofs.Sound.{sound-passed}
 use Rattle.rules_run.specs.declared.State.{State}
@@ -93,14 +93,14 @@ module _ (κs : Lifetimes.Lfts 2) (a : _) (r : Outcome) (s : _) (post : run.Post
   pub counts-within : r .count ≤ allowance
   counts-within = subst (λ (y : Ran). y .outcome .count ≤ allowance) (sym post) (answers.call-counts unit bytes state allowance)
 
-  pub state-stays-sound : SoundUnit unit (partsOf unit) → Sound (partsOf unit .n) state → Sound (partsOf unit .n) (r .state)
+  pub state-stays-sound : SoundUnit unit (partsOf unit) → Sound (decoded unit) state → Sound (decoded unit) (r .state)
   state-stays-sound x t =
-      subst (λ (y : Ran). Sound (partsOf unit .n) (y .outcome .state)) (sym post) (call-sound unit (partsOf unit) (sound-passed unit (partsOf unit) x) bytes state allowance t)
+      subst (λ (y : Ran). Sound (decoded unit) (y .outcome .state)) (sym post) (call-sound unit (partsOf unit) (sound-passed unit (partsOf unit) x) bytes state allowance t)
 
   pub run-numbers : Ready unit bytes state → RunNumber (stopNumber (r .stop))
   run-numbers y = subst (λ (x : Ran). RunNumber (stopNumber (x .outcome .stop))) (sym post) (answers.ready-number unit bytes state allowance y)
 
-pub start-is-sound : (n : ℕ) → Sound n started
+pub start-is-sound : (c : Code) → Sound c started
 start-is-sound = started-sound
 
 -- ---- why a number is not to be had
@@ -136,7 +136,7 @@ outside-21 = located.outside-exactly
 module _ (c : Code) (s : State) (d : List ℕ) where
   -- "9 CALL c"; "A CALL at i stores i+1"
   pub call-opens : c .statement (s .at) .code ≡ 9 → s .depth < 50
-      → nextOf c s d ≡ to (record { at = c .statement (s .at) .c; depth = s .depth + 1; returns = set (s .returns) (s .depth) (s .at + 1) })
+      → nextOf c s d ≡ to (record { at = c .statement (s .at) .c; depth = s .depth + 1; returns = set (s .returns) (s .depth) (s .at + 1); opened = s .opened; loops = s .loops })
   call-opens = calls.call-opens c s d
 
   -- "24 | CALL with 50 calls open"
@@ -148,7 +148,7 @@ module _ (c : Code) (s : State) (d : List ℕ) where
 
   -- "10 RETURN"; "a RETURN goes on there and its entry becomes zero"
   pub return-closes : c .statement (s .at) .code ≡ 10 → (k : ℕ) → s .depth ≡ k + 1
-      → nextOf c s d ≡ to (record { at = getD (s .returns) k 0; depth = k; returns = set (s .returns) k 0 })
+      → nextOf c s d ≡ to (record { at = getD (s .returns) k 0; depth = k; returns = set (s .returns) k 0; opened = s .opened; loops = s .loops })
   return-closes = calls.return-closes c s d
 
   -- "25 | RETURN with none open"
@@ -158,8 +158,9 @@ module _ (c : Code) (s : State) (d : List ℕ) where
   pub none-exactly : (nextOf c s d ≡ stuck fault.NoCall) ↔ (c .statement (s .at) .code ≡ 10) × (s .depth ≡ 0)
   none-exactly = calls.none-exactly c s d
 
-  -- "11 STOP"; "STOP sets the statement number to N and keeps the open calls."
-  pub stop-keeps-calls : c .statement (s .at) .code ≡ 11 → nextOf c s d ≡ to (record { at = c .statements; depth = s .depth; returns = s .returns })
+  -- "11 STOP"; "STOP sets the statement number to N and keeps the open calls.", and the open loops
+  pub stop-keeps-calls : c .statement (s .at) .code ≡ 11
+      → nextOf c s d ≡ to (record { at = c .statements; depth = s .depth; returns = s .returns; opened = s .opened; loops = s .loops })
   stop-keeps-calls = calls.stop-keeps c s d
 
   pub others-keep-calls : (c .statement (s .at) .code ≡ 9 → ⊥) → (c .statement (s .at) .code ≡ 10 → ⊥) → (t : State) → nextOf c s d ≡ to t
@@ -169,10 +170,10 @@ module _ (c : Code) (s : State) (d : List ℕ) where
 -- ---- stores and jumps
 
 module _ (c : Code) (s : State) (d : List ℕ) where
-  pub stores-next : WritesA (c .statement (s .at) .code) → (t : State) → nextOf c s d ≡ to t → t ≡ gone s (s .at + 1)
+  pub stores-next : WritesA (c .statement (s .at) .code) → (c .statement (s .at) .code ≡ 14 → ⊥) → (t : State) → nextOf c s d ≡ to t → t ≡ gone s (s .at + 1)
   stores-next = jumps.stores-next c s d
 
-  pub jumps-keep-data : (WritesA (c .statement (s .at) .code) → ⊥) → dataAfter c s d ≡ d
+  pub jumps-keep-data : (WritesA (c .statement (s .at) .code) → ⊥) → (Repeats (c .statement (s .at) .code) → ⊥) → dataAfter c s d ≡ d
   jumps-keep-data = jumps.jumps-keep-data c s d
 
   -- "7 GOTO c"

@@ -11,7 +11,7 @@
 --   yes-exactly, no-exactly, refused-exactly    each answer of the fence check is given exactly when what it says is so
 --   no-breach-exactly, breach-of-no             a statement has no breach exactly when it keeps the rules; that of a no has one
 --   breach-exactly                              a breach is named exactly when that rule is the one that the statement breaks first
---   destination-exactly                         a byte lies in a destination exactly when the place a of a statement of code 1 to 6, or 13, names it
+--   destination-exactly                         a byte lies in a destination exactly when the place a of a statement of code 1 to 6, 13 or 14 names it
 --   cannot-slip                                 what holds of every run of a unit with a yes, and its five parts in the letter's words
 --   says-exactly, names-exactly, keeps-exactly, run-cannot-slip   the same of the contracts themselves: of whatever `dibol::fence`, `dibol::breach` and `dibol::run` are
 --                                               permitted to answer and leave
@@ -80,7 +80,7 @@ module _ (u : List ℕ) where
       → (breachIn u i ≡ b) ↔ StatementBreaks (decoded u) (decoded u .statement i) b
   breach-exactly t i h b z = rw (breach-in u (partsOf u) i (sound-passed u (partsOf u) t) h) (reason-exactly (decoded u) (t .code) i h b z)
 
--- "A destination is the span named by place a of codes 1 to 6", and of 13.
+-- "A destination is the span named by place a of codes 1 to 6", and of 13 and 14.
 pub destination-exactly : (c : Code) (b : ℕ) → Destination c b ↔ InPlaceA c b
 destination-exactly = aims.destination-exactly
 
@@ -88,7 +88,7 @@ destination-exactly = aims.destination-exactly
 
 -- "Take a unit with a yes, a data buffer of its size whose decimal elements are all valid, a sound resume state and any allowance of statements."
 module _ (u : List ℕ) (yes : fenceOf u ≡ Yes) (d : List ℕ) (size : length d ≡ partsOf u .d) (valid : AllValid (decoded u) d) (s : State)
-    (sound : Sound (partsOf u .n) s) (m : ℕ) where
+    (sound : Sound (decoded u) s) (m : ℕ) where
   -- "However that run stops"
   pub cannot-slip : Safe (decoded u) d (runOf u d s m)
   cannot-slip = call-safe u yes d size valid s sound m
@@ -139,6 +139,6 @@ pub run-cannot-slip : (κs : Lifetimes.Lfts 2) (a : _) (r : Outcome) (s : _) →
     → fenceOf (now (a .0)) ≡ Yes
     → length (now (a .1 .0)) ≡ partsOf (now (a .0)) .d
     → AllValid (decoded (now (a .0))) (now (a .1 .0))
-    → Sound (partsOf (now (a .0)) .n) (a .1 .1 .0)
+    → Sound (decoded (now (a .0))) (a .1 .1 .0)
     → Safe (decoded (now (a .0))) (now (a .1 .0)) (record { outcome = r; bytes = now (s .1 .0) })
 run-cannot-slip κs a r s p fenced size valid sound = rw p (cannot-slip (now (a .0)) fenced (now (a .1 .0)) size valid (a .1 .1 .0) sound (a .1 .1 .1 .0))

@@ -2,15 +2,16 @@
 -- character or item changed gets a yes. Rules 3, 5 and 6 stand in Slips.
 --
 --   fences             what the check says; the units are in Samples
---   reads-alone, writes-there    of what a statement reads no byte is a destination, and what it writes is one
+--   reads-alone, writes-there, control-there    of what a statement reads no byte is a destination, and what it writes is one
 -- Assumes nothing.
 use native.Mathlib.Omega.{arith}
 use mathlib.Core.Path.{_≡_, refl, sym, subst}
+use mathlib.Core.List.{List, [], _∷_, _++_}
 use Prim.Native.Nat.{ℕ, zero, suc, _<_, _≤_}
 use Rattle.rules_unit.specs.Decode.{markOf, partsOf, kindOf, fieldAt, referenceAt, numberAt, textAt, itemBy, itemAt, itemsIn, itemsAt, statementAt}
 use Rattle.rules_unit.specs.Table.{verbOf}
-use Rattle.rules_unit.specs.Expressions.{digitsb, numberb, textb, sortFrom, sortAt, usesb}
-use Rattle.rules_unit.specs.Checks.{filledb, rangesb, entryb, goodFields, rowb, shapeb, foundOf, statementsFrom, partsCheck, checkOf}
+use Rattle.rules_unit.specs.Expressions.{digitsb, numberb, textb, sortFrom, sortAt, extentOf, usesb}
+use Rattle.rules_unit.specs.Checks.{filledb, rangesb, entryb, goodFields, endb, rowb, shapeb, foundOf, statementsFrom, partsCheck, checkOf}
 use Rattle.rules_run.specs.Spans.{within, subscriptSpan, startEndSpan, posLengthSpan, spanOf}
 use Rattle.rules_run.specs.Evaluation.{digitsFrom, literalNumber}
 use Rattle.rules_fence.specs.declared.Verdict.the-variants.{Yes, No}
@@ -21,7 +22,17 @@ use Rattle.rules_unit.specs.Decode.{decoded}
 use Rattle.rules_fence.specs.Destinations.{PlaceNames, Covers, Destination}
 use Rattle.rules_fence.proofs.PlaceSpans.{spanFrom, placeSpan, names-span}
 use Rattle.rules_fence.proofs.Aims.{destination-exactly, aim-destination}
-use Rattle.promises.specs.Samples.{smear, chosen, named, cleared, read, copied, backward}
+use Rattle.promises.specs.Samples.{smear, chosen, named, cleared, read, copied, backward, figure, I, P, numbers, forAt}
+
+-- Of FOR I, where I is D2: I(1,1); I(P), whose bound is no literal; I(0,1), whose bounds give 21.
+abbrev part : List ℕ
+part = figure 1 ++ (figure 1 ++ (4 ∷ 0 ∷ 0 ∷ []))
+
+abbrev chosen-bound : List ℕ
+chosen-bound = P ++ (3 ∷ 0 ∷ 0 ∷ [])
+
+abbrev wrong-bounds : List ℕ
+wrong-bounds = figure 0 ++ (figure 1 ++ (4 ∷ 0 ∷ 0 ∷ []))
 
 pub record Fences : Type 0 where
   -- "Each bound of 03, 04 and 05 is a number literal"
@@ -40,9 +51,22 @@ pub record Fences : Type 0 where
   -- An alpha source may share bytes with a decimal field; an alpha span may go over elements; a bound may be negated.
   pub record-read : fenceOf copied ≡ Yes
   pub back-over : fenceOf backward ≡ Yes
+  -- "The control place is a destination in demand 3 and in the fence.": it ends at its element's last character
+  pub loop-fenced : fenceOf (forAt (numbers (figure 1) (figure 9) (figure 2)) I) ≡ Yes
+  pub control-inside : fenceOf (forAt (numbers (figure 1) (figure 9) (figure 2)) part) ≡ No 0
+  pub control-inside-rule : breachNumber (breachIn (forAt (numbers (figure 1) (figure 9) (figure 2)) part) 0) ≡ 5
+  pub limit-inside : fenceOf (forAt (numbers (figure 1) part (figure 2)) I) ≡ Yes
+  -- Start, limit and step are read in that order, after the place: of two breaches the first is named.
+  pub start-breaks : breachNumber (breachIn (forAt (numbers chosen-bound (figure 9) (figure 2)) I) 0) ≡ 1
+  pub limit-breaks : breachNumber (breachIn (forAt (numbers (figure 1) chosen-bound (figure 2)) I) 0) ≡ 1
+  pub step-breaks : breachNumber (breachIn (forAt (numbers (figure 1) (figure 9) chosen-bound) I) 0) ≡ 1
+  pub place-first : breachNumber (breachIn (forAt (numbers wrong-bounds (figure 9) (figure 2)) part) 0) ≡ 5
+  pub start-next : breachNumber (breachIn (forAt (numbers wrong-bounds chosen-bound (figure 2)) I) 0) ≡ 2
+  pub limit-next : breachNumber (breachIn (forAt (numbers (figure 1) wrong-bounds chosen-bound) I) 0) ≡ 2
+  pub step-last : breachNumber (breachIn (forAt (numbers (figure 1) chosen-bound wrong-bounds) I) 0) ≡ 1
 
 pub fences : Fences
-unfolding markOf partsOf kindOf fieldAt referenceAt numberAt textAt itemBy itemAt itemsIn itemsAt verbOf statementAt digitsb numberb textb sortFrom sortAt usesb filledb rangesb entryb goodFields rowb shapeb foundOf statementsFrom partsCheck checkOf within subscriptSpan startEndSpan posLengthSpan spanOf digitsFrom literalNumber fixedSpan elementBreach apartFrom alphaBreach referenceBreach breachFrom usesBreach breachOf verdictFrom fenceOf breachIn
+unfolding markOf partsOf kindOf fieldAt referenceAt numberAt textAt itemBy itemAt itemsIn itemsAt verbOf statementAt digitsb numberb textb sortFrom sortAt extentOf usesb filledb rangesb entryb goodFields endb rowb shapeb foundOf statementsFrom partsCheck checkOf within subscriptSpan startEndSpan posLengthSpan spanOf digitsFrom literalNumber fixedSpan elementBreach apartFrom alphaBreach referenceBreach breachFrom usesBreach breachOf verdictFrom fenceOf breachIn
 fences =
     record {
       bound-chosen = refl;
@@ -57,6 +81,17 @@ fences =
       a-part = refl;
       record-read = refl;
       back-over = refl;
+      loop-fenced = refl;
+      control-inside = refl;
+      control-inside-rule = refl;
+      limit-inside = refl;
+      start-breaks = refl;
+      limit-breaks = refl;
+      step-breaks = refl;
+      place-first = refl;
+      start-next = refl;
+      limit-next = refl;
+      step-last = refl;
     }
 
 -- ---- destinations: in `smear`, AM(2,6) from AM(1,5), byte 0 is only read and byte 1 is written
@@ -72,3 +107,8 @@ reads-alone d = let a = destination-exactly (decoded smear) 0 .0 d in none (a .s
 pub writes-there : Destination (decoded smear) 1
 unfolding markOf partsOf kindOf fieldAt referenceAt numberAt itemBy itemAt itemsIn itemsAt statementAt verbOf digitsb numberb within startEndSpan spanOf digitsFrom literalNumber fixedSpan spanFrom placeSpan
 writes-there = aim-destination (decoded smear) 0 (omega arith) 1 (omega arith, omega arith)
+
+-- Of FOR I the bytes of I are written.
+pub control-there : Destination (decoded (forAt (numbers (figure 1) (figure 9) (figure 2)) I)) 1
+unfolding markOf partsOf kindOf fieldAt referenceAt numberAt itemBy itemAt itemsIn itemsAt statementAt verbOf digitsb numberb within spanOf digitsFrom literalNumber fixedSpan spanFrom placeSpan
+control-there = aim-destination (decoded (forAt (numbers (figure 1) (figure 9) (figure 2)) I)) 0 (omega arith) 1 (omega arith, omega arith)

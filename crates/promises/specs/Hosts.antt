@@ -10,37 +10,42 @@
 --   refused-by-the-check     1 to 5: nothing is changed
 --   refused-for-its-size     6: nothing is changed
 --   refused-for-its-state    7, after 1 to 6: nothing is changed, where the state is unsound
---   refused-for-its-numbers  .. and where the numbers are no state's: there are not 52, or one is over 65,535
+--   refused-for-its-numbers  .. and where the numbers are no state's: there are not 101, or one is outside its range
 --   read-after-write         the numbers of a state are read as that state
+--   first-is-the-place, then-the-calls, then-the-returns, then-the-loops    which number of a state stands where
+--   slot-entry, slot-limit, slot-step    .. of an open loop
+--   not-below-zero, below-zero    how a limit or a step is held
 --   left-with-the-next       after any other stop the numbers are those of the next state
 --   goes-on-from-there       so that a further call goes on from that state
---   begins-at-zeros          52 zeros are the state before the first statement
+--   begins-at-zeros          101 zeros are the state before the first statement
 --   goes-on-as-one           a run that is paused and gone on with comes to what one run comes to
 --   words-fit                63 bytes have room for the words of every stop
 -- Assumes nothing.
-use Prim.Native.Nat.{ℕ, _+_, _≤_}
-use mathlib.Core.Path.{_≡_, sym, subst}
+use Prim.Native.Nat.{ℕ, suc, _+_, _*_, _^_, _<_, _≤_}
+use mathlib.Core.Path.{_≡_, refl, sym, subst}
 use mathlib.Core.Logic.{_↔_}
 use mathlib.Core.Bool.{false}
 use mathlib.Core.List.{List}
-use lib.ListN.{length, replicate}
+use lib.IntN.{pos, negsuc}
+use lib.ListN.{length, getD, replicate}
 use denote.Ref.{now}
 use contract.Lifetimes
 use Rattle.rules_unit.specs.declared.Parts.{Parts}
 use Rattle.rules_unit.specs.declared.Refusal.{Refusal}
 use Rattle.rules_unit.specs.declared.Checked.the-variants as checked
-use Rattle.rules_unit.specs.Decode.{decoded}
+use Rattle.rules_unit.specs.Decode.{decoded, codeOf}
 use Rattle.rules_unit.specs.Checks.{refusalNumber, refusalPlace, checkOf}
 use Rattle.rules_run.specs.declared.State.{State}
-use Rattle.rules_run.specs.States.{Sound, started}
+use Rattle.rules_run.specs.States.{noLoop, Sound, started}
 use Rattle.rules_run.specs.declared.Stop.the-variants as stop
 use Rattle.rules_run.specs.Runs.{counting, runOf}
 use Rattle.rules_run.specs.Answers.{Erred, StopNo, noOf, Given}
 use Rattle.rules_run.proofs.Resumed.{call-resumed}
 use Rattle.rules_host.specs.Words as words
 use Rattle.rules_host.proofs.Short.{words-short}
-use Rattle.rules_host.specs.Numbers.{numbersOf, Fits, stateb, stateOf}
+use Rattle.rules_host.specs.Numbers.{word, numberAt, numbersOf, Fits, stateb, stateOf}
 use Rattle.rules_host.specs.Calls.{Handed, refusedb, handedOf, untouched, HostReads}
+use Rattle.rules_host.proofs.Listed as listed
 use Rattle.rules_host.proofs.Resume as resume
 use Rattle.dibol_c.proofs.dibol_run.Reads as c-run
 
@@ -72,7 +77,7 @@ module _ (κs : Lifetimes.Lfts 4) (a : _) (r : ℕ) (s : _) (post : c-run.Post �
   pub c-refused-changes-nothing : 1 ≤ r → r ≤ 7 → (now (s .1 .0) ≡ bytes) × (now (s .1 .1 .0) ≡ numbers)
   c-refused-changes-nothing = resume.host-kept unit bytes numbers allowance answer left reads-the-same
 
-  pub c-error-changes-nothing : 20 ≤ r → r ≤ 26 → Erred (decoded unit) allowance (stateOf numbers) bytes r (reads-the-same .ran)
+  pub c-error-changes-nothing : 20 ≤ r → r ≤ 29 → Erred (decoded unit) allowance (stateOf numbers) bytes r (reads-the-same .ran)
   c-error-changes-nothing = resume.host-erred unit bytes numbers allowance answer left reads-the-same
 
   -- The place is the one that `reads-the-same` finds in the answer.
@@ -88,7 +93,7 @@ module _ (u d w : List ℕ) (m : ℕ) (a : List ℕ) where
   pub refused-for-its-size : (p : Parts) → checkOf u ≡ checked.Passed p → (length d ≡ p .d → ⊥) → handedOf u d w m a ≡ untouched 6 0 d w a
   refused-for-its-size = resume.left-wrong-size u d w m a
 
-  pub refused-for-its-state : (p : Parts) → checkOf u ≡ checked.Passed p → length d ≡ p .d → (Sound (p .n) (stateOf w) → ⊥)
+  pub refused-for-its-state : (p : Parts) → checkOf u ≡ checked.Passed p → length d ≡ p .d → (Sound (codeOf u p) (stateOf w) → ⊥)
       → handedOf u d w m a ≡ untouched 7 0 d w a
   refused-for-its-state = resume.left-unsound u d w m a
 
@@ -98,7 +103,39 @@ module _ (u d w : List ℕ) (m : ℕ) (a : List ℕ) where
 -- ---- from one call to the next
 
 pub read-after-write : (s : State) → Fits s → stateOf (numbersOf s) ≡ s
-read-after-write = resume.read-written
+read-after-write = listed.read-written
+
+-- `numberAt s k` is the number k of the state s.
+module _ (s : State) where
+  pub first-is-the-place : numberAt s 0 ≡ s .at
+  first-is-the-place = listed.first-number s
+
+  pub then-the-calls : numberAt s 1 ≡ s .depth
+  then-the-calls = listed.calls-number s
+
+  pub then-the-returns : (i : ℕ) → i < 50 → numberAt s (i + 2) ≡ getD (s .returns) i 0
+  then-the-returns = listed.return-number s
+
+  pub then-the-loops : numberAt s 52 ≡ s .opened
+  then-the-loops = listed.loops-number s
+
+  module _ (k : ℕ) where
+    pub slot-entry : numberAt s (k * 3 + 53) ≡ getD (s .loops) k noLoop .entry
+    slot-entry = listed.entry-number s k
+
+    pub slot-limit : numberAt s (k * 3 + 54) ≡ word (getD (s .loops) k noLoop .limit)
+    slot-limit = listed.limit-number s k
+
+    pub slot-step : numberAt s (k * 3 + 55) ≡ word (getD (s .loops) k noLoop .step)
+    slot-step = listed.step-number s k
+
+-- A value that is not below 0 is held as itself.
+pub not-below-zero : (n : ℕ) → word (pos n) ≡ n
+not-below-zero n = refl
+
+-- A value below 0 is held as C holds it: it and the number make 2 to the 64th.
+pub below-zero : (n : ℕ) → n < 2 ^ 64 → word (negsuc n) + suc n ≡ 2 ^ 64
+below-zero = listed.word-below
 
 module _ (u d w : List ℕ) (m : ℕ) (a : List ℕ) where
   pub left-with-the-next : refusedb (handedOf u d w m a .stop) ≡ false → handedOf u d w m a .state ≡ numbersOf (runOf u d (stateOf w) m .outcome .state)
@@ -107,7 +144,7 @@ module _ (u d w : List ℕ) (m : ℕ) (a : List ℕ) where
   pub goes-on-from-there : refusedb (handedOf u d w m a .stop) ≡ false → stateOf (handedOf u d w m a .state) ≡ runOf u d (stateOf w) m .outcome .state
   goes-on-from-there = resume.goes-on u d w m a
 
-pub begins-at-zeros : stateOf (replicate 52 0) ≡ started
+pub begins-at-zeros : stateOf (replicate 101 0) ≡ started
 begins-at-zeros = resume.zeros-start
 
 -- ---- the words

@@ -7,12 +7,14 @@ pub mod Moves
 pub mod Refusals
 pub mod BenchValues
 pub mod Manual
+pub mod Passes
 pub mod Units
 pub mod Settled
 pub mod Hosts
 pub mod Demand1
 pub mod Demand2
 pub mod Demand3
+pub mod Loops
 pub mod Slips
 pub mod Fences
 pub mod Masks

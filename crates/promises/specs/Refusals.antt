@@ -7,6 +7,8 @@
 --   with-parts        the check of a unit of one statement, with its place and its source
 --   with-fields       the same with two
 --   refusals, fields, orders, expressions    the tables
+--   loops, numbers-of-loops    FOR and its loop end; the sorts of its four expressions
+--   end-outside       the loop end of a FOR at the end of the unit
 --   too-long, not-too-long, too-many, table-outside    lengths and tables of GOTOs, at their ends
 --   sixteen           sixteen values may be held, and seventeen not
 -- Assumes nothing.
@@ -26,10 +28,10 @@ use Rattle.rules_unit.specs.Sound.{Filled}
 use Rattle.rules_unit.proofs.Sound.{check-only}
 use Rattle.rules_unit.specs.Decode.{fullLength, markOf, partsOf, kindOf, fieldAt, referenceAt, numberAt, textAt, itemBy, itemAt, itemsIn, itemsAt, statementAt}
 use Rattle.rules_unit.specs.Table.{verbOf}
-use Rattle.rules_unit.specs.Expressions.{digitsb, numberb, textb, sortFrom, sortAt, usesb}
-use Rattle.rules_unit.specs.Checks.{filledb, rangesb, entryb, goodFields, gotosb, tableb, rowb, shapeb, foundOf, statementsFrom, partsCheck, checkOf}
-use Rattle.promises.specs.Rows.{number, refusal, Row, _is_, AllHold}
-use Rattle.promises.specs.Samples.{tour, seats, answered, changed, with-field, with-fields, entry, with-parts, of-set, A, N, X, last-of-all, sums}
+use Rattle.rules_unit.specs.Expressions.{digitsb, numberb, textb, sortFrom, sortAt, extentOf, usesb}
+use Rattle.rules_unit.specs.Checks.{filledb, rangesb, entryb, goodFields, gotosb, tableb, endb, rowb, shapeb, foundOf, statementsFrom, partsCheck, checkOf}
+use Rattle.promises.specs.Rows.{Answer, number, refusal, Row, _is_, AllHold}
+use Rattle.promises.specs.Samples.{tour, seats, answered, changed, with-field, with-fields, entry, with-parts, of-set, A, N, X, last-of-all, last-for, sums, figure, I, P, numbers, coded, plain, with-loop, with-alpha}
 
 abbrev pub refusals : List Row
 refusals =
@@ -64,6 +66,10 @@ refusals =
     -- "5 | statement code, zero part, count or target wrong | statement"
     ∷ changed 193 0 is refusal 5 10
     ∷ changed 193 27 is refusal 5 10
+    ∷ changed 193 14 is refusal 5 10
+    ∷ changed 193 15 is number (pos 10)
+    ∷ changed 193 16 is number (pos 10)
+    ∷ changed 193 17 is number (pos 10)
     ∷ changed 194 1 is refusal 5 10
     ∷ changed 196 1 is refusal 5 10
     ∷ changed 198 1 is refusal 5 10
@@ -89,7 +95,7 @@ refusals =
     ∷ []
 
 pub refusals-hold : AllHold refusals
-unfolding markOf partsOf kindOf fieldAt referenceAt numberAt textAt itemBy itemAt itemsIn itemsAt statementAt verbOf digitsb numberb textb sortFrom sortAt usesb filledb rangesb entryb goodFields gotosb tableb rowb shapeb foundOf statementsFrom partsCheck checkOf
+unfolding markOf partsOf kindOf fieldAt referenceAt numberAt textAt itemBy itemAt itemsIn itemsAt statementAt verbOf digitsb numberb textb sortFrom sortAt usesb filledb rangesb entryb goodFields gotosb tableb endb rowb shapeb foundOf statementsFrom partsCheck checkOf
 refusals-hold = refl
 
 -- ---- fields
@@ -157,6 +163,85 @@ pub expressions-hold : AllHold expressions
 unfolding markOf partsOf kindOf fieldAt referenceAt numberAt textAt itemBy itemAt itemsIn itemsAt statementAt verbOf digitsb numberb textb sortFrom sortAt usesb filledb rangesb entryb goodFields rowb shapeb foundOf statementsFrom partsCheck checkOf
 expressions-hold = refl
 
+-- ---- loops
+
+-- FOR I = 1 THRU 9 BY 2, whose loop end is the statement given.
+abbrev three : List ℕ
+three = numbers (figure 1) (figure 9) (figure 2)
+
+abbrev for : ℕ → List ℕ
+for end = coded 14 19 4 end
+
+-- A statement that is 15, 16 or 17 with a 1 in its byte k, inside a loop.
+abbrev odd : ℕ → ℕ → Answer
+odd code k = with-loop three I (for 2 ∷ set (plain code) k 1 ∷ plain 15 ∷ [])
+
+abbrev pub loops : List Row
+loops =
+    with-loop three I (for 1 ∷ plain 15 ∷ []) is number (pos 3)
+    -- the loop end stands behind its FOR, inside the unit
+    ∷ with-loop three I (plain 15 ∷ for 2 ∷ plain 15 ∷ []) is number (pos 3)
+    ∷ with-loop three I (plain 15 ∷ for 0 ∷ plain 15 ∷ []) is refusal 5 1
+    ∷ with-loop three I (for 0 ∷ plain 15 ∷ []) is refusal 5 0
+    ∷ with-loop three I (for 2 ∷ plain 15 ∷ []) is refusal 5 0
+    -- .. and is one
+    ∷ with-loop three I (for 1 ∷ plain 16 ∷ plain 15 ∷ []) is refusal 5 0
+    ∷ with-loop three I (for 1 ∷ plain 17 ∷ plain 15 ∷ []) is refusal 5 0
+    ∷ with-loop three I (for 1 ∷ for 2 ∷ plain 15 ∷ []) is refusal 5 0
+    -- two entries may name one end, and an end need not be named
+    ∷ with-loop three I (for 2 ∷ for 2 ∷ plain 15 ∷ plain 15 ∷ []) is number (pos 3)
+    -- "Unused parts are zero."
+    ∷ with-loop three I (set (for 1) 1 1 ∷ plain 15 ∷ []) is refusal 5 0
+    ∷ with-loop three I (for 1 ∷ set (plain 15) 7 1 ∷ []) is refusal 5 1
+    ∷ odd 15 1 is refusal 5 1
+    ∷ odd 15 3 is refusal 5 1
+    ∷ odd 15 5 is refusal 5 1
+    ∷ odd 15 7 is refusal 5 1
+    ∷ odd 16 1 is refusal 5 1
+    ∷ odd 16 3 is refusal 5 1
+    ∷ odd 16 5 is refusal 5 1
+    ∷ odd 16 7 is refusal 5 1
+    ∷ odd 17 1 is refusal 5 1
+    ∷ odd 17 3 is refusal 5 1
+    ∷ odd 17 5 is refusal 5 1
+    ∷ odd 17 7 is refusal 5 1
+    -- "5 before a's 4"
+    ∷ with-loop three (figure 1) (for 0 ∷ plain 15 ∷ []) is refusal 5 0
+    ∷ []
+
+pub loops-hold : AllHold loops
+unfolding markOf partsOf kindOf fieldAt referenceAt numberAt itemBy itemAt itemsIn itemsAt statementAt verbOf digitsb numberb sortFrom sortAt extentOf usesb filledb rangesb entryb goodFields endb rowb shapeb foundOf statementsFrom partsCheck checkOf
+loops-hold = refl
+
+-- Behind the last statement stands a byte that would be a loop end's.
+pub end-outside : last-for ≡ refusal 5 0
+unfolding markOf partsOf kindOf fieldAt referenceAt itemBy itemAt itemsIn itemsAt statementAt verbOf digitsb numberb sortFrom sortAt extentOf usesb filledb rangesb entryb goodFields endb rowb shapeb foundOf statementsFrom partsCheck checkOf
+end-outside = refl
+
+-- "The control place is a decimal place; start, limit and step are numbers; another sort is 4."
+abbrev pub numbers-of-loops : List Row
+numbers-of-loops =
+    with-alpha three I is number (pos 3)
+    ∷ with-alpha three P is refusal 4 0
+    ∷ with-alpha three (figure 1) is refusal 4 0
+    ∷ with-alpha (numbers P (figure 9) (figure 2)) I is refusal 4 0
+    ∷ with-alpha (numbers (figure 1) P (figure 2)) I is refusal 4 0
+    ∷ with-alpha (numbers (figure 1) (figure 9) P) I is refusal 4 0
+    ∷ with-alpha (numbers (6 ∷ 0 ∷ 0 ∷ 0 ∷ 1 ∷ []) (figure 9) (figure 2)) I is refusal 4 0
+    ∷ with-alpha (numbers (figure 1) (6 ∷ 0 ∷ 0 ∷ 0 ∷ 1 ∷ []) (figure 2)) I is refusal 4 0
+    ∷ with-alpha (numbers (figure 1) (figure 9) (6 ∷ 0 ∷ 0 ∷ 0 ∷ 1 ∷ [])) I is refusal 4 0
+    -- a decimal field is a number
+    ∷ with-alpha (numbers I I I) I is number (pos 3)
+    -- "badly formed": two values are left, none is left, there is no such item
+    ∷ with-alpha (numbers (figure 1 ++ figure 1) (figure 9) (figure 2)) I is refusal 4 0
+    ∷ with-alpha (numbers (figure 1) [] (figure 2)) I is refusal 4 0
+    ∷ with-alpha (numbers (figure 1) (figure 9) (0x20 ∷ [])) I is refusal 4 0
+    ∷ []
+
+pub numbers-of-loops-hold : AllHold numbers-of-loops
+unfolding markOf partsOf kindOf fieldAt referenceAt numberAt textAt itemBy itemAt itemsIn itemsAt statementAt verbOf digitsb numberb textb sortFrom sortAt extentOf usesb filledb rangesb entryb goodFields endb rowb shapeb foundOf statementsFrom partsCheck checkOf
+numbers-of-loops-hold = refl
+
 -- ---- lengths and tables
 
 -- "over 57,353"
@@ -174,7 +259,7 @@ too-many c i n h = rw (le-leb 1 n (omega (arith, h)), lt-leb n 255 (omega (arith
 
 -- "needs n GOTO statements right after it inside the unit"
 pub table-outside : last-of-all ≡ refusal 5 0
-unfolding markOf partsOf numberAt itemBy itemAt itemsIn itemsAt statementAt verbOf digitsb numberb sortFrom sortAt usesb filledb rangesb entryb goodFields gotosb tableb rowb shapeb foundOf statementsFrom partsCheck checkOf
+unfolding markOf partsOf numberAt itemBy itemAt itemsIn itemsAt statementAt verbOf digitsb numberb sortFrom sortAt usesb filledb rangesb entryb goodFields gotosb tableb endb rowb shapeb foundOf statementsFrom partsCheck checkOf
 table-outside = refl
 
 -- ---- "At most 16 values are held at once"

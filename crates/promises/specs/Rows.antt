@@ -1,6 +1,6 @@
 -- How a table of examples is written: what the rules answer, beside what a paper says.
 --
---   Answer, Row, _is_, AllHold    a number, a text or a stop's number; a row; every row of a table holds
+--   Answer, Row, _is_, AllHold    a number, a text, a stop's number or what a run ends with; a row; every row of a table holds
 --   answer, into                  what a rule answers, and what a decimal then holds
 --   unitOver, accessed            a unit with given fields, and what an expression over given data comes to
 --   unit, image                   the Data Division of the papers' examples: AM, NZ and NUM
@@ -39,6 +39,8 @@ pub data Answer : Type 0 where
   text : List ℕ → Answer
   refusal : ℕ → ℕ → Answer
   stop : ℕ → Answer
+  -- the stop, the place, the statements completed, the loops still open, and the data
+  run : ℕ → ℕ → ℕ → ℕ → List ℕ → Answer
 
 pub record Row : Type 0 where
   pub rules : Answer
@@ -95,7 +97,7 @@ into n (Value z) = text (written sign n z)
 into n (Failed f) = stop (faultNumber f)
 
 -- The numbers 0 to 30, as literals of two digits.
-abbrev figures : List ℕ
+abbrev pub figures : List ℕ
 figures = bytes "00010203040506070809101112131415161718192021222324252627282930"
 
 abbrev num : ℕ → Item
@@ -186,3 +188,5 @@ after a n t = goneOn (t .flow)
     goneOn (flow.Call i) = stop 0
     goneOn flow.Return = stop 0
     goneOn flow.Stop = stop 0
+    goneOn (flow.Enter limit step) = stop 0
+    goneOn (flow.Leave i) = stop 0

@@ -1,10 +1,11 @@
--- The units of the examples, in their bytes, and how an example is asked: what the tables of Slips, Fences, Tour, Refusals, Corners, Moves and Blanks are made of.
+-- The units of the examples, in their bytes, and how an example is asked: what the tables of Slips, Fences, Tour, Refusals, Corners, Moves, Blanks and Passes are made of.
 -- Assumes nothing.
-use mathlib.Core.Bool.{Bool}
+use mathlib.Core.Bool.{Bool, cond, _||_}
 use mathlib.Core.List.{List, [], _∷_, _++_}
-use Prim.Native.Nat.{ℕ, zero, suc, _*_}
+use Prim.Native.Nat.{ℕ, zero, suc, _+_, _-_, _*_}
 use Prim.Native.String as string
-use lib.IntN.{pos}
+use lib.IntN.{ℤ, pos}
+use lib.Dec.{eqb}
 use lib.ListN.{length, set, take, replicate}
 use Rattle.rules.specs.Stops.{faultNumber}
 use Rattle.rules_unit.specs.declared.Kind.the-variants as kind
@@ -25,11 +26,12 @@ use Rattle.rules_unit.specs.Checks.{refusalNumber, refusalPlace, checkOf}
 use Rattle.rules_run.specs.declared.Flow.{Flow}
 use Rattle.rules_run.specs.declared.Flow.the-variants as flow
 use Rattle.rules_run.specs.declared.Turn.{Turn}
-use Rattle.rules_run.specs.States.{soundb, started}
+use Rattle.rules_run.specs.declared.Loop.{Loop}
+use Rattle.rules_run.specs.States.{noLoop, soundb, started, lookOf}
 use Rattle.rules_run.specs.Stops.{stopNumber}
 use Rattle.rules_run.specs.Turns.{applied, turnBy}
-use Rattle.rules_run.specs.Runs.{runOf}
-use Rattle.promises.specs.Rows.{Answer, number, text, refusal, stop, dialect, bytes, alone, unitOver, accessed, unit}
+use Rattle.rules_run.specs.Runs.{Ran, runOf}
+use Rattle.promises.specs.Rows.{Answer, number, text, refusal, stop, run, dialect, bytes, figures, alone, unitOver, accessed, unit}
 
 -- ---- the slips
 
@@ -224,6 +226,16 @@ last-of-all =
     (replicate 1792 48
     ++ ((1 ∷ 0 ∷ 0 ∷ 1 ∷ 0 ∷ 49 ∷ []) ++ ((12 ∷ 0 ∷ 0 ∷ 1 ∷ 0 ∷ 0 ∷ 0 ∷ 0 ∷ []) ++ (7 ∷ 0 ∷ 0 ∷ 0 ∷ 0 ∷ 5 ∷ 0 ∷ 1 ∷ 0 ∷ 1 ∷ 0x44 ∷ 0x42 ∷ [])))))
 
+-- A FOR as the last statement, whose loop end is the statement behind it: there stands a 15, the first byte of the trailer.
+abbrev pub last-for : Answer
+last-for =
+    answered
+    (checkOf
+    (replicate 3840 48
+    ++ ((1 ∷ 0 ∷ 0 ∷ 0 ∷ 0 ∷ 2 ∷ 0 ∷ 1 ∷ [])
+    ++ ((2 ∷ 0 ∷ 0 ∷ 0 ∷ 2 ∷ 0 ∷ 0 ∷ 0 ∷ 2 ∷ 0 ∷ 0 ∷ 0 ∷ 2 ∷ 0 ∷ 0 ∷ 0 ∷ [])
+    ++ ((14 ∷ 0 ∷ 0 ∷ 0 ∷ 0 ∷ 4 ∷ 0 ∷ 1 ∷ []) ++ (15 ∷ 0 ∷ 0 ∷ 1 ∷ 0 ∷ 16 ∷ 0 ∷ 0 ∷ 0 ∷ 1 ∷ 0x44 ∷ 0x42 ∷ []))))))
+
 -- As many numbers, and then as many sums.
 abbrev pub sums : ℕ → ℕ → Sort
 sums n k = sortFrom unit (replicate n (item.Number 0 2) ++ replicate k (item.Operator op.Add)) 0 sort.Number
@@ -244,9 +256,32 @@ of-two o x y = bare (itemsAt (1 ∷ 0 ∷ 2 * x ∷ 2 ∷ 1 ∷ 0 ∷ 2 * y ∷ 
 abbrev pub of-forty : List Item → Answer
 of-forty list = accessed (unitOver 40 1 (λ f. record { kind = kind.Decimal; zero = 0; offset = 0; size = 10; count = 1 }) (λ e. [])) (replicate 40 49) list
 
--- Of a unit of 9 statements: a state at the statement given, with the calls given, all to the number given, and zeros behind them.
+-- A unit of 9 statements, of which 3 is a FOR. What would be the statement 9 is one too, but lies behind the last.
+abbrev pub nine : Code
+nine = record {
+  dialect = dialect;
+  size = 1;
+  fields = 0;
+  field = λ f. record { kind = kind.Alpha; zero = 0; offset = 0; size = 1; count = 1 };
+  literals = [];
+  items = λ e. [];
+  statements = 9;
+  statement = λ i. record { code = cond (eqb i 3 || eqb i 9) 14 15; zero = 0; a = 0; b = 0; c = 0 };
+}
+
+-- Of that unit: a state at the statement given, with the calls given, all to the number given, and zeros behind them.
 abbrev pub sound : ℕ → ℕ → ℕ → ℕ → Bool
-sound at depth to zeros = soundb 9 (record { at = at; depth = depth; returns = replicate depth to ++ replicate zeros 0 })
+sound at depth to zeros =
+    soundb nine (record { at = at; depth = depth; returns = replicate depth to ++ replicate zeros 0; opened = 0; loops = replicate 16 noLoop })
+
+-- A state before its first statement, with as many loops open as are given, in the slots given and empty ones behind them.
+abbrev pub opens : ℕ → List Loop → ℕ → Bool
+opens opened slots empty =
+    soundb nine (record { at = 0; depth = 0; returns = replicate 50 0; opened = opened; loops = slots ++ replicate empty noLoop })
+
+-- A loop of the FOR at a statement, with its limit and its step.
+abbrev pub slot : ℕ → ℤ → ℤ → Loop
+slot entry limit step = record { entry = entry; limit = limit; step = step }
 
 abbrev pub parts : ℕ → ℕ → ℕ → ℕ → ℕ → Parts
 parts d f e p n = record { d = d; f = f; e = e; p = p; n = n; dialect = dialect }
@@ -278,17 +313,19 @@ leftBy c d t = gone (t .flow)
     gone (flow.Call i) = number (pos i)
     gone flow.Return = stop 0
     gone flow.Stop = stop 0
+    gone (flow.Enter limit step) = stop 0
+    gone (flow.Leave i) = number (pos i)
 
 -- A statement of the code given, with the place a and the source or number b.
 abbrev pub moved : ℕ → List Item → List Item → Answer
-moved code a b = leftBy c movedData (turnBy c 0 movedData (verbOf code) (c .statement 0))
+moved code a b = leftBy c movedData (turnBy c (lookOf started) 0 movedData (verbOf code) (c .statement 0))
   where
     c : Code
     c = unitOver 11 3 movedField (threeParts a b [])
 
 -- SET of the place a from the number n with the mask m.
 abbrev pub masked : List Item → List Item → List Item → Answer
-masked a n m = leftBy c movedData (turnBy c 0 movedData (verbOf 13) (record { code = 13; zero = 0; a = 0; b = 1; c = 2 }))
+masked a n m = leftBy c movedData (turnBy c (lookOf started) 0 movedData (verbOf 13) (record { code = 13; zero = 0; a = 0; b = 1; c = 2 }))
   where
     c : Code
     c = unitOver 11 3 movedField (threeParts a m n)
@@ -304,4 +341,76 @@ abbrev pub ofAmount : string.String → List Item → Answer
 ofAmount held list = accessed amount (bytes held) list
 
 abbrev pub counted : string.String → Answer
-counted held = leftBy amount (bytes held) (turnBy amount 0 (bytes held) (verbOf 3) (amount .statement 0))
+counted held = leftBy amount (bytes held) (turnBy amount (lookOf started) 0 (bytes held) (verbOf 3) (amount .statement 0))
+
+-- ---- loops
+
+-- The items of the number n, from 0 to 30, and of the number below 0; of the fields I and P.
+abbrev pub figure : ℕ → List ℕ
+figure n = 1 ∷ 0 ∷ 2 * n ∷ 2 ∷ []
+
+abbrev pub below : ℕ → List ℕ
+below n = figure n ++ (0x15 ∷ [])
+
+abbrev pub I : List ℕ
+I = 2 ∷ 0 ∷ 0 ∷ []
+
+abbrev pub P : List ℕ
+P = 2 ∷ 0 ∷ 1 ∷ []
+
+-- Start, limit and step in a row.
+abbrev pub numbers : List ℕ → List ℕ → List ℕ → List ℕ
+numbers start limit step = start ++ (0 ∷ limit ++ (0 ∷ step ++ (0 ∷ [])))
+
+abbrev pub coded : ℕ → ℕ → ℕ → ℕ → List ℕ
+coded code a b c = code ∷ 0 ∷ 0 ∷ a ∷ 0 ∷ b ∷ 0 ∷ c ∷ []
+
+-- A statement whose parts are zero: 3 INCR P, 11 STOP, 15 loop end, 16 EXITLOOP, 17 NEXTLOOP.
+abbrev pub plain : ℕ → List ℕ
+plain code = coded code 0 0 0
+
+abbrev joined : List (List ℕ) → List ℕ
+joined [] = []
+joined (s ∷ ss) = s ++ joined ss
+
+-- I is a decimal of all characters of the data but the last, and P, which is D1, is that one. Expressions at 0: P, at 4: the three numbers, and behind them the place.
+abbrev pub looping : string.String → List ℕ → List ℕ → List (List ℕ) → List ℕ
+looping held three place statements =
+    bytes held
+    ++ ((1 ∷ 0 ∷ 0 ∷ 0 ∷ 0 ∷ size ∷ 0 ∷ 1 ∷ 1 ∷ 0 ∷ 0 ∷ size ∷ 0 ∷ 1 ∷ 0 ∷ 1 ∷ [])
+    ++ (P ++ (0 ∷ three ++ (place ++ (0 ∷ figures ++ (joined statements ++ trailer))))))
+  where
+    size : ℕ
+    size = length (bytes held) - 1
+
+    trailer : List ℕ
+    trailer = 0 ∷ (size + 1) ∷ 0 ∷ 2 ∷ 0 ∷ (length three + length place + 5) ∷ 0 ∷ 62 ∷ 0 ∷ length statements ∷ 0x44 ∷ 0x42 ∷ []
+
+-- FOR at the place given, and its loop end.
+abbrev pub forAt : List ℕ → List ℕ → List ℕ
+forAt three place = looping "000" three place (coded 14 (length three + 4) 4 1 ∷ plain 15 ∷ [])
+
+-- The check of such a unit; and that of one with FOR and its loop end alone, where P is A1.
+abbrev pub with-loop : List ℕ → List ℕ → List (List ℕ) → Answer
+with-loop three place statements = answered (checkOf (looping "000" three place statements))
+
+abbrev pub with-alpha : List ℕ → List ℕ → Answer
+with-alpha three place = answered (checkOf (set (forAt three place) 11 0))
+
+-- What a run from the unit's image ends with, n being the length of the data.
+abbrev pub ranOf : ℕ → List ℕ → Ran
+ranOf n u = runOf u (take n u) started 100
+
+abbrev pub ends : Ran → Answer
+ends r = run (stopNumber (r .outcome .stop)) (r .outcome .place) (r .outcome .count) (r .outcome .state .opened) (r .bytes)
+
+-- A unit that begins with FOR I, whose loop end is the statement given, and goes on with the statements given.
+abbrev pub loopOf : string.String → List ℕ → ℕ → List (List ℕ) → List ℕ
+loopOf held three end body = looping held three I (coded 14 (length three + 4) 4 end ∷ body)
+
+abbrev pub looped : string.String → List ℕ → ℕ → List (List ℕ) → Answer
+looped held three end body = ends (ranOf (length (bytes held)) (loopOf held three end body))
+
+-- FOR I; INCR P; loop end.
+abbrev pub passes : string.String → List ℕ → Answer
+passes held three = looped held three 2 (plain 3 ∷ plain 15 ∷ [])
