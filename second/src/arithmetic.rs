@@ -85,11 +85,16 @@ fn round(v: i64, k: i64) -> Result<i64, Fault> {
 
 /// The result itself, or 20 if it has more than 18 digits.
 fn tested(result: i64) -> Result<i64, Fault> {
-    if (-GREATEST..=GREATEST).contains(&result) {
+    if is_value(result) {
         Ok(result)
     } else {
         Err(Fault::Digits)
     }
+}
+
+/// Whether a number is in the range of values.
+pub fn is_value(number: i64) -> bool {
+    (-GREATEST..=GREATEST).contains(&number)
 }
 
 #[cfg(test)]
@@ -112,6 +117,15 @@ mod tests {
         assert_eq!(two(0x11, -GREATEST, GREATEST), Err(Fault::Digits));
         assert_eq!(two(0x11, -GREATEST, -1), Ok(1 - GREATEST));
         assert_eq!(two(0x11, 3, 5), Ok(-2));
+    }
+
+    #[test]
+    fn both_sides_of_the_range_of_values() {
+        for (number, is_one) in [(0, true), (GREATEST, true), (GREATEST + 1, false)] {
+            assert_eq!(is_value(number), is_one);
+            assert_eq!(is_value(-number), is_one);
+        }
+        assert!(!is_value(i64::MAX) && !is_value(i64::MIN));
     }
 
     #[test]

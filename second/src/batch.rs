@@ -4,12 +4,11 @@ use crate::bench::bench;
 use crate::check::check;
 use crate::fence::{breach, fence, Fence};
 use crate::literal::literal_range;
-use crate::run::run;
-use crate::state::{State, CALLS_MOST};
+use crate::numbers::{run_numbers, STATE_LEN};
 use crate::stop::Refusal;
 use std::str::FromStr;
 
-/// How an empty row of bytes or of return numbers is written.
+/// How an empty row of bytes, or of numbers that are all zero, is written.
 const EMPTY: &str = "-";
 
 /// The answer to one line, or in words what is wrong with the line.
@@ -17,25 +16,21 @@ const EMPTY: &str = "-";
 /// | Line | Answer |
 /// |---|---|
 /// | `check UNIT` | `STOP PLACE`, or `0 0` for a unit that passes |
-/// | `run UNIT DATA AT DEPTH RETURNS ALLOWANCE` | `STOP PLACE COUNT AT DEPTH RETURNS DATA` |
+/// | `run UNIT DATA STATE ALLOWANCE` | `STOP PLACE COUNT STATE DATA` |
 /// | `bench UNIT` | what the bench program writes, in hex |
 /// | `literal UNIT I` | `OFFSET LENGTH` in the unit, or `empty` |
 /// | `fence UNIT` | `yes`, `no I`, or `refused STOP PLACE` |
 /// | `breach UNIT I` | the number of the rule that statement I breaks, or 0 |
 ///
-/// Bytes are in hex, return numbers are joined by commas and end with the last that is not zero,
-/// and `-` stands where there are none.
+/// Bytes are in hex, the numbers of a state are joined by commas and end with the last that is not
+/// zero, and `-` stands where there are none.
 pub fn answer(line: &str) -> Result<String, String> {
     let words: Vec<&str> = line.split_whitespace().collect();
     match words[..] {
         ["check", unit] => Ok(check_answer(&bytes(unit)?)),
-        ["run", unit, data, at, depth, returns, allowance] => {
-            let state = State {
-                at: number(at)?,
-                depth: number(depth)?,
-                returns: return_numbers(returns)?,
-            };
-            run_answer(&bytes(unit)?, bytes(data)?, state, number(allowance)?)
+        ["run", unit, data, state, allowance] => {
+            let (unit, data, state) = (bytes(unit)?, bytes(data)?, state_numbers(state)?);
+            Ok(run_answer(&unit, data, state, number(allowance)?))
         }
         ["bench", unit] => Ok(hex(&bench(&bytes(unit)?))),
         ["literal", unit, i] => Ok(literal_answer(&bytes(unit)?, number(i)?)),
@@ -58,19 +53,11 @@ fn check_answer(unit: &[u8]) -> String {
 fn run_answer(
     unit: &[u8],
     mut data: Vec<u8>,
-    state: State,
+    mut state: [u64; STATE_LEN],
     allowance: u64,
-) -> Result<String, String> {
-    let outcome = run(unit, &mut data, state, allowance);
-    let State { at, depth, returns } = outcome.state;
-    Ok(format!(
-        "{} {} {} {at} {depth} {} {}",
-        outcome.stop,
-        outcome.place,
-        outcome.count,
-        joined(&returns),
-        hex(&data)
-    ))
+) -> String {
+    let [stop, place, count] = run_numbers(unit, &mut data, &mut state, allowance);
+    format!("{stop} {place} {count} {} {}", joined(&state), hex(&data))
 }
 
 fn literal_answer(unit: &[u8], i: usize) -> String {
@@ -114,25 +101,25 @@ fn hex(bytes: &[u8]) -> String {
     bytes.iter().map(|byte| format!("{byte:02X}")).collect()
 }
 
-/// The return numbers that are written with commas; those left out are zero.
-fn return_numbers(text: &str) -> Result<[u16; CALLS_MOST], String> {
-    let mut returns = [0; CALLS_MOST];
+/// The numbers of a state that are written with commas; those left out are zero.
+fn state_numbers(text: &str) -> Result<[u64; STATE_LEN], String> {
+    let mut numbers = [0; STATE_LEN];
     if text != EMPTY {
-        let mut entries = returns.iter_mut();
+        let mut entries = numbers.iter_mut();
         for word in text.split(',') {
-            let entry = entries.next().ok_or("there are 50 return numbers")?;
+            let entry = entries.next().ok_or("a state has no more numbers")?;
             *entry = number(word)?;
         }
     }
-    Ok(returns)
+    Ok(numbers)
 }
 
-fn joined(returns: &[u16]) -> String {
-    let used = returns.iter().rposition(|&number| number != 0);
+fn joined(numbers: &[u64]) -> String {
+    let used = numbers.iter().rposition(|&number| number != 0);
     match used {
         None => EMPTY.to_string(),
         Some(last) => {
-            let words: Vec<String> = returns[..=last].iter().map(u16::to_string).collect();
+            let words: Vec<String> = numbers[..=last].iter().map(u64::to_string).collect();
             words.join(",")
         }
     }
@@ -163,13 +150,15 @@ mod tests {
             ("check UNIT", "0 0"),
             ("check -", "1 0"),
             ("check 000000000000000000004442", "2 0"),
-            ("run UNIT 3431 0 0 - 100000", "0 2 2 2 0 - 3432"),
-            ("run UNIT 3431 0 0 - 1", "30 1 1 1 0 - 3432"),
-            ("run UNIT 3431 2 2 1,2 1", "0 2 0 2 2 1,2 3431"),
-            ("run UNIT 3431 0 1 0,1 1", "7 0 0 0 1 0,1 3431"),
-            ("run UNIT 34 0 0 - 1", "6 0 0 0 0 - 34"),
-            ("run UNIT 3a31 0 0 - 1", "22 0 0 0 0 - 3A31"),
-            ("run - - 9 0 - 1", "1 0 0 9 0 - -"),
+            ("run UNIT 3431 - 100000", "0 2 2 2 3432"),
+            ("run UNIT 3431 - 1", "30 1 1 1 3432"),
+            ("run UNIT 3431 2,2,1,2 1", "0 2 0 2,2,1,2 3431"),
+            ("run UNIT 3431 0,1,0,1 1", "7 0 0 0,1,0,1 3431"),
+            ("run UNIT 3431 0,0,0 1", "30 1 1 1 3432"),
+            ("run UNIT 34 - 1", "6 0 0 - 34"),
+            ("run UNIT 3a31 - 1", "22 0 0 - 3A31"),
+            ("run UNIT 3431 65536 1", "7 0 0 65536 3431"),
+            ("run - - 9 1", "1 0 0 9 -"),
             ("bench UNIT", "30203220320A34320A"),
             ("bench -", "31203020300A"),
             ("literal UNIT 0", "empty"),
@@ -182,6 +171,14 @@ mod tests {
     }
 
     #[test]
+    fn a_state_has_101_numbers() {
+        let zeros = |count: usize| vec!["0"; count].join(",");
+        let line = |count| format!("run UNIT 3431 {} 1", zeros(count));
+        assert_eq!(answered(&line(101)).as_deref(), Ok("30 1 1 1 3432"));
+        assert!(answered(&line(102)).is_err());
+    }
+
+    #[test]
     fn other_lines_are_told() {
         for line in [
             "",
@@ -189,8 +186,10 @@ mod tests {
             "check 0",
             "check 0x",
             "check UNIT 1",
-            "run UNIT 3431 0 0 - -1",
-            "run UNIT 3431 0 0 65536 1",
+            "run UNIT 3431 - -1",
+            "run UNIT 3431 -1 1",
+            "run UNIT 3431 0 0 - 1",
+            "run UNIT 3431 18446744073709551616 1",
             "literal UNIT x",
         ] {
             assert!(answered(line).is_err(), "{line}");

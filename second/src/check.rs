@@ -1,7 +1,7 @@
 //! Checks 1 to 5, in their order.
 
 use crate::decimal::DIGITS_MOST;
-use crate::expression::{sort_at, Sort};
+use crate::expression::{sort_at, three_from, Sort};
 use crate::stop::Refusal;
 use crate::unit::{code, Field, Parts, Statement, ALPHA, DECIMAL, RECORD};
 use std::ops::RangeInclusive;
@@ -92,23 +92,28 @@ fn statement_fits(parts: &Parts, i: usize, statement: &Statement) -> bool {
         code::RETURN | code::STOP => a == 0 && b == 0 && c == 0,
         code::COMPUTED_GOTO => c == 0 && table_fits(parts, i, a),
         code::FORMAT => true,
+        code::FOR => i < c && is_code(parts, c, code::LOOP_END),
+        code::LOOP_END..=code::NEXTLOOP => a == 0 && b == 0 && c == 0,
         _ => false,
     };
     statement.zero == 0 && parts_fit
 }
 
-/// The computed GOTO at `i` has `n` GOTO statements right after it. Only their code is looked at
-/// here: the rest of each is judged when its own turn comes.
-fn table_fits(parts: &Parts, i: usize, n: usize) -> bool {
-    TABLE_RANGE.contains(&n)
-        && (i + 1..=i + n).all(|j| {
-            parts
-                .statement(j)
-                .is_some_and(|entry| entry.code == code::GOTO)
-        })
+/// Whether there is a statement `i` with this code. The rest of it is judged when its own turn
+/// comes.
+fn is_code(parts: &Parts, i: usize, code: u8) -> bool {
+    parts
+        .statement(i)
+        .is_some_and(|statement| statement.code == code)
 }
 
-/// Check 4: the expressions a, b and c of a statement that passes check 5.
+/// The computed GOTO at `i` has `n` GOTO statements right after it.
+fn table_fits(parts: &Parts, i: usize, n: usize) -> bool {
+    TABLE_RANGE.contains(&n) && (i + 1..=i + n).all(|j| is_code(parts, j, code::GOTO))
+}
+
+/// Check 4: the expressions a, b and c of a statement that passes check 5, those of a FOR's start,
+/// limit and step in a row at b.
 fn expressions_fit(parts: &Parts, statement: &Statement) -> bool {
     let fits = |offset, wanted: fn(Sort) -> bool| sort_at(parts, offset).is_some_and(wanted);
     let Statement { a, b, c, .. } = *statement;
@@ -122,6 +127,11 @@ fn expressions_fit(parts: &Parts, statement: &Statement) -> bool {
             fits(a, |sort| sort == Sort::AlphaPlace)
                 && fits(b, Sort::is_alpha_source)
                 && fits(c, Sort::is_number)
+        }
+        code::FOR => {
+            fits(a, |sort| sort == Sort::DecimalPlace)
+                && three_from(parts.expressions, b)
+                    .is_some_and(|numbers| numbers.iter().all(|&b| fits(b, Sort::is_number)))
         }
         _ => true,
     }
@@ -282,6 +292,9 @@ mod tests {
             ((11, 0, 0, 0), [false, false, false]),
             ((12, 1, 8, 0), [true, true, false]),
             ((13, 4, 4, 8), [true, true, true]),
+            ((15, 0, 0, 0), [false, false, false]),
+            ((16, 0, 0, 0), [false, false, false]),
+            ((17, 0, 0, 0), [false, false, false]),
         ] {
             let goto = (7, 0, 0, 0);
             assert_eq!(answer_to(&[statement, goto]), PASSED, "{statement:?}");
@@ -297,7 +310,7 @@ mod tests {
 
     #[test]
     fn codes_and_targets() {
-        for code in (0..=255).filter(|code| !(1..=13).contains(code)) {
+        for code in (0..=255).filter(|code| !(1..=17).contains(code)) {
             assert_eq!(answer_to(&[(code, 0, 0, 0)]), (5, 0), "{code}");
         }
         for code in [7, 9] {
@@ -395,6 +408,99 @@ mod tests {
             answer_to(&[(12, 1, 8, 0), (7, 0, 0, 2), (13, 4, 4, 8)]),
             PASSED
         );
+    }
+
+    /// The answer for these statements over a decimal place at 0, an alpha place at 4, the numbers
+    /// 1, 2 and 3 at 8, 13 and 18, an alpha literal at 23 and two numbers behind it at 29.
+    fn answer_to_loops(statements: &[StatementEntry]) -> (u8, usize) {
+        let expressions = b"\x02\0\0\0\x02\0\x01\0\
+            \x01\0\0\x01\0\x01\0\x01\x01\0\x01\0\x02\x01\0\
+            \x06\0\0\0\x02\0\x01\0\0\x01\0\x01\0\0\x01\0";
+        let mut sample = Sample::fields((11, 0, 0, 0), expressions);
+        sample.statements = statements.to_vec();
+        sample.answer()
+    }
+
+    #[test]
+    fn a_for_names_a_loop_end_behind_it() {
+        let (stop, end) = ((11, 0, 0, 0), (15, 0, 0, 0));
+        let entered = |c| (14, 0, 8, c);
+        assert_eq!(answer_to_loops(&[entered(1), end]), PASSED);
+        assert_eq!(answer_to_loops(&[end, entered(2), end]), PASSED);
+        assert_eq!(answer_to_loops(&[end, entered(0), end]), (5, 1));
+        assert_eq!(answer_to_loops(&[end, entered(1), end]), (5, 1));
+        assert_eq!(answer_to_loops(&[entered(0), end]), (5, 0));
+        assert_eq!(answer_to_loops(&[entered(1), stop, end]), (5, 0));
+        assert_eq!(answer_to_loops(&[entered(2), stop, end]), PASSED);
+        for c in [2, 256, 257, 65_535] {
+            assert_eq!(answer_to_loops(&[entered(c), end]), (5, 0), "{c}");
+        }
+        for code in (0..=255).filter(|&code| code != 15) {
+            let other = (code, 0, 0, 0);
+            assert_eq!(answer_to_loops(&[entered(1), other]), (5, 0), "{code}");
+        }
+    }
+
+    #[test]
+    fn a_loop_end_is_judged_in_its_own_turn() {
+        assert_eq!(answer_to_loops(&[(14, 0, 8, 1), (15, 0, 0, 1)]), (5, 1));
+        assert_eq!(answer_to_loops(&[(14, 4, 8, 1), (15, 0, 0, 1)]), (4, 0));
+        let mut sample = Sample::fields((15, 0, 0, 0), b"");
+        for code in [15, 16, 17] {
+            sample.statements[0].0 = code;
+            let mut unit = sample.unit();
+            let zero = unit.len() - 12 - 8 + 1;
+            assert_eq!(answer(&unit), PASSED);
+            unit[zero] = 1;
+            assert_eq!(answer(&unit), (5, 0));
+        }
+    }
+
+    #[test]
+    fn entries_may_share_an_end_and_ends_stand_alone() {
+        let (end, entered) = ((15, 0, 0, 0), |c| (14, 0, 8, c));
+        assert_eq!(answer_to_loops(&[end]), PASSED);
+        assert_eq!(answer_to_loops(&[entered(2), entered(2), end]), PASSED);
+        assert_eq!(answer_to_loops(&[entered(2), entered(3), end, end]), PASSED);
+    }
+
+    #[test]
+    fn a_table_has_no_loops() {
+        for code in 14..=17 {
+            let statements = [(12, 1, 8, 0), (code, 0, 0, 0), (15, 0, 0, 0)];
+            assert_eq!(answer_to_loops(&statements), (5, 0));
+        }
+    }
+
+    #[test]
+    fn a_for_has_a_decimal_place_and_three_numbers_in_a_row() {
+        let answer = |a, b| answer_to_loops(&[(14, a, b, 1), (15, 0, 0, 0)]);
+        assert_eq!(answer(0, 8), PASSED);
+        for a in [4, 8, 23, 45, 65_535] {
+            assert_eq!(answer(a, 8), (4, 0), "place at {a}");
+        }
+        // The numbers from 13 on are two, and then the alpha literal is the step; from 18 on it is
+        // the limit, and from 23 on the start.
+        for b in [4, 13, 18, 23, 29, 39, 44, 45, 65_535] {
+            assert_eq!(answer(0, b), (4, 0), "numbers at {b}");
+        }
+        // A decimal place is a number, and the row may begin inside another expression.
+        let row = |items: &[u8], b| {
+            let mut sample = Sample::fields((14, 0, b, 1), items);
+            sample.statements.push((15, 0, 0, 0));
+            sample.answer()
+        };
+        assert_eq!(row(b"\x02\0\0\0\x02\0\0\0\x02\0\0\0", 0), PASSED);
+        assert_eq!(row(b"\x02\0\0\0\x02\0\0\0\x02\0\x01\0", 0), (4, 0));
+        assert_eq!(row(b"\x02\0\0\0\x02\0\x01\0\x02\0\0\0", 0), (4, 0));
+        assert_eq!(row(b"\x02\0\0\0\x02\0\0\0\x02\0\0", 0), (4, 0));
+        assert_eq!(row(b"\x02\0\0\0\x02\0\0\0\0", 0), (4, 0));
+        let inside = b"\x02\0\0\x02\0\0\x10\0\x02\0\0\0\x02\0\0\0";
+        assert_eq!(row(inside, 0), (4, 0), "no place at 0");
+        let shared = b"\x02\0\0\0\x02\0\0\x02\0\0\x10\0\x02\0\0\0\x02\0\0\0";
+        assert_eq!(row(shared, 4), PASSED);
+        assert_eq!(row(shared, 0), PASSED);
+        assert_eq!(row(shared, 7), (4, 0), "a value is missing");
     }
 
     #[test]

@@ -55,6 +55,12 @@ pub fn write(place: &mut [u8], value: i64) {
     }
 }
 
+/// Whether a place of `length` characters, which are at most 18, holds all digits of a number. Its
+/// sign takes no character.
+pub fn fits(length: usize, value: i64) -> bool {
+    value.unsigned_abs() < 10_u64.pow(length as u32)
+}
+
 fn digit(character: u8) -> i64 {
     i64::from(character - b'0')
 }
@@ -155,6 +161,19 @@ mod tests {
         assert_eq!(moved(0, 3), "000");
         assert_eq!(moved(-5, 1), "u");
         assert_eq!(moved(-999_999_999_999_999_999, 18), "99999999999999999y");
+    }
+
+    #[test]
+    fn a_number_fits_if_no_digit_is_lost() {
+        for (length, greatest) in [(1, 9), (2, 99), (18, 999_999_999_999_999_999)] {
+            for value in [greatest, -greatest] {
+                assert!(fits(length, value));
+                assert_eq!(read(moved(value, length).as_bytes()), Some(value));
+            }
+            assert!(!fits(length, greatest + 1) && !fits(length, -greatest - 1));
+            assert!(fits(length, 0));
+        }
+        assert!(fits(17, 99_999_999_999_999_999) && !fits(17, 100_000_000_000_000_000));
     }
 
     #[test]

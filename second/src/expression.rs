@@ -133,6 +133,26 @@ pub fn is_closed_at(expressions: &[u8], at: usize) -> bool {
     expressions.get(at) == Some(&CLOSE)
 }
 
+/// The offset behind the 00 that closes the expression at `offset`, or nothing if none is met.
+fn behind(expressions: &[u8], offset: usize) -> Option<usize> {
+    let mut at = offset;
+    loop {
+        let (item, next) = item_at(expressions, at)?;
+        if item == Item::Close {
+            return Some(next);
+        }
+        at = next;
+    }
+}
+
+/// The offsets of three expressions in a row, each behind the 00 that closes the one before; or
+/// nothing if the first or the second is not closed.
+pub fn three_from(expressions: &[u8], first: usize) -> Option<[usize; 3]> {
+    let second = behind(expressions, first)?;
+    let third = behind(expressions, second)?;
+    Some([first, second, third])
+}
+
 /// The sort of the expression at `offset`, or nothing if it is badly formed.
 pub fn sort_at(parts: &Parts, offset: usize) -> Option<Sort> {
     let mut at = offset;
@@ -251,6 +271,19 @@ mod tests {
         let mut sample = Sample::fields((11, 0, 0, 0), b"\x01\0\0\x02\0");
         sample.literals[1] = b'/';
         assert_eq!(sort_at(&Parts::of(&sample.unit()).unwrap(), 0), None);
+    }
+
+    #[test]
+    fn expressions_in_a_row_begin_behind_a_00() {
+        // The operands have zeros too, which close nothing.
+        let row = b"\x02\0\0\0\x01\0\0\x01\x15\0\x06\0\0\0\0\0";
+        assert_eq!(three_from(row, 0), Some([0, 4, 10]));
+        assert_eq!(three_from(row, 4), Some([4, 10, 16]));
+        assert_eq!(three_from(row, 10), None);
+        assert_eq!(three_from(row, 16), None);
+        assert_eq!(three_from(b"\0\0", 0), Some([0, 1, 2]));
+        assert_eq!(three_from(b"\0\x20\0", 0), None);
+        assert_eq!(three_from(b"\0\x02\0\0", 0), None);
     }
 
     #[test]

@@ -2,7 +2,7 @@
 
 use crate::check::check;
 use crate::decimal;
-use crate::expression::{is_closed_at, item_at, Form, Item};
+use crate::expression::{is_closed_at, item_at, three_from, Form, Item};
 use crate::span::named;
 use crate::stop::Refusal;
 use crate::unit::{code, Field, Parts, Statement};
@@ -87,6 +87,10 @@ fn statement_breach(parts: &Parts, i: usize) -> Option<Breach> {
         code::CLEAR..=code::LOCASE => written(a),
         code::GOTO_IF_ZERO | code::COMPUTED_GOTO => read(b),
         code::FORMAT => written(a).or_else(|| read(b)).or_else(|| read(c)),
+        code::FOR => {
+            let numbers = three_from(parts.expressions, b).expect(SOUND);
+            written(a).or_else(|| numbers.into_iter().find_map(read))
+        }
         _ => None,
     }
 }

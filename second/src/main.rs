@@ -5,7 +5,7 @@ mod table;
 mod timing;
 
 use second::{answer, bench, breach, image, literal_range, read_unit, run, words};
-use second::{State, BENCH_ALLOWANCE};
+use second::{Loop, State, BENCH_ALLOWANCE};
 use shown::{named, shown};
 use std::env::args_os;
 use std::ffi::{OsStr, OsString};
@@ -55,7 +55,7 @@ fn answer_to(args: &[&OsStr]) -> io::Result<()> {
     }
 }
 
-/// Prints how a run from the image stops, the calls still open, and the data.
+/// Prints how a run from the image stops, the calls and loops still open, and the data.
 fn show_run(file: &OsStr, allowance: u64) -> io::Result<()> {
     let unit = read_file(file)?;
     let mut data = image(&unit);
@@ -70,9 +70,18 @@ fn show_run(file: &OsStr, allowance: u64) -> io::Result<()> {
         if outcome.count == 1 { "" } else { "s" },
         words(outcome.stop).unwrap_or_default()
     )?;
-    let open = &outcome.state.returns[..outcome.state.depth];
-    if !open.is_empty() {
-        writeln!(out, "open calls, to return to {open:?}")?;
+    let State {
+        depth,
+        returns,
+        opened,
+        loops,
+        ..
+    } = outcome.state;
+    if depth > 0 {
+        writeln!(out, "open calls, to return to {:?}", &returns[..depth])?;
+    }
+    for Loop { entry, limit, step } in &loops[..opened] {
+        writeln!(out, "open loop of the FOR at {entry}, to {limit} by {step}")?;
     }
     if !data.is_empty() {
         writeln!(out, "{}", shown(&data))?;

@@ -3,6 +3,7 @@
 use crate::arithmetic;
 use crate::check::check;
 use crate::decimal;
+use crate::loops;
 use crate::mask::edited;
 use crate::span::Span;
 use crate::state::State;
@@ -44,7 +45,7 @@ fn sound<'a>(unit: &'a [u8], bytes: &[u8], state: &State) -> Result<Parts<'a>, R
     if bytes.len() != parts.image.len() {
         return Err(Refusal { stop: 6, place: 0 });
     }
-    if !state.is_sound(parts.statement_count()) {
+    if !state.is_sound(&parts) {
         return Err(Refusal { stop: 7, place: 0 });
     }
     Ok(parts)
@@ -113,6 +114,9 @@ fn step(parts: &Parts, data: &mut [u8], state: &mut State) -> Result<(), Fault> 
             return Ok(());
         }
         code::FORMAT => format(parts, data, [a, b, c])?,
+        code::FOR => return loops::enter(parts, data, state),
+        code::LOOP_END | code::NEXTLOOP => return loops::go_on(parts, data, state),
+        code::EXITLOOP => return loops::leave(parts, state),
         _ => unreachable!("a sound unit has no statement {code}"),
     }
     state.advance();

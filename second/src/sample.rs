@@ -117,6 +117,27 @@ impl Sample {
         self
     }
 
+    /// Adds a FOR over a control place, from its start, limit and step to its loop end.
+    pub fn repeated(mut self, control: &str, numbers: [&str; 3], end: u16) -> Sample {
+        let a = self.expression(control);
+        let [b, ..] = numbers.map(|items| self.expression(items));
+        self.statements.push((code::FOR, a, b, end));
+        self
+    }
+
+    /// Adds a loop: such a FOR, what a body adds, and the loop end behind it.
+    pub fn looped(
+        self,
+        control: &str,
+        numbers: [&str; 3],
+        body: impl FnOnce(Sample) -> Sample,
+    ) -> Sample {
+        let entry = self.statements.len();
+        let mut looped = body(self.repeated(control, numbers, 0));
+        looped.statements[entry].3 = looped.statements.len() as u16;
+        looped.to(code::LOOP_END, 0)
+    }
+
     /// Adds a statement with a place alone.
     pub fn on(mut self, code: u8, place: &str) -> Sample {
         let a = self.expression(place);
@@ -184,7 +205,7 @@ impl Sample {
     /// the first statement is the one that fails.
     pub fn fault(&self) -> (u8, usize) {
         let (stop, place, count, data) = self.ran();
-        assert!((20..=26).contains(&stop), "stop {stop}");
+        assert!((20..=29).contains(&stop), "stop {stop}");
         if count == 0 {
             assert_eq!(data.as_bytes(), self.image);
         }

@@ -1,13 +1,19 @@
-//! The resume state: where a run goes on, and the calls still open.
+//! The resume state: where a run goes on, and the calls and loops still open.
 
+use crate::arithmetic::is_value;
 use crate::stop::Fault;
+use crate::unit::{code, Parts};
 
 /// The most calls that may be open.
 pub const CALLS_MOST: usize = 50;
 
+/// The most loops that may be open.
+pub const LOOPS_MOST: usize = 16;
+
 /// A resume state. It is sound for a unit of N statements when the statement number is 0 to N,
 /// the number of open calls is 0 to 50, the return numbers in use are 0 to N and the unused ones
-/// are zero.
+/// are zero; and when the number of open loops is 0 to 16, each of them is sound, and the unused
+/// slots are zero.
 #[derive(Clone, Copy, Debug, PartialEq, Eq)]
 pub struct State {
     /// The number of the next statement.
@@ -16,24 +22,79 @@ pub struct State {
     pub depth: usize,
     /// The return numbers, that of the last open call at `depth - 1`.
     pub returns: [u16; CALLS_MOST],
+    /// The number of open loops.
+    pub opened: usize,
+    /// The open loops, the one opened last at `opened - 1`.
+    pub loops: [Loop; LOOPS_MOST],
+}
+
+/// An open loop: the number of its FOR, and the limit and the step that were worked out there. It
+/// is sound when that statement is a FOR, both are values, and the step is not 0.
+#[derive(Clone, Copy, Debug, PartialEq, Eq)]
+pub struct Loop {
+    pub entry: usize,
+    pub limit: i64,
+    pub step: i64,
+}
+
+impl Loop {
+    /// What stands in a slot that no open loop uses.
+    pub const NONE: Loop = Loop {
+        entry: 0,
+        limit: 0,
+        step: 0,
+    };
+
+    /// The test before each pass: with a positive step the loop goes on while the control value is
+    /// not above the limit, with a negative step while it is not below.
+    pub fn goes_on(&self, value: i64) -> bool {
+        if self.step > 0 {
+            value <= self.limit
+        } else {
+            value >= self.limit
+        }
+    }
+
+    fn is_sound(&self, parts: &Parts) -> bool {
+        let entry = parts.statement(self.entry);
+        entry.is_some_and(|entry| entry.code == code::FOR)
+            && is_value(self.limit)
+            && is_value(self.step)
+            && self.step != 0
+    }
 }
 
 impl State {
-    /// The state from which a unit starts: statement 0 and no open calls.
+    /// The state from which a unit starts: statement 0, no open calls and no open loops.
     pub const START: State = State {
         at: 0,
         depth: 0,
         returns: [0; CALLS_MOST],
+        opened: 0,
+        loops: [Loop::NONE; LOOPS_MOST],
     };
 
-    /// Check 7 for a unit of `count` statements.
-    pub fn is_sound(&self, count: usize) -> bool {
-        if self.at > count || self.depth > CALLS_MOST {
+    /// Check 7.
+    pub fn is_sound(&self, parts: &Parts) -> bool {
+        self.at <= parts.statement_count()
+            && self.are_calls_sound(parts.statement_count())
+            && self.are_loops_sound(parts)
+    }
+
+    fn are_calls_sound(&self, count: usize) -> bool {
+        let Some((used, unused)) = self.returns.split_at_checked(self.depth) else {
             return false;
-        }
-        let (used, unused) = self.returns.split_at(self.depth);
+        };
         used.iter().all(|&number| usize::from(number) <= count)
             && unused.iter().all(|&number| number == 0)
+    }
+
+    fn are_loops_sound(&self, parts: &Parts) -> bool {
+        let Some((open, closed)) = self.loops.split_at_checked(self.opened) else {
+            return false;
+        };
+        open.iter().all(|open| open.is_sound(parts))
+            && closed.iter().all(|slot| *slot == Loop::NONE)
     }
 
     pub fn advance(&mut self) {
@@ -63,18 +124,54 @@ impl State {
         *entry = 0;
         Ok(())
     }
+
+    /// Whether as many loops are open as may be.
+    pub fn has_no_slot(&self) -> bool {
+        self.opened == LOOPS_MOST
+    }
+
+    /// Opens a loop, for which there is a slot.
+    pub fn open_loop(&mut self, new: Loop) {
+        self.loops[self.opened] = new;
+        self.opened += 1;
+    }
+
+    /// The loop opened last. With none open it is 29.
+    pub fn open_last(&self) -> Result<Loop, Fault> {
+        let last = self.opened.checked_sub(1).ok_or(Fault::NoLoop)?;
+        Ok(self.loops[last])
+    }
+
+    /// Closes the loop opened last, which there is, and its slot becomes zero.
+    pub fn close_loop(&mut self) {
+        self.opened -= 1;
+        self.loops[self.opened] = Loop::NONE;
+    }
 }
 
 #[cfg(test)]
 mod tests {
     use super::*;
+    use crate::sample::Sample;
 
-    /// Whether the start state, changed, is sound for a unit of three statements.
+    /// Whether the start state, changed, is sound for a unit of three statements: a STOP, a FOR
+    /// and its loop end.
     fn is_sound(change: impl Fn(&mut State)) -> bool {
+        let unit = Sample::over("0", &[(1, 0, 1, 1)])
+            .to(code::STOP, 0)
+            .looped("%0", ["1", "2", "3"], |body| body)
+            .unit();
         let mut state = State::START;
         change(&mut state);
-        state.is_sound(3)
+        state.is_sound(&Parts::of(&unit).unwrap())
     }
+
+    /// A loop of the FOR, which is sound.
+    const OPEN: Loop = Loop {
+        entry: 1,
+        limit: 0,
+        step: 1,
+    };
 
     #[test]
     fn each_part_keeps_its_range() {
@@ -103,6 +200,93 @@ mod tests {
     }
 
     #[test]
+    fn the_number_of_open_loops_is_0_to_16() {
+        for opened in 0..=LOOPS_MOST {
+            assert!(is_sound(|state| {
+                state.opened = opened;
+                state.loops[..opened].fill(OPEN);
+            }));
+        }
+        for opened in [17, 18, 65_535, usize::MAX] {
+            assert!(!is_sound(|state| {
+                state.opened = opened;
+                state.loops.fill(OPEN);
+            }));
+        }
+    }
+
+    #[test]
+    fn an_open_loop_names_a_for_beside_its_limit_and_its_step() {
+        let greatest = 999_999_999_999_999_999;
+        for (entry, limit, step, sound) in [
+            (1, 0, 1, true),
+            (1, greatest, greatest, true),
+            (1, -greatest, -greatest, true),
+            (0, 0, 1, false),
+            (2, 0, 1, false),
+            (3, 0, 1, false),
+            (usize::MAX, 0, 1, false),
+            (1, greatest + 1, 1, false),
+            (1, -greatest - 1, 1, false),
+            (1, 0, greatest + 1, false),
+            (1, 0, -greatest - 1, false),
+            (1, i64::MAX, 1, false),
+            (1, 0, i64::MIN, false),
+            (1, 9, 0, false),
+        ] {
+            let one = Loop { entry, limit, step };
+            for opened in 1..=LOOPS_MOST {
+                for slot in 0..opened {
+                    let found = is_sound(|state| {
+                        state.opened = opened;
+                        state.loops[..opened].fill(OPEN);
+                        state.loops[slot] = one;
+                    });
+                    assert_eq!(found, sound, "{one:?} at {slot}");
+                }
+            }
+        }
+    }
+
+    #[test]
+    fn the_other_slots_are_zero() {
+        let (entry, limit, step) = (1, 1, 1);
+        for left_over in [
+            Loop {
+                entry,
+                ..Loop::NONE
+            },
+            Loop {
+                limit,
+                ..Loop::NONE
+            },
+            Loop { step, ..Loop::NONE },
+        ] {
+            for opened in 0..LOOPS_MOST {
+                for slot in opened..LOOPS_MOST {
+                    assert!(!is_sound(|state| {
+                        state.opened = opened;
+                        state.loops[..opened].fill(OPEN);
+                        state.loops[slot] = left_over;
+                    }));
+                }
+            }
+        }
+    }
+
+    #[test]
+    fn nothing_more_is_asked_of_open_loops() {
+        // The place may lie anywhere, and at the end; the same entry may be open twice.
+        for at in 0..=3 {
+            assert!(is_sound(|state| {
+                state.at = at;
+                state.opened = 2;
+                state.loops[..2].fill(OPEN);
+            }));
+        }
+    }
+
+    #[test]
     fn calls_are_stored_and_taken_back() {
         let mut state = State::START;
         state.at = 7;
@@ -123,5 +307,36 @@ mod tests {
         let full = state;
         assert_eq!(state.call(1), Err(Fault::Call));
         assert_eq!(state, full);
+    }
+
+    #[test]
+    fn loops_are_opened_and_closed_last_first() {
+        let mut state = State::START;
+        assert_eq!(state.open_last(), Err(Fault::NoLoop));
+        for entry in 0..LOOPS_MOST {
+            assert!(!state.has_no_slot());
+            state.open_loop(Loop { entry, ..OPEN });
+        }
+        assert!(state.has_no_slot());
+        for entry in (0..LOOPS_MOST).rev() {
+            assert_eq!(state.open_last(), Ok(Loop { entry, ..OPEN }));
+            state.close_loop();
+        }
+        assert_eq!(state, State::START);
+    }
+
+    #[test]
+    fn the_test_goes_by_the_sign_of_the_step() {
+        // Whether a loop goes on with a value below, at and above its limit.
+        for (step, wanted) in [(1, [true, true, false]), (-1, [false, true, true])] {
+            for size in [1, 2, 999_999_999_999_999_999] {
+                let open = Loop {
+                    entry: 0,
+                    limit: -5,
+                    step: step * size,
+                };
+                assert_eq!([-6, -5, -4].map(|value| open.goes_on(value)), wanted);
+            }
+        }
     }
 }

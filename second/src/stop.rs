@@ -23,6 +23,9 @@ pub enum Fault {
     Call = 24,
     Return = 25,
     Rounding = 26,
+    ZeroStep = 27,
+    Loop = 28,
+    NoLoop = 29,
 }
 
 impl Fault {
@@ -50,6 +53,9 @@ pub fn words(stop: u8) -> Option<&'static str> {
         24 => "a CALL with 50 calls open",
         25 => "a RETURN with no call open",
         26 => "a rounding count outside 0 to 18",
+        27 => "a FOR with a step of 0",
+        28 => "a FOR with 16 loops open",
+        29 => "a loop end, EXITLOOP or NEXTLOOP with no loop open",
         30 => "the allowance is spent before the end",
         _ => return None,
     })
@@ -64,7 +70,8 @@ mod tests {
         let stops: Vec<u8> = (0..=255).filter(|&stop| words(stop).is_some()).collect();
         assert_eq!(
             stops,
-            [0, 1, 2, 3, 4, 5, 6, 7, 20, 21, 22, 23, 24, 25, 26, 30]
+            [0, 1, 2, 3, 4, 5, 6, 7, 20, 21, 22, 23, 24, 25, 26, 27, 28, 29, 30]
         );
+        assert!(stops.iter().all(|&stop| words(stop).unwrap().len() <= 63));
     }
 }

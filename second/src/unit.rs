@@ -31,6 +31,10 @@ pub mod code {
     pub const STOP: u8 = 11;
     pub const COMPUTED_GOTO: u8 = 12;
     pub const FORMAT: u8 = 13;
+    pub const FOR: u8 = 14;
+    pub const LOOP_END: u8 = 15;
+    pub const EXITLOOP: u8 = 16;
+    pub const NEXTLOOP: u8 = 17;
 }
 
 /// The five parts of a unit, each a stretch of the unit itself.

@@ -89,6 +89,37 @@ fn overlap() {
     assert_eq!(sample.data(), format!("aabcdeghijklm{NZ}{NUM}"));
 }
 
+/// Stop, place and count of a run whose only loop counts its passes in a second D2, with the control
+/// and the passes after it.
+fn repeated(size: u16, numbers: [&str; 3]) -> (u8, usize, u64, String) {
+    let image = "?".repeat(size.into()) + "00";
+    let sample = Sample::over(&image, &[(1, 0, size, 1), (1, size, 2, 1)]);
+    let count = |body: Sample| body.on(code::INCR, "%1");
+    sample.looped("%0", numbers, count).ran()
+}
+
+#[test]
+fn loops() {
+    let ended = |count, data: &str| (0, 3, count, data.to_string());
+    assert_eq!(repeated(2, ["1", "9", "2"]), ended(11, "1105"));
+    assert_eq!(repeated(2, ["5", "1", "1"]), ended(1, "0500"));
+    assert_eq!(repeated(2, ["3", "1", "1 neg"]), ended(7, "0003"));
+    let kept = "909".to_string();
+    assert_eq!(repeated(1, ["1", "9", "1"]), (20, 2, 18, kept));
+    let untouched = "??00".to_string();
+    assert_eq!(repeated(2, ["100", "999", "0"]), (27, 0, 0, untouched));
+    // Each FOR goes on at the next, so that its loop stays open.
+    let nested = |loops: u16| {
+        let mut sample = Sample::over("0", &[(1, 0, 1, 1)]);
+        for _ in 0..loops {
+            sample = sample.repeated("%0", ["1", "9", "1"], loops + 1);
+        }
+        sample.to(code::STOP, 0).to(code::LOOP_END, 0)
+    };
+    assert_eq!(nested(16).ran(), (0, 18, 17, "1".to_string()));
+    assert_eq!(nested(17).ran(), (28, 16, 16, "1".to_string()));
+}
+
 #[test]
 fn calls() {
     // Each CALL goes on at the next statement, so that it stays open.

@@ -128,6 +128,7 @@ pub fn number(parts: &Parts, data: &[u8], offset: usize) -> Result<i64, Fault> {
 }
 
 /// Reads a decimal span: 22 if it is not valid.
+#[inline]
 pub fn read(data: &[u8], span: Span) -> Result<i64, Fault> {
     decimal::read(&data[span.range()]).ok_or(Fault::BadDigit)
 }

@@ -103,6 +103,23 @@ unreadable miss\x1B\xE9
     }
 }
 
+#[test]
+fn open_calls_and_loops_are_told() {
+    // A CALL of the FOR behind it, FOR from 1 to 1 by -9, STOP and the loop end.
+    let unit = *b"0\x01\0\0\0\0\x01\0\x01\
+        \x02\0\0\0\x01\0\0\x01\0\x01\0\0\x01\0\x01\0\x01\x01\x15\0\
+        19\x09\0\0\0\0\0\0\x01\x0E\0\0\0\0\x04\0\x03\x0B\0\0\0\0\0\0\0\
+        \x0F\0\0\0\0\0\0\0\0\x01\0\x01\0\x14\0\x02\0\x04DB";
+    fs::write(Path::new(TRIALS).join("open.unit"), unit).unwrap();
+    let found = program(&["run", "open.unit"].map(OsStr::new), b"");
+    let told = "stop 0 at 4 after 3 statements: the end is reached
+open calls, to return to [1]
+open loop of the FOR at 1, to 1 by -9
+1
+";
+    assert_eq!(String::from_utf8(found).unwrap(), told);
+}
+
 /// A run in two parts, of at most `first` statements and then of the rest of `allowance`.
 fn resumed(unit: &[u8], data: &mut [u8], first: u64, allowance: u64) -> Outcome {
     let before = run(unit, data, State::START, first);

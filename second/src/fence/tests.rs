@@ -202,6 +202,33 @@ fn a_formatted_move_writes_its_place_and_reads_mask_and_number() {
 }
 
 #[test]
+fn a_for_writes_its_control_and_reads_its_numbers() {
+    let rule = |control, numbers| broken(sample().looped(control, numbers, |body| body));
+    // A reference as the control, and as each of the numbers.
+    let parts = |it| {
+        let numbers = [[it, "9", "2"], ["1", it, "2"], ["1", "9", it]];
+        let read = numbers.map(|numbers| rule("%3", numbers));
+        (rule(it, ["1", "%3", "2 %1()"]), read)
+    };
+    for (reference, wanted) in [
+        ("%3", 0),
+        ("2 %1()", 0),
+        ("2 3 %1(,)", 0),
+        ("%3 %1()", 1),
+        ("5 %1()", 2),
+        ("3 %1()", 3),
+        ("3 4 %1(,)", 4),
+    ] {
+        assert_eq!(parts(reference), (wanted, [wanted; 3]), "{reference}");
+    }
+    assert_eq!(parts("1 2 %1(,)"), (5, [0; 3]));
+    // The control before the start before the limit before the step.
+    assert_eq!(rule("1 2 %1(,)", ["%3 %1()", "3 %1()", "3 4 %1(,)"]), 5);
+    assert_eq!(rule("%3", ["%3 %1()", "3 %1()", "3 4 %1(,)"]), 1);
+    assert_eq!(rule("%3", ["1", "3 %1()", "3 4 %1(,)"]), 3);
+}
+
+#[test]
 fn the_first_rule_broken_is_answered() {
     // a before b, references left to right, the rules of each in their order.
     assert_eq!(broken(sample().set("%4", "%3 %1()")), 6);
@@ -225,7 +252,10 @@ fn a_bound_that_is_a_reference_keeps_the_rules_first() {
 
 #[test]
 fn statements_without_references_keep_the_rules() {
-    for statement in [code::GOTO, code::CALL, code::RETURN, code::STOP] {
+    for statement in [code::GOTO, code::CALL, code::RETURN, code::STOP]
+        .into_iter()
+        .chain(code::LOOP_END..=code::NEXTLOOP)
+    {
         assert_eq!(broken(sample().to(statement, 0)), 0);
     }
     assert_eq!(broken(sample().by(code::GOTO_IF_ZERO, "1 0 /", 0)), 0);

@@ -12,16 +12,18 @@ fn sample() -> Sample {
     )
 }
 
-/// What stands in a decimal of these characters after a statement with it as its place.
-fn after(statement: u8, characters: &str) -> Result<String, u8> {
-    let sample = Sample::over(characters, &[(1, 0, characters.len() as u16, 1)]);
-    match sample.on(statement, "%0").ran() {
-        (0, 1, 1, data) => Ok(data),
-        (stop, place, count, data) => {
-            assert_eq!((place, count, data.as_str()), (0, 0, characters));
-            Err(stop)
+/// What stands in decimals of these characters after a statement with each as its place.
+fn after<const N: usize>(statement: u8, decimals: [&str; N]) -> [Result<String, u8>; N] {
+    decimals.map(|characters| {
+        let sample = Sample::over(characters, &[(1, 0, characters.len() as u16, 1)]);
+        match sample.on(statement, "%0").ran() {
+            (0, 1, 1, data) => Ok(data),
+            (stop, place, count, data) => {
+                assert_eq!((place, count, data.as_str()), (0, 0, characters));
+                Err(stop)
+            }
         }
-    }
+    })
 }
 
 fn text(characters: &str) -> Result<String, u8> {
@@ -57,43 +59,31 @@ mod statements {
 
     #[test]
     fn incr_and_decr_store_as_a_number_move() {
-        assert_eq!(after(code::INCR, "41"), text("42"));
-        assert_eq!(after(code::INCR, "99"), text("00"));
-        assert_eq!(after(code::INCR, "0q"), text("00"));
-        assert_eq!(after(code::INCR, "0p"), text("01"));
-        assert_eq!(after(code::INCR, "1p"), text("0y"));
-        assert_eq!(after(code::DECR, "00"), text("0q"));
-        assert_eq!(after(code::DECR, "10"), text("09"));
-        assert_eq!(after(code::DECR, "y"), text("0"));
-        assert_eq!(after(code::DECR, "9y"), text("00"));
-        assert_eq!(
-            after(code::INCR, "99999999999999999"),
-            text(&"0".repeat(17))
-        );
-        assert_eq!(after(code::INCR, "4x1"), Err(22));
-        assert_eq!(after(code::DECR, "1 "), Err(22));
+        let more = after(code::INCR, ["41", "99", "0q", "0p", "1p"]);
+        assert_eq!(more, ["42", "00", "00", "01", "0y"].map(text));
+        let less = after(code::DECR, ["00", "10", "y", "9y"]);
+        assert_eq!(less, ["0q", "09", "0", "00"].map(text));
+        let lost = after(code::INCR, ["99999999999999999"]);
+        assert_eq!(lost, ["00000000000000000"].map(text));
+        assert_eq!(after(code::INCR, ["4x1"]), [Err(22)]);
+        assert_eq!(after(code::DECR, ["1 "]), [Err(22)]);
     }
 
     #[test]
     fn incr_and_decr_of_a_blank_amount_write_zeros() {
-        assert_eq!(after(code::INCR, "   "), text("001"));
-        assert_eq!(after(code::DECR, "   "), text("00q"));
-        assert_eq!(after(code::INCR, "  9"), text("010"));
-        assert_eq!(after(code::DECR, " 1"), text("00"));
-        assert_eq!(after(code::INCR, " q"), text("00"));
-        assert_eq!(after(code::INCR, " "), text("1"));
-        assert_eq!(after(code::INCR, " 1 "), Err(22));
-        assert_eq!(after(code::INCR, "\t1"), Err(22));
+        let more = after(code::INCR, ["   ", "  9", " q", " "]);
+        assert_eq!(more, ["001", "010", "00", "1"].map(text));
+        let less = after(code::DECR, ["   ", " 1"]);
+        assert_eq!(less, ["00q", "00"].map(text));
+        assert_eq!(after(code::INCR, [" 1 ", "\t1"]), [Err(22), Err(22)]);
     }
 
     #[test]
     fn incr_and_decr_keep_to_18_digits() {
-        assert_eq!(after(code::INCR, "999999999999999999"), Err(20));
-        assert_eq!(after(code::DECR, "99999999999999999y"), Err(20));
-        assert_eq!(
-            after(code::DECR, "999999999999999999"),
-            text("999999999999999998")
-        );
+        let (greatest, least) = ("999999999999999999", "99999999999999999y");
+        assert_eq!(after(code::INCR, [greatest]), [Err(20)]);
+        let less = after(code::DECR, [least, greatest]);
+        assert_eq!(less, [Err(20), text("999999999999999998")]);
     }
 
     #[test]
