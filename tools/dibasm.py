@@ -20,7 +20,7 @@ import sys
 
 KINDS = ["alpha", "decimal", "record"]
 WORDS = dict(enumerate(["set", "clear", "incr", "decr", "upcase", "locase", "goto", "ifzero",
-                        "call", "return", "stop", "computed", "using"], 1))
+                        "call", "return", "stop", "computed", "using", "for", "loopend", "exitloop", "nextloop"], 1))
 CODES = {word: code for code, word in WORDS.items()}
 
 # The words that begin the line of a statement: using stands inside that of a set.
@@ -30,10 +30,15 @@ FIRST = [word for word in CODES if word != "using"]
 OTHERS = ["data", "field", "literals", "expr", "statement", "trailer", "patch", "raw"]
 REPEATS = ["repeat", "end"]
 
-# The parts of a statement that hold expressions, a target, and anything at all, by its word.
-PLACES = {"set": "ab", "ifzero": "b", "computed": "b", "using": "abc"} | dict.fromkeys(list(CODES)[1:6], "a")
-TARGET = {"goto": "c", "ifzero": "c", "call": "c"}
+# The parts of a statement that hold expressions, a target, and anything at all, by its word, and the word before the target. What b
+# holds of a for are three expressions in a row.
+PLACES = {"set": "ab", "ifzero": "b", "computed": "b", "using": "abc", "for": "ab"} | dict.fromkeys(list(CODES)[1:6], "a")
+TARGET = {"goto": "c", "ifzero": "c", "call": "c", "for": "c"}
+BEFORE_TARGET = {"ifzero": "goto", "for": "end"}
 USED = {word: PLACES.get(word, "") + TARGET.get(word, "") for word in CODES} | {"computed": "ab"}
+
+# The words between the three expressions of a for.
+ROW = ["to", "by"]
 
 # The operators on two values by binding, loosest first; .NOT. has a level to itself.
 LEVELS = [
@@ -366,13 +371,13 @@ class Assembler:
     def statement(self, word, line):
         parts, table = {"code": CODES[word], "zero": 0, "a": 0, "b": 0, "c": 0}, []
         for part in PLACES.get(word, ""):
-            if word + part == "setb":
+            if word + part in ("setb", "forb"):
                 line.pass_by("=")
-            parts[part] = self.place(line)
+            parts[part] = self.row(line) if word + part == "forb" else self.place(line)
         if word == "set" and line.accept("using"):
             parts |= {"code": CODES["using"], "b": self.place(line), "c": parts["b"]}
-        if word == "ifzero":
-            line.pass_by("goto")
+        if word in BEFORE_TARGET:
+            line.pass_by(BEFORE_TARGET[word])
         if word in TARGET:
             parts["c"] = self.target(line)
         if word == "computed" and line.accept("of"):
@@ -391,13 +396,28 @@ class Assembler:
         return line.number() if line.peek()[0] == "number" else line.name()
 
     def place(self, line):
-        """The offset of the expression that stands here. Equal expressions are placed once."""
+        """The offset of the expression that stands here."""
+        return self.offset(line) if line.accept("@") else self.added(self.expression(line))
+
+    def row(self, line):
+        """The offset of the three expressions of a for, which stand here or in a row at an offset."""
         if line.accept("@"):
-            if line.peek()[0] == "number":
-                return line.number()
-            spot = self.value("expression", line.name())
-            return spot + line.number() if line.accept("+") else spot
+            return self.offset(line)
         data = self.expression(line)
+        for word in ROW:
+            line.pass_by(word)
+            data += self.expression(line)
+        return self.added(data)
+
+    def offset(self, line):
+        """The offset that is told here."""
+        if line.peek()[0] == "number":
+            return line.number()
+        spot = self.value("expression", line.name())
+        return spot + line.number() if line.accept("+") else spot
+
+    def added(self, data):
+        """The offset of some expressions, which are added if they were not before. Equal ones are placed once."""
         if data not in self.placed:
             self.placed[data] = len(self.expressions)
             self.expressions += data
@@ -629,11 +649,13 @@ class Disassembler:
         text = [word, " = ".join(self.place(parts[part]) for part in PLACES.get(word, ""))]
         if word == "using":
             text = ["set", f"{self.place(a)} = {self.place(c)} using {self.place(b)}"]
+        if word == "for":
+            text = [word, f"{self.place(a)} = {self.row(b)}"]
         if word == "computed":
             table = self.table(i + 1, i + 1 + a)
             text += ["goto", *table] if table else [f"of {a}"]
         if word in TARGET:
-            text += ["goto"] * (word == "ifzero") + [self.target(c)]
+            text += [BEFORE_TARGET.get(word), self.target(c)]
         unused = {name: parts[name] for name in parts if name not in USED[word]}
         return " ".join(filter(None, text)) + changed(**unused), 1 + len(table)
 
@@ -649,10 +671,25 @@ class Disassembler:
 
     @functools.cache
     def place(self, offset):
-        if self.inline:
-            items, _, closed = self.items(offset, len(self.expressions))
-            if items and closed:
-                return self.expression(items, closed)
+        return self.inlined(offset)[0] or self.spot(offset)
+
+    @functools.cache
+    def row(self, offset):
+        """The three expressions of a for, or where they stand in a row."""
+        texts, at = [], offset
+        for _ in range(1 + len(ROW)):
+            text, at = self.inlined(at)
+            texts.append(text)
+        if not all(texts):
+            return self.spot(offset)
+        return texts[0] + "".join(f" {word} {text}" for word, text in zip(ROW, texts[1:]))
+
+    def inlined(self, offset):
+        """The text of an expression that stands in its statement, nothing if it does not, and the offset behind it."""
+        items, after, closed = self.items(offset, len(self.expressions)) if self.inline else ([], offset, False)
+        return self.expression(items, closed) if items and closed else "", after
+
+    def spot(self, offset):
         return f"@X{offset}" if offset < len(self.expressions) else f"@{offset}"
 
     def items(self, at, end):
