@@ -19,6 +19,7 @@ const WAYS: &[&str] = &[
     "spaces alone by INCR or DECR",
     "by a branch on zero",
     "by a computed GOTO",
+    "by a FOR",
     "inside an expression",
     "begun behind a space",
     "begun behind a digit",
@@ -113,6 +114,7 @@ impl Blanks {
             code::FORMAT => "by a formatted move",
             code::GOTO_IF_ZERO => "by a branch on zero",
             code::COMPUTED_GOTO => "by a computed GOTO",
+            code::FOR => "by a FOR",
             _ => {
                 self.ways.count_if(is_blank, "spaces alone by INCR or DECR");
                 "by INCR or DECR"
@@ -254,8 +256,7 @@ mod tests {
             1 => blanks.completed(&sound, 0, &image),
             _ => blanks.failed(&sound, 0, outcome.stop.into(), &image),
         }
-        let reached = blanks.reached().filter(|(_, count)| *count > 0);
-        reached.map(|(way, _)| way.to_string()).collect()
+        blanks.ways.met()
     }
 
     #[test]

@@ -2,7 +2,10 @@
 
 use crate::damage::damaged;
 use crate::data::{fill, Quality};
+use crate::decode::{LOOPS_MOST, OPENED};
 use crate::draft::Draft;
+use crate::expressions::GREATEST;
+use crate::library;
 use crate::limits::limit_unit;
 use crate::random::Random;
 use crate::units::random_unit;
@@ -44,7 +47,7 @@ impl Case {
         let kind = random.weighed(&[
             (36, Kind::Random),
             (22, Kind::Fenced),
-            (14, Kind::Limit),
+            (18, Kind::Limit),
             (28, Kind::Damaged),
         ]);
         let draft = draft(random, kind);
@@ -56,11 +59,11 @@ impl Case {
             kind,
             unit,
             data: data(random, &draft),
-            state: state(random, draft.statements.len()),
+            state: state(random, &draft),
             allowances: [allowance(random), allowance(random)],
             absent: absent(random),
             room: random.weighed(&[(20, 3), (1, 0), (1, 1), (1, 2), (1, 4)]),
-            is_stepped: random.chance(15),
+            is_stepped: random.chance(20),
             great: great(random),
         }
     }
@@ -112,46 +115,81 @@ fn great(random: &mut Random) -> Option<u64> {
     random.chance(10).then_some(allowance)
 }
 
-/// A resume state for a unit of `count` statements: the start, another that is sound, or one that
-/// is not in some way.
-fn state(random: &mut Random, count: usize) -> Vec<u64> {
-    let mut state = vec![0; 52];
+/// A resume state for a unit: the start, another that is sound, or one that is not in some way.
+fn state(random: &mut Random, draft: &Draft) -> Vec<u64> {
+    let mut state = vec![0; library::state_len()];
     let roll = random.below(100);
-    if roll < 60 {
+    if roll < 55 {
         return state;
     }
-    sound_state(random, count, &mut state);
-    if roll < 88 {
+    sound_state(random, draft, &mut state);
+    if roll < 85 {
         return state;
     }
-    match random.below(4) {
+    match random.below(6) {
         0 => {
-            let length = random.pick(&[0, 1, 2, 51, 53, 104]);
+            let whole = state.len();
+            let length = random.pick(&[0, 1, 2, OPENED, whole - 1, whole + 1, 104]);
             state.resize(length, 0);
         }
         1 => {
-            let at = random.below(52);
+            let at = random.below(state.len());
             let wrap = random.pick(&[1 << 16, 1 << 32, 1 << 63, !0xFFFF]);
-            state[at] += wrap;
+            state[at] = state[at].wrapping_add(wrap);
         }
-        _ => unsound(random, count, &mut state),
+        2 | 3 => unsound(random, draft, &mut state),
+        _ => unsound_loops(random, draft, &mut state[OPENED..]),
     }
     state
 }
 
 /// Fills in a sound state.
-fn sound_state(random: &mut Random, count: usize, state: &mut [u64]) {
+fn sound_state(random: &mut Random, draft: &Draft, state: &mut [u64]) {
+    let count = draft.statements.len();
     let depth = random.weighed(&[(6, 0), (4, 1), (4, 3), (1, 48), (1, 49), (2, 50)]);
     state[0] = random.within(0..=count) as u64;
     state[1] = depth as u64;
     for back in &mut state[2..2 + depth] {
         *back = random.within(0..=count) as u64;
     }
+    let entries = draft.entries();
+    if !entries.is_empty() {
+        open_loops(random, draft, &entries, state);
+    }
 }
 
-/// Changes one number of a state to a wrong one, or one at the edge.
-fn unsound(random: &mut Random, count: usize, state: &mut [u64]) {
-    let past = count as u64 + random.pick(&[0, 1, 2]);
+/// Opens loops of these entries, and mostly goes on in the body of the one opened last.
+fn open_loops(random: &mut Random, draft: &Draft, entries: &[usize], state: &mut [u64]) {
+    let opened = random.weighed(&[(6, 0), (8, 1), (4, 2), (2, 15), (3, LOOPS_MOST)]);
+    let mut last = random.pick(entries);
+    let is_same = random.chance(30);
+    let (numbers, slots) = state.split_at_mut(OPENED + 1);
+    numbers[OPENED] = opened as u64;
+    for slot in slots.chunks_exact_mut(3).take(opened) {
+        last = if is_same { last } else { random.pick(entries) };
+        let (limit, step) = (loop_number(random), loop_number(random));
+        let step = if step == 0 { 1 } else { step };
+        slot.copy_from_slice(&[last as u64, limit as u64, step as u64]);
+    }
+    if opened > 0 && random.chance(70) {
+        let end = usize::from(draft.statements[last].c);
+        let at = random.within(last + 1..=end.max(last + 1));
+        numbers[0] = random.pick(&[at, end]) as u64;
+    }
+}
+
+/// A limit or a step: mostly a small one, sometimes one at the edge of the values.
+fn loop_number(random: &mut Random) -> i64 {
+    let greatest = GREATEST as i64;
+    let small = random.below(13) as i64 - 3;
+    let any = (random.next() % GREATEST) as i64;
+    let value = random.weighed(&[(12, small), (1, any), (2, greatest), (1, greatest - 1)]);
+    random.pick(&[value, value, -value])
+}
+
+/// Changes one number of a state, of the statement or the calls, to a wrong one or one at the edge.
+fn unsound(random: &mut Random, draft: &Draft, state: &mut [u64]) {
+    let past = draft.statements.len() as u64 + random.pick(&[0, 1, 2]);
     let wrong = random.pick(&[past, 65_535]);
     match random.below(4) {
         0 => state[0] = wrong,
@@ -160,5 +198,28 @@ fn unsound(random: &mut Random, count: usize, state: &mut [u64]) {
             let at = random.within(2..=51);
             state[at] = random.pick(&[wrong, 1]);
         }
+    }
+}
+
+/// Changes one number of the open loops to a wrong one or one at the edge.
+fn unsound_loops(random: &mut Random, draft: &Draft, loops: &mut [u64]) {
+    let (opened, slots) = loops.split_at_mut(1);
+    let any = random.within(0..=LOOPS_MOST - 1);
+    let last = (opened[0] as usize).saturating_sub(1);
+    let slot = random.pick(&[last, last + 1, any]).min(LOOPS_MOST - 1);
+    let slot = &mut slots[3 * slot..][..3];
+    let past = draft.statements.len() as u64 + random.pick(&[0, 1]);
+    let other = random.below(draft.statements.len().max(1)) as u64;
+    let greatest = GREATEST as i64;
+    let edge = random.pick(&[greatest + 1, -greatest - 1, greatest, i64::MAX, i64::MIN]);
+    match random.below(5) {
+        0 => {
+            let count = opened[0];
+            let counts = [count + 1, count + 1, 17, 255, 65_535, 65_536, 1 << 32];
+            opened[0] = random.pick(&counts);
+        }
+        1 | 2 => slot[0] = random.pick(&[past, other, 65_535, 65_536]),
+        3 => slot[1] = random.pick(&[edge, edge, 1]) as u64,
+        _ => slot[2] = random.pick(&[edge, 0, 1]) as u64,
     }
 }

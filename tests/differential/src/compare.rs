@@ -3,9 +3,10 @@
 use crate::cases::Case;
 use crate::decode::Sound;
 use crate::library::{self, Given, Lent};
+use crate::loops::{Followed, Turn};
 use crate::promises;
 use crate::reached::Reached;
-use second::{Fence, Outcome, State};
+use second::Fence;
 use std::fmt::Debug;
 
 /// Two answers that differ, or a promise that is not kept.
@@ -49,11 +50,15 @@ pub fn compare(case: &Case, reached: &mut Reached) -> Result<(), Difference> {
         let rule = breach(unit, i, reached)?;
         if has_passed {
             reached.formats.breach(&Sound::of(unit), i, rule);
+            reached.loops.breach(unit, i, rule);
         }
         literal(case, i, reached)?;
     }
     let (data, state) = (Lent::bytes(&case.data), Lent::numbers(&case.state));
     let ran = run(case, (data, state), case.allowances[0], reached)?;
+    if has_passed {
+        count_states(case, &ran, reached);
+    }
     let last = match ran.given.result {
         30 => &resume(case, &ran, reached)?,
         _ => &ran,
@@ -66,6 +71,23 @@ pub fn compare(case: &Case, reached: &mut Reached) -> Result<(), Difference> {
     }
     promises::error_changed_nothing(case, &ran)?;
     promises::demand_3(case, &ran, reached)
+}
+
+/// Counts what is open in the state of a case, and in the one that it was left in.
+fn count_states(case: &Case, ran: &Ran, reached: &mut Reached) {
+    let unit = Sound::of(&case.unit);
+    match ran.given.result {
+        6 => {}
+        7 => reached.loops.unsound(&unit, &case.state),
+        stop => {
+            if ran.count > 0 {
+                reached.loops.begun(&unit, &case.state);
+            }
+            if stop == 0 {
+                reached.loops.ended(ran.state.part());
+            }
+        }
+    }
 }
 
 /// The statements to ask about: all of a short unit, some of a long one, and one that is not there.
@@ -82,6 +104,7 @@ fn check(case: &Case, reached: &mut Reached) -> Result<bool, Difference> {
         Err(refusal) => {
             if let stop @ 4..=5 = refusal.stop {
                 reached.formats.refused(&case.unit, stop, refusal.place);
+                reached.loops.refused(&case.unit, stop, refusal.place);
             }
             (refusal.stop.into(), refusal.place as u64, 0)
         }
@@ -104,6 +127,7 @@ fn fence(case: &Case, reached: &mut Reached) -> Result<(), Difference> {
     reached.verdict(given.result.min(2));
     if given.result == 0 {
         reached.formats.fenced(&Sound::of(unit));
+        reached.loops.fenced(&Sound::of(unit));
     }
     same(|| "fence".to_string(), given, expected)
 }
@@ -145,39 +169,6 @@ pub struct Ran {
     pub count: u64,
 }
 
-/// The second interpreter's state of the numbers that are lent, or one that is never sound where
-/// the numbers are too many, too few or too large.
-fn state_of(numbers: &[u64]) -> State {
-    let mut state = State {
-        at: usize::MAX,
-        ..State::START
-    };
-    let small: Option<Vec<u16>> = numbers.iter().map(|&n| u16::try_from(n).ok()).collect();
-    if let Some([at, depth, returns @ ..]) = small.as_deref() {
-        if let Ok(returns) = returns.try_into() {
-            state = State {
-                at: usize::from(*at),
-                depth: usize::from(*depth),
-                returns,
-            };
-        }
-    }
-    state
-}
-
-/// Puts the second interpreter's next state into a lent one, which a refusal leaves as it is.
-fn put_state(outcome: &Outcome, numbers: &mut Lent<u64>) {
-    if (1..=7).contains(&outcome.stop) {
-        return;
-    }
-    let State { at, depth, returns } = outcome.state;
-    let heads = [at as u64, depth as u64].into_iter();
-    let all = heads.chain(returns.map(u64::from));
-    for (number, next) in numbers.part_mut().iter_mut().zip(all) {
-        *number = next;
-    }
-}
-
 /// Runs a case on both sides and compares stop, place, count, state and every byte.
 fn run(
     case: &Case,
@@ -186,32 +177,26 @@ fn run(
     reached: &mut Reached,
 ) -> Result<Ran, Difference> {
     let (mut data, mut state) = from.clone();
-    let outcome = second::run(
-        &case.unit,
-        data.part_mut(),
-        state_of(state.part()),
-        allowance,
-    );
-    put_state(&outcome, &mut state);
-    let stop = u64::from(outcome.stop);
-    let answer = [stop, outcome.place as u64, outcome.count];
+    let answer = second::run_numbers(&case.unit, data.part_mut(), state.part_mut(), allowance);
+    let [stop, place, count] = answer;
     let expected = Ran {
         given: Given::expected(stop, &answer, case.room),
         data,
         state,
-        count: outcome.count,
+        count,
     };
-    let ran = library_run(case, from, allowance, outcome.count);
-    reached.run(ran.given.result, outcome.count);
+    let ran = library_run(case, from, allowance, count);
+    reached.run(ran.given.result, count);
     same(
         || format!("run with allowance {allowance}"),
         &ran,
         &expected,
     )?;
     // A run error has left the data as its statement found it.
-    if let stop @ 20..=26 = stop {
-        let (unit, at) = (Sound::of(&case.unit), outcome.place);
-        reached.blanks.failed(&unit, at, stop, ran.data.part());
+    if let 20..=29 = stop {
+        let unit = Sound::of(&case.unit);
+        let data = ran.data.part();
+        reached.blanks.failed(&unit, place as usize, stop, data);
     }
     Ok(ran)
 }
@@ -232,6 +217,7 @@ pub fn library_run(case: &Case, from: (Lent<u8>, Lent<u64>), allowance: u64, cou
 /// two runs come to what one run with both allowances comes to, which is given.
 fn resume(case: &Case, first: &Ran, reached: &mut Reached) -> Result<Ran, Difference> {
     reached.resumed();
+    reached.loops.paused(first.state.part());
     let [before, more] = case.allowances;
     let from = (first.data.clone(), first.state.clone());
     let mut joined = run(case, from, more, reached)?;
@@ -266,20 +252,28 @@ const STEPS_MOST: usize = 24;
 fn step(case: &Case, reached: &mut Reached) -> Result<(), Difference> {
     let unit = Sound::of(&case.unit);
     let mut from = (Lent::bytes(&case.data), Lent::numbers(&case.state));
+    let mut followed = Followed::new();
     for _ in 0..STEPS_MOST {
         let at = from.1.part().first().map_or(0, |&at| at as usize);
-        let before = from.0.clone();
+        let (before, state) = from.clone();
+        let (before, state) = (before.part(), state.part());
         let ran = run(case, from, 1, reached)?;
         if ran.count == 1 {
             reached.statement(&unit, at);
-            reached
-                .formats
-                .completed(&unit, at, before.part(), ran.data.part());
-            reached.blanks.completed(&unit, at, before.part());
-            reached.letters.completed(&unit, at, before.part());
+            let after = ran.data.part();
+            reached.formats.completed(&unit, at, before, after);
+            reached.blanks.completed(&unit, at, before);
+            reached.letters.completed(&unit, at, before);
+            let turn = Turn {
+                at,
+                before: (before, state),
+                after: (after, ran.state.part()),
+            };
+            reached.loops.completed(&unit, &turn, &mut followed);
         }
-        if (20..=26).contains(&ran.given.result) {
-            reached.formats.failed(&case.unit, at, before.part());
+        if (20..=29).contains(&ran.given.result) {
+            reached.formats.failed(&case.unit, at, before);
+            reached.loops.failed(&case.unit, at, before, state);
         }
         if ran.given.result != 30 {
             break;

@@ -1,18 +1,21 @@
 //! Damaged units: good ones with a part changed, cut or moved, and bytes that were never a unit.
 
-use crate::draft::Draft;
+use crate::decode::Sound;
+use crate::draft::{code, Draft};
 use crate::random::Random;
 
 /// A damaged unit of a draft.
 pub fn damaged(random: &mut Random, mut draft: Draft) -> Vec<u8> {
-    match random.below(20) {
+    match random.below(23) {
         0..5 => edit_statement(random, &mut draft),
         5..8 => edit_field(random, &mut draft),
         8..13 => edit_bytes(random, &mut draft.expressions),
         13 => edit_bytes(random, &mut draft.literals),
-        14..16 => return edit_trailer(random, draft.unit()),
-        16 => return cut(random, draft.unit()),
-        17..19 => return flip(random, draft.unit()),
+        14..16 => edit_loop(random, &mut draft),
+        16 => edit_table(random, &mut draft),
+        17..19 => return edit_trailer(random, draft.unit()),
+        19 => return cut(random, draft.unit()),
+        20..22 => return flip(random, draft.unit()),
         _ => return noise(random),
     }
     draft.unit()
@@ -40,7 +43,7 @@ fn edit_statement(random: &mut Random, draft: &mut Draft) {
     let (i, j) = (random.below(count), random.below(count));
     let statement = &mut draft.statements[i];
     match random.below(12) {
-        0 => statement.code = code(random),
+        0 => statement.code = any_code(random),
         1 => statement.zero = random.pick(&[1, 0x80, 0xFF]),
         2 => statement.a = other(random, statement.a),
         3 => statement.b = other(random, statement.b),
@@ -55,9 +58,41 @@ fn edit_statement(random: &mut Random, draft: &mut Draft) {
     }
 }
 
+/// Changes where a FOR ends, or has its numbers begin with its limit or its step.
+fn edit_loop(random: &mut Random, draft: &mut Draft) {
+    let entries = draft.entries();
+    if entries.is_empty() {
+        return edit_statement(random, draft);
+    }
+    let i = random.pick(&entries);
+    let count = draft.statements.len();
+    let is_end = |i: &usize| draft.statements[*i].code == code::LOOP_END;
+    let mut ends: Vec<usize> = (0..count).filter(is_end).collect();
+    ends.extend([i, random.below(count), count, count + 1]);
+    let [_, limit, step] = Sound::of(&draft.unit()).numbers(draft.statements[i].b);
+    let statement = &mut draft.statements[i];
+    match random.below(3) {
+        0 => statement.c = random.pick(&ends) as u16,
+        1 => statement.b = limit,
+        _ => statement.b = step,
+    }
+}
+
+/// Gives the first GOTO of a table the code of a loop's statement.
+fn edit_table(random: &mut Random, draft: &mut Draft) {
+    let mut codes = draft.statements.iter().map(|statement| statement.code);
+    match codes.position(|code| code == code::COMPUTED_GOTO) {
+        Some(i) if i + 1 < draft.statements.len() => {
+            let code = random.within(usize::from(code::FOR)..=usize::from(code::NEXTLOOP));
+            draft.statements[i + 1].code = code as u8;
+        }
+        _ => edit_statement(random, draft),
+    }
+}
+
 /// A code that a statement may have, the one behind them, or another that none has.
-fn code(random: &mut Random) -> u8 {
-    let near = random.below(15) as u8;
+fn any_code(random: &mut Random) -> u8 {
+    let near = random.below(19) as u8;
     random.weighed(&[(8, near), (1, 27), (1, 255)])
 }
 

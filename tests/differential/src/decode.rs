@@ -21,6 +21,9 @@ pub struct Item {
     length: usize,
 }
 
+/// How many bounds the items 02 to 05 have.
+const BOUNDS: [usize; 4] = [0, 1, 2, 2];
+
 fn word(bytes: &[u8], at: usize) -> u16 {
     u16::from_be_bytes([bytes[at], bytes[at + 1]])
 }
@@ -95,6 +98,23 @@ impl<'a> Sound<'a> {
         items
     }
 
+    /// The offsets of a FOR's start, limit and step, which stand in a row from `offset` on.
+    pub fn numbers(&self, offset: u16) -> [u16; 3] {
+        let limit = self.behind(offset);
+        [offset, limit, self.behind(limit)]
+    }
+
+    /// The offset behind the 00 that closes the expression at `offset`.
+    pub fn behind(&self, offset: u16) -> u16 {
+        let width = |item: &Item| match item.code {
+            0x01 => 4,
+            0x02..=0x05 => 3,
+            0x06 => 5,
+            _ => 1,
+        };
+        offset + self.items(offset).iter().map(width).sum::<u16>() + 1
+    }
+
     /// The expressions that a statement names.
     pub fn uses(&self, statement: &Statement) -> Vec<u16> {
         match statement.code {
@@ -102,8 +122,21 @@ impl<'a> Sound<'a> {
             code::CLEAR..=code::LOCASE => vec![statement.a],
             code::GOTO_IF_ZERO | code::COMPUTED_GOTO => vec![statement.b],
             code::FORMAT => vec![statement.a, statement.b, statement.c],
+            code::FOR => [&[statement.a][..], &self.numbers(statement.b)].concat(),
             _ => vec![],
         }
+    }
+
+    /// The codes in the table of a computed GOTO, as far as there are statements.
+    pub fn table(&self, i: usize) -> Vec<u8> {
+        let end = i + usize::from(self.statement(i).a);
+        let there = (i + 1..=end).take_while(|&i| i < self.statement_count());
+        there.map(|i| self.statement(i).code).collect()
+    }
+
+    /// Whether there is a statement `i`, and it has this code.
+    pub fn is_code(&self, i: usize, code: u8) -> bool {
+        i < self.statement_count() && self.statement(i).code == code
     }
 
     /// Whether statement `i` moves alpha text to a decimal place.
@@ -150,7 +183,7 @@ impl<'a> Sound<'a> {
     }
 
     /// The references of an expression, left to right.
-    fn references(&self, offset: u16) -> Vec<Reference> {
+    pub fn references(&self, offset: u16) -> Vec<Reference> {
         let items = self.items(offset);
         let mut found = Vec::new();
         // The values held, where they are literals, some of them with a negate.
@@ -159,7 +192,7 @@ impl<'a> Sound<'a> {
             let value = match item.code {
                 0x01 => Some(self.literal_value(item)),
                 0x02..=0x05 => {
-                    let count = [0, 1, 2, 2][usize::from(item.code) - 2];
+                    let count = BOUNDS[usize::from(item.code) - 2];
                     let bounds = held.split_off(held.len() - count).into_iter();
                     let bounds: Option<Vec<i64>> = bounds.collect();
                     found.push(Reference {
@@ -210,6 +243,55 @@ impl<'a> Sound<'a> {
     /// The span that a statement has found of such an expression, where its bounds are literals.
     fn span(&self, offset: u16) -> Option<Range<usize>> {
         self.place(offset)?.span
+    }
+
+    /// The values that some items come to over this data, where they are literals, references, sums,
+    /// differences and negates that give no error.
+    fn held(&self, items: &[Item], data: &[u8]) -> Option<Vec<i64>> {
+        let mut held = Vec::new();
+        for &item in items {
+            let value = match item.code {
+                0x01 => self.literal_value(item),
+                0x02..=0x05 => {
+                    let count = BOUNDS[usize::from(item.code) - 2];
+                    let bounds = held.split_off(held.len().checked_sub(count)?);
+                    readable(&data[self.named(item, &bounds)?])?
+                }
+                0x10 | 0x11 => {
+                    let (y, x): (i64, i64) = (held.pop()?, held.pop()?);
+                    x.checked_add(if item.code == 0x10 { y } else { -y })?
+                }
+                0x15 => -held.pop()?,
+                _ => return None,
+            };
+            held.push(value);
+        }
+        Some(held)
+    }
+
+    /// The number that an expression which gives no error comes to over this data, where its items
+    /// are no others than those.
+    pub fn value_over(&self, offset: u16, data: &[u8]) -> Option<i64> {
+        self.held(&self.items(offset), data)?.pop()
+    }
+
+    /// The span that a place which is found names over this data, where the items of its bounds are
+    /// no others than those.
+    pub fn span_over(&self, offset: u16, data: &[u8]) -> Option<Range<usize>> {
+        let items = self.items(offset);
+        let (&reference, bounds) = items.split_last()?;
+        self.named(reference, &self.held(bounds, data)?)
+    }
+
+    /// Whether a place is not found over this data, though its bounds give no error and their items
+    /// are no others than those.
+    pub fn is_lost_over(&self, offset: u16, data: &[u8]) -> bool {
+        let items = self.items(offset);
+        let Some((&reference, bounds)) = items.split_last() else {
+            return false;
+        };
+        let bounds = self.held(bounds, data);
+        bounds.is_some_and(|bounds| self.named(reference, &bounds).is_none())
     }
 
     /// The decimals that statement `i` reads. A place that is written is read by INCR and DECR alone.
@@ -285,12 +367,74 @@ impl<'a> Sound<'a> {
 
     /// Whether a resume state is sound.
     pub fn is_sound_state(&self, state: &[u64]) -> bool {
+        let loops = state.get(OPENED..).unwrap_or_default();
+        self.are_calls_sound(state) && self.wrong_loops(loops) == Some(vec![])
+    }
+
+    /// Whether the statement number and the open calls of a state are sound.
+    pub fn are_calls_sound(&self, state: &[u64]) -> bool {
         let end = self.statement_count() as u64;
-        let [at, depth, returns @ ..] = state else {
+        let Some([at, depth, returns @ ..]) = state.get(..OPENED) else {
             return false;
         };
         let open = |(i, back): (usize, &u64)| *back <= if (i as u64) < *depth { end } else { 0 };
-        returns.len() == 50 && *at <= end && *depth <= 50 && returns.iter().enumerate().all(open)
+        *at <= end && *depth <= 50 && returns.iter().enumerate().all(open)
+    }
+
+    /// What is wrong with the open loops of a state, from the number of them on, each in words; or
+    /// nothing where there are more or fewer numbers.
+    pub fn wrong_loops(&self, loops: &[u64]) -> Option<Vec<&'static str>> {
+        let (&opened, slots) = loops.split_first()?;
+        if slots.len() != 3 * LOOPS_MOST {
+            return None;
+        }
+        let mut wrong = match opened {
+            0..=16 => vec![],
+            17 => vec!["17 open"],
+            65_536.. => vec!["a count over 65,535"],
+            _ => vec!["a count over 17"],
+        };
+        for (i, slot) in slots.chunks_exact(3).enumerate() {
+            if (i as u64) < opened {
+                wrong.extend(self.wrong_open(slot));
+            } else {
+                let words = [
+                    "an entry left over",
+                    "a limit left over",
+                    "a step left over",
+                ];
+                let left = words.into_iter().zip(slot);
+                wrong.extend(
+                    left.filter(|(_, &number)| number != 0)
+                        .map(|(word, _)| word),
+                );
+            }
+        }
+        Some(wrong)
+    }
+
+    /// What is wrong with a loop that is open.
+    fn wrong_open(&self, slot: &[u64]) -> Vec<&'static str> {
+        let is_value = |number: u64| (number as i64).unsigned_abs() < 10_u64.pow(18);
+        let entry = usize::try_from(slot[0]).unwrap_or(usize::MAX);
+        let wrong = [
+            (slot[0] > 65_535, "an entry over 65,535"),
+            (
+                slot[0] <= 65_535 && entry >= self.statement_count(),
+                "an entry not below N",
+            ),
+            (
+                entry < self.statement_count() && !self.is_code(entry, code::FOR),
+                "an entry that is no FOR",
+            ),
+            (!is_value(slot[1]), "a limit that is no value"),
+            (!is_value(slot[2]), "a step that is no value"),
+            (slot[2] == 0, "a step of 0"),
+        ];
+        wrong
+            .into_iter()
+            .filter_map(|(is_so, word)| is_so.then_some(word))
+            .collect()
     }
 
     /// D.
@@ -322,11 +466,41 @@ pub struct Formatted {
 
 /// Whether a statement writes the place that it names.
 pub fn is_written(code: u8) -> bool {
-    matches!(code, code::SET..=code::LOCASE | code::FORMAT)
+    matches!(code, code::SET..=code::LOCASE | code::FORMAT | code::FOR)
+}
+
+/// Where the number of open loops stands in a state, with 16 slots behind it.
+pub const OPENED: usize = 52;
+pub const LOOPS_MOST: usize = 16;
+
+/// An open loop of a state.
+#[derive(Clone, Copy, Debug, PartialEq, Eq)]
+pub struct Open {
+    pub entry: usize,
+    pub limit: i64,
+    pub step: i64,
+}
+
+/// The open loops of a sound state, the one opened last at the end.
+pub fn open_loops(state: &[u64]) -> Vec<Open> {
+    let opened = state[OPENED] as usize;
+    let slots = state[OPENED + 1..].chunks_exact(3).take(opened);
+    slots
+        .map(|slot| Open {
+            entry: slot[0] as usize,
+            limit: slot[1] as i64,
+            step: slot[2] as i64,
+        })
+        .collect()
+}
+
+/// Whether two stretches of the data share a byte.
+pub fn shares(one: &Range<usize>, other: &Range<usize>) -> bool {
+    one.start < other.end && other.start < one.end
 }
 
 /// The value of a valid decimal. A space in front is a zero, as its low bits are.
-fn decimal_value(characters: &[u8]) -> i64 {
+pub fn decimal_value(characters: &[u8]) -> i64 {
     let digit = |character: &u8| i64::from(character & 0x0F);
     let magnitude = characters
         .iter()
@@ -335,6 +509,12 @@ fn decimal_value(characters: &[u8]) -> i64 {
         Some(b'p'..=b'y') => -magnitude,
         _ => magnitude,
     }
+}
+
+/// The value of some characters, where they are a valid decimal of at most 18.
+fn readable(characters: &[u8]) -> Option<i64> {
+    let is_valid = characters.len() <= 18 && bad_character(characters).is_none();
+    is_valid.then(|| decimal_value(characters))
 }
 
 /// How many spaces some characters begin with.
@@ -405,6 +585,63 @@ mod tests {
         let second = sound.formatted(1, &draft.image).unwrap();
         assert_eq!((second.number, second.number_span), (Some(-1), None));
         assert_eq!(unit[sound.place_of(1)], 13);
+    }
+
+    #[test]
+    fn a_for_names_its_numbers_and_its_control_over_the_data() {
+        let draft = Draft::counting_loop();
+        let unit = draft.unit();
+        assert!(second::check(&unit).is_ok());
+        let sound = Sound::of(&unit);
+        let entry = sound.statement(0);
+        assert_eq!(sound.uses(&entry), [0, 7, 11, 16]);
+        assert_eq!(
+            sound.numbers(entry.b).map(|b| sound.value_over(b, b"2003")),
+            [Some(2), Some(9), Some(-4)]
+        );
+        // T(I), over I at 0 and T at 1.
+        assert_eq!(sound.span_over(entry.a, b"2003"), Some(2..3));
+        assert_eq!(sound.span_over(entry.a, b"3003"), Some(3..4));
+        assert_eq!(sound.span_over(entry.a, b"9003"), None);
+        assert_eq!(sound.span_over(entry.a, b"?003"), None);
+    }
+
+    #[test]
+    fn a_sound_state_has_sound_loops() {
+        let unit = Draft::counting_loop().unit();
+        let sound = Sound::of(&unit);
+        let wrong = |numbers: &[(usize, u64)]| {
+            let mut state = vec![0; 101];
+            for &(at, number) in numbers {
+                state[at] = number;
+            }
+            let wrong = sound.wrong_loops(&state[52..]).unwrap();
+            assert_eq!(sound.is_sound_state(&state), wrong.is_empty());
+            wrong
+        };
+        let open = [(52, 1), (54, 9), (55, u64::MAX)];
+        let changed = |more: &[(usize, u64)]| wrong(&[&open[..], more].concat());
+        assert_eq!(wrong(&[]), [""; 0]);
+        assert_eq!(changed(&[]), [""; 0]);
+        assert_eq!(changed(&[(53, 1)]), ["an entry that is no FOR"]);
+        assert_eq!(changed(&[(53, 3)]), ["an entry not below N"]);
+        assert_eq!(changed(&[(53, 65_536)]), ["an entry over 65,535"]);
+        assert_eq!(
+            changed(&[(54, 10_u64.pow(18))]),
+            ["a limit that is no value"]
+        );
+        assert_eq!(changed(&[(55, 1 << 63)]), ["a step that is no value"]);
+        assert_eq!(changed(&[(55, 0)]), ["a step of 0"]);
+        assert_eq!(changed(&[(56, 1)]), ["an entry left over"]);
+        assert_eq!(changed(&[(99, 1)]), ["a limit left over"]);
+        assert_eq!(changed(&[(100, 1)]), ["a step left over"]);
+        let steps: Vec<(usize, u64)> = (0..16).map(|k| (55 + 3 * k, 1)).collect();
+        let full = |opened| wrong(&[&steps[..], &[(52, opened)]].concat());
+        assert_eq!(full(16), [""; 0]);
+        assert_eq!(full(17), ["17 open"]);
+        assert_eq!(full(18), ["a count over 17"]);
+        assert_eq!(full(1 << 32), ["a count over 65,535"]);
+        assert!(!sound.is_sound_state(&[0; 52]) && !sound.is_sound_state(&[0; 102]));
     }
 
     #[test]

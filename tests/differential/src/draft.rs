@@ -78,6 +78,10 @@ pub mod code {
     pub const STOP: u8 = 11;
     pub const COMPUTED_GOTO: u8 = 12;
     pub const FORMAT: u8 = 13;
+    pub const FOR: u8 = 14;
+    pub const LOOP_END: u8 = 15;
+    pub const EXITLOOP: u8 = 16;
+    pub const NEXTLOOP: u8 = 17;
 }
 
 impl Statement {
@@ -108,6 +112,13 @@ impl Draft {
     pub fn numbers_of(&self, is_decimal: bool) -> Vec<usize> {
         (0..self.fields.len())
             .filter(|&i| self.fields[i].is_decimal() == is_decimal)
+            .collect()
+    }
+
+    /// The numbers of the statements that are FORs.
+    pub fn entries(&self) -> Vec<usize> {
+        (0..self.statements.len())
+            .filter(|&i| self.statements[i].code == code::FOR)
             .collect()
     }
 
@@ -158,6 +169,27 @@ impl Draft {
                 .to_vec(),
             literals: b"9103".to_vec(),
             statements: vec![Statement::new(code::FORMAT, a, b, c)],
+        }
+    }
+}
+
+#[cfg(test)]
+impl Draft {
+    /// FOR T(I) = I to 9 by -4, with EXITLOOP in its body, over I and T of three, all of one digit.
+    /// The control stands at 0 of the expressions, the numbers at 7, 11 and 16. E is 22.
+    pub fn counting_loop() -> Draft {
+        Draft {
+            image: b"2003".to_vec(),
+            fields: vec![Field::new(DECIMAL, 0, 1, 1), Field::new(DECIMAL, 1, 1, 3)],
+            expressions: b"\x02\0\0\x03\0\x01\0\
+                \x02\0\0\0\x01\0\0\x01\0\x01\0\x01\x01\x15\0"
+                .to_vec(),
+            literals: b"94".to_vec(),
+            statements: vec![
+                Statement::new(code::FOR, 0, 7, 2),
+                Statement::new(code::EXITLOOP, 0, 0, 0),
+                Statement::new(code::LOOP_END, 0, 0, 0),
+            ],
         }
     }
 }

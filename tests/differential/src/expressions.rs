@@ -101,6 +101,21 @@ impl<'a> Maker<'a> {
         offset
     }
 
+    /// Three numbers in a row, and the offset of the first. One that is not told is any.
+    pub fn row(&mut self, numbers: [Option<i64>; 3]) -> u16 {
+        let [offset, ..] = numbers.map(|number| {
+            let offset = self.draft.expressions.len() as u16;
+            match number {
+                Some(value) => self.constant(value),
+                None => self.value(DEPTH),
+            }
+            self.draft.expressions.push(0);
+            self.made.push((Sort::Number, offset));
+            offset
+        });
+        offset
+    }
+
     /// A reference that stands last.
     fn place(&mut self, is_decimal: bool, is_written: bool) {
         let fields = if is_decimal {

@@ -1,10 +1,10 @@
 //! What formatted moves have reached, counted: how place, mask and number lie, what the mask shows,
 //! which part gives an error before which other, and how a unit with one is refused or fenced.
 
-use crate::decode::{Formatted, Sound};
+use crate::decode::{shares, Formatted, Sound};
 use crate::draft::{code, Statement};
-use crate::ways::Ways;
-use second::State;
+use crate::probes::{fault, passes, probed};
+use crate::ways::{ways_of, Ways};
 use std::cmp::Ordering;
 use std::ops::Range;
 
@@ -55,21 +55,13 @@ const WAYS: [&str; 40] = [
 /// The parts, in the order in which they are worked out.
 const PARTS: [&str; 3] = ["a", "b", "c"];
 
-/// The run errors that a part may give.
-const FAULTS: [u8; 5] = [20, 21, 22, 23, 26];
-
 /// The fence rules that a formatted move may break: it has no decimal destination.
 const BREACHES: [u64; 5] = [1, 2, 3, 4, 6];
 
 /// All ways, in words: those of the whole move, of each part and of the fence.
 fn ways() -> Vec<String> {
     let mut ways = WAYS.map(str::to_string).to_vec();
-    for (i, part) in PARTS.iter().enumerate() {
-        let behind = PARTS[i + 1..].iter();
-        ways.extend(FAULTS.map(|fault| format!("{part} gives {fault}")));
-        ways.extend(behind.map(|other| format!("{part} before another of {other}")));
-        ways.extend(["outside", "of another sort"].map(|how| format!("4 for {part} {how}")));
-    }
+    ways.extend(ways_of(&PARTS));
     ways.extend(BREACHES.map(|rule| format!("rule {rule} broken")));
     ways
 }
@@ -82,10 +74,6 @@ impl Default for Formats {
     fn default() -> Formats {
         Formats(Ways::of(&ways()))
     }
-}
-
-fn shares(one: &Range<usize>, other: &Range<usize>) -> bool {
-    one.start < other.end && other.start < one.end
 }
 
 impl Formats {
@@ -223,17 +211,7 @@ impl Formats {
             probe(Statement::new(code::CLEAR, b, 0, 0)).filter(|_| !is_literal),
             probe(Statement::new(code::GOTO_IF_ZERO, 0, c, 0)),
         ];
-        let given = PARTS.into_iter().zip(faults);
-        let given: Vec<(&str, u8)> = given
-            .filter_map(|(part, fault)| Some((part, fault?)))
-            .collect();
-        let [(part, stop), behind @ ..] = &given[..] else {
-            return;
-        };
-        self.count(&format!("{part} gives {stop}"));
-        for (other, _) in behind.iter().filter(|(_, other)| other != stop) {
-            self.count(&format!("{part} before another of {other}"));
-        }
+        self.0.count_faults(&PARTS, &faults);
     }
 
     /// Counts a refusal by 4 or 5 of a formatted move, or of a table that has one.
@@ -242,9 +220,7 @@ impl Formats {
         let statement = sound.statement(place);
         match (stop, statement.code) {
             (5, code::COMPUTED_GOTO) => {
-                let end = place + usize::from(statement.a);
-                let mut table = (place + 1..=end).take_while(|&i| i < sound.statement_count());
-                let has_one = table.any(|i| sound.statement(i).code == code::FORMAT);
+                let has_one = sound.table(place).contains(&code::FORMAT);
                 self.count_if(has_one, "5 in a table");
             }
             (5, code::FORMAT) => self.count("5 for the zero byte"),
@@ -306,33 +282,6 @@ fn places(classes: &[&str]) -> usize {
     classes.iter().filter(is_place).count()
 }
 
-/// A unit with another statement in the place of statement `i`.
-fn probed(unit: &[u8], sound: &Sound, i: usize, statement: Statement) -> Vec<u8> {
-    let mut unit = unit.to_vec();
-    let at = sound.place_of(i);
-    unit[at..at + 2].copy_from_slice(&[statement.code, 0]);
-    let numbers = [statement.a, statement.b, statement.c];
-    for (number, bytes) in numbers.iter().zip(unit[at + 2..at + 8].chunks_mut(2)) {
-        bytes.copy_from_slice(&number.to_be_bytes());
-    }
-    unit
-}
-
-/// The run error that statement `i` of a unit gives over this data, by the second interpreter.
-fn fault(unit: &[u8], i: usize, data: &[u8]) -> Option<u8> {
-    let state = State {
-        at: i,
-        ..State::START
-    };
-    let stop = second::run(unit, &mut data.to_vec(), state, 1).stop;
-    (20..=26).contains(&stop).then_some(stop)
-}
-
-/// Whether statement `i` of a unit, the first that was refused, passes.
-fn passes(unit: &[u8], i: usize) -> bool {
-    second::check(unit).map_or_else(|refusal| refusal.place > i, |_| true)
-}
-
 #[cfg(test)]
 mod tests {
     use super::*;
@@ -342,8 +291,7 @@ mod tests {
     fn counted(count: impl FnOnce(&mut Formats)) -> Vec<String> {
         let mut formats = Formats::default();
         count(&mut formats);
-        let reached = formats.reached().filter(|(_, count)| *count > 0);
-        reached.map(|(way, _)| way.to_string()).collect()
+        formats.0.met()
     }
 
     #[test]

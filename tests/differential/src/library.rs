@@ -113,6 +113,12 @@ fn given(room: usize, call: impl FnOnce(*mut u64, usize) -> u64) -> Given {
     Given { result, numbers }
 }
 
+/// How many numbers the library's resume state has.
+pub fn state_len() -> usize {
+    // SAFETY: the function takes nothing.
+    unsafe { c::dibol_state_len() as usize }
+}
+
 pub fn check(unit: &[u8], room: usize) -> Given {
     // SAFETY: the pointers are those of slices, lent for their lengths.
     given(room, |answer, len| unsafe {

@@ -3,6 +3,7 @@
 use crate::data::{amount, bad, decimal, digit, mask};
 use crate::draft::{code, Draft, Field, Statement, ALPHA, DECIMAL, RECORD};
 use crate::expressions::{Maker, GREATEST};
+use crate::loop_limits::{control_edges, entry_errors, far, many_open, moving};
 use crate::random::Random;
 use crate::units::random_unit;
 
@@ -11,7 +12,7 @@ type Make = fn(&mut Random) -> Draft;
 
 /// A unit at some limit.
 pub fn limit_unit(random: &mut Random) -> Draft {
-    let makers: [(usize, Make); 13] = [
+    let makers: [(usize, Make); 18] = [
         (1, sizes),
         (12, held),
         (10, nesting),
@@ -25,6 +26,11 @@ pub fn limit_unit(random: &mut Random) -> Draft {
         (2, long_masks),
         (10, mask_errors),
         (2, letters),
+        (10, control_edges),
+        (4, many_open),
+        (30, moving),
+        (30, entry_errors),
+        (2, far),
     ];
     random.weighed(&makers)(random)
 }
@@ -75,7 +81,7 @@ fn fill_up(random: &mut Random, draft: &mut Draft, lengths: [usize; 5]) {
 }
 
 /// A decimal of 18 characters, an alpha, and an array of decimals over all that comes before.
-fn base(random: &mut Random) -> Draft {
+pub fn base(random: &mut Random) -> Draft {
     let mut draft = Draft {
         image: b"000000000000000001          0102030405".to_vec(),
         fields: vec![
@@ -92,7 +98,7 @@ fn base(random: &mut Random) -> Draft {
 }
 
 /// The number of the 18-character decimal of `base`.
-fn wide(draft: &Draft) -> usize {
+pub fn wide(draft: &Draft) -> usize {
     draft.fields.len() - 3
 }
 
@@ -311,7 +317,7 @@ fn format(maker: &mut Maker, [place, mask, number]: [u16; 3]) {
 }
 
 /// Adds an expression and gives its offset.
-fn added(maker: &mut Maker, items: impl FnOnce(&mut Maker)) -> u16 {
+pub fn added(maker: &mut Maker, items: impl FnOnce(&mut Maker)) -> u16 {
     let offset = maker.draft.expressions.len() as u16;
     items(maker);
     maker.draft.expressions.push(0);
@@ -378,7 +384,7 @@ fn mask_errors(random: &mut Random) -> Draft {
 
 /// A number that is 1, is far away from any field, or gives 20, 21, 22, 23 or 26. What gives 22 is
 /// a decimal that reaches into the alpha behind it.
-fn faulty_number(maker: &mut Maker, decimal: usize) {
+pub fn faulty_number(maker: &mut Maker, decimal: usize) {
     let greatest = GREATEST as i64;
     let (x, y, item) = match maker.random.below(10) {
         0..3 => return maker.constant(1),

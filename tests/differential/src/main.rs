@@ -5,7 +5,7 @@
 //!
 //! The exit status is 0 when all answers are the same, 1 when some differ, and 2 when nothing was
 //! asked. With --reached it is also 1 when a stop, a statement, an item, a fence answer, a breach, or
-//! a way of a formatted move or of a blank-padded amount was not reached.
+//! a way of a formatted move, of a blank-padded amount or of a loop was not reached.
 
 mod blanks;
 mod cases;
@@ -19,6 +19,10 @@ mod formats;
 mod letters;
 mod library;
 mod limits;
+mod loop_faults;
+mod loop_limits;
+mod loops;
+mod probes;
 mod promises;
 mod random;
 mod reached;
@@ -68,6 +72,9 @@ fn all_cases(
     match (count, threads::thread_count(threads)) {
         (0, _) => Err("differential: N is 0, so nothing is tried"),
         (_, 0) => Err("differential: THREADS is no number over 0, so nothing is tried"),
+        _ if library::state_len() != second::STATE_LEN => {
+            Err("differential: the library's state has not the numbers of the second interpreter's")
+        }
         (_, threads) => Ok(threads::all_cases(count, seed, threads, wants_all)),
     }
 }

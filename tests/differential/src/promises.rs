@@ -10,7 +10,7 @@ use crate::reached::Reached;
 /// Demand 1: a statement that ends in a run error has changed nothing. A run that is allowed only
 /// the statements before it leaves the same data and the same state.
 pub fn error_changed_nothing(case: &Case, ran: &Ran) -> Result<(), Difference> {
-    if !(20..=26).contains(&ran.given.result) {
+    if !(20..=29).contains(&ran.given.result) {
         return Ok(());
     }
     let start = (Lent::bytes(&case.data), Lent::numbers(&case.state));
@@ -40,6 +40,7 @@ pub fn demand_3(case: &Case, ran: &Ran, reached: &mut Reached) -> Result<(), Dif
     }
     reached.fenced_run();
     reached.blanks.fenced(&unit, &case.data);
+    reached.loops.fenced_run([&case.state, ran.state.part()]);
     let (stop, data) = (ran.given.result, ran.data.part());
     let at = ran.state.part()[0] as usize;
     let told = |what: &'static str| move || format!("demand 3: {what}");

@@ -5,10 +5,16 @@ use crate::cases::{Kind, KINDS};
 use crate::decode::Sound;
 use crate::formats::Formats;
 use crate::letters::Letters;
+use crate::loops::Loops;
 use std::fmt;
 
-/// The stops of document 01.
-const STOPS: [usize; 16] = [0, 1, 2, 3, 4, 5, 6, 7, 20, 21, 22, 23, 24, 25, 26, 30];
+/// The stops of document 01, and those of loops.
+const STOPS: [usize; 19] = [
+    0, 1, 2, 3, 4, 5, 6, 7, 20, 21, 22, 23, 24, 25, 26, 27, 28, 29, 30,
+];
+
+/// How many codes statements have, from 1 on.
+const CODES: usize = 17;
 
 /// The items of document 01, without the 00 that closes.
 const ITEMS: [usize; 22] = [
@@ -24,7 +30,7 @@ pub struct Reached {
     /// Runs, by stop.
     stops: [u64; 31],
     /// Statements completed one at a time, by code.
-    codes: [u64; 14],
+    codes: [u64; CODES + 1],
     /// Items in those statements, by code.
     items: [u64; 32],
     /// Answers of the fence check: yes, no, refused.
@@ -47,6 +53,8 @@ pub struct Reached {
     pub blanks: Blanks,
     /// The bytes that UPCASE and LOCASE have met.
     pub letters: Letters,
+    /// What loops have reached.
+    pub loops: Loops,
 }
 
 impl Reached {
@@ -116,6 +124,7 @@ impl Reached {
         self.formats.add(&other.formats);
         self.blanks.add(&other.blanks);
         self.letters.add(&other.letters);
+        self.loops.add(&other.loops);
     }
 
     /// What was never reached.
@@ -127,7 +136,7 @@ impl Reached {
             }
         };
         look("stop", &self.stops, &STOPS);
-        look("statement code", &self.codes, &range::<13>(1));
+        look("statement code", &self.codes, &range::<CODES>(1));
         look("item", &self.items, &ITEMS);
         look("fence answer", &self.verdicts, &range::<3>(0));
         look("breach", &self.breaches, &range::<7>(0));
@@ -153,6 +162,8 @@ impl Reached {
                     .map(|byte| format!("{name} of byte {byte:02X}")),
             );
         }
+        let loops = self.loops.reached().filter(|(_, count)| *count == 0);
+        missing.extend(loops.map(|(way, _)| format!("of a loop: {way}")));
         missing
     }
 }
@@ -176,7 +187,7 @@ impl fmt::Display for Reached {
         }
         let decimal = |i: usize| i.to_string();
         row(f, "stops", &self.stops, &STOPS, decimal)?;
-        row(f, "statements", &self.codes, &range::<13>(1), decimal)?;
+        row(f, "statements", &self.codes, &range::<CODES>(1), decimal)?;
         row(f, "items", &self.items, &ITEMS, |i| format!("{i:02X}"))?;
         let verdict = |i: usize| ["yes", "no", "refused"][i].to_string();
         row(f, "fence", &self.verdicts, &range::<3>(0), verdict)?;
@@ -206,6 +217,10 @@ impl fmt::Display for Reached {
         write!(f, "\nletters")?;
         for (name, bytes) in self.letters.unmet() {
             write!(f, "  {name} of {} bytes", 256 - bytes.len())?;
+        }
+        write!(f, "\nloops")?;
+        for (way, count) in self.loops.reached() {
+            write!(f, "  {way}: {count}")?;
         }
         Ok(())
     }

@@ -2,11 +2,12 @@
 
 use crate::cases::Case;
 use crate::compare::Difference;
+use second::STATE_LEN;
 use std::fmt;
 use std::panic::catch_unwind;
 
-/// A case in full: seed and number, unit, data, state and allowances, and the run as a question for
-/// `second batch`, which wants a state of 52 numbers.
+/// A case in full: seed and number, unit, data, state and allowances, and where the state has all its
+/// numbers the run as a question for `second batch`.
 pub fn told(seed: u64, number: u64) -> String {
     let Ok(case) = catch_unwind(|| Case::of(seed, number)) else {
         return format!("seed {seed} case {number}: its making panics");
@@ -26,12 +27,10 @@ pub fn told(seed: u64, number: u64) -> String {
     if let Some(great) = case.great {
         lines.push(format!("allowance {great} where these do not end in 30"));
     }
-    if let [at, depth, returns @ ..] = &case.state[..] {
-        let returns: Vec<String> = returns.iter().map(u64::to_string).collect();
-        let returns = returns.join(",");
-        lines.push(format!(
-            "run {unit:?} {data:?} {at} {depth} {returns} {first}"
-        ));
+    if case.state.len() == STATE_LEN {
+        let numbers: Vec<String> = case.state.iter().map(u64::to_string).collect();
+        let state = numbers.join(",");
+        lines.push(format!("run {unit:?} {data:?} {state} {first}"));
     }
     lines.join("\n")
 }

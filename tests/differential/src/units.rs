@@ -14,6 +14,7 @@ pub fn random_unit(random: &mut Random, is_fenced: bool) -> Draft {
     while maker.draft.statements.len() < count {
         statement(&mut maker, count);
     }
+    name_ends(&mut maker);
     if maker.random.chance(5) {
         unused_bytes(&mut maker);
     }
@@ -65,6 +66,11 @@ fn statement(maker: &mut Maker, count: usize) {
         code::GOTO_IF_ZERO => Statement::new(code, 0, maker.expression(Sort::Number), target),
         code::COMPUTED_GOTO => return computed_goto(maker, count),
         code::FORMAT => formatted_move(maker),
+        code::FOR => {
+            let a = written(maker, true);
+            // Its end is named when all statements are there.
+            Statement::new(code, a, numbers(maker), 0)
+        }
         _ => Statement::new(code, 0, 0, 0),
     };
     maker.draft.statements.push(new);
@@ -75,6 +81,7 @@ fn code_of(maker: &mut Maker, count: usize) -> u8 {
     let decimals = usize::from(maker.has_decimals());
     let alphas = usize::from(maker.has_alphas());
     let room = usize::from(maker.draft.statements.len() + 2 <= count);
+    let open = usize::from(is_open(maker));
     maker.random.weighed(&[
         (45 * decimals.max(alphas), code::SET),
         (6 * decimals.max(alphas), code::CLEAR),
@@ -89,7 +96,23 @@ fn code_of(maker: &mut Maker, count: usize) -> u8 {
         (2, code::STOP),
         (6 * room, code::COMPUTED_GOTO),
         (18 * alphas, code::FORMAT),
+        (16 * decimals, code::FOR),
+        (2 + 24 * open, code::LOOP_END),
+        (1 + 3 * open, code::EXITLOOP),
+        (1 + 4 * open, code::NEXTLOOP),
     ])
+}
+
+/// Whether there are more FORs than loop ends so far.
+fn is_open(maker: &Maker) -> bool {
+    let statements = maker.draft.statements.iter();
+    let count = |code: u8| {
+        let coded = statements
+            .clone()
+            .filter(|statement| statement.code == code);
+        coded.count()
+    };
+    count(code::LOOP_END) < count(code::FOR)
 }
 
 /// Whether a place is to be decimal, where there are both sorts of fields or only one.
@@ -146,6 +169,58 @@ fn printed(maker: &mut Maker) -> u16 {
     maker.constant(value);
     maker.draft.expressions.push(0);
     offset
+}
+
+/// The numbers of a FOR: mostly some that come to a few passes, or those of a FOR before it.
+fn numbers(maker: &mut Maker) -> u16 {
+    let made = maker.draft.entries();
+    if !made.is_empty() && maker.random.chance(10) {
+        let other = maker.random.pick(&made);
+        return maker.draft.statements[other].b;
+    }
+    let start = maker.random.below(8) as i64 - 2;
+    let step = maker.random.pick(&[1, 1, 1, 2, 3, -1, -1, -2, -3, 0]);
+    let passes = maker.random.below(5) as i64 - 1;
+    let limit = start + step * passes + maker.random.below(2) as i64;
+    let told = [start, limit, step].map(|number| maker.random.chance(85).then_some(number));
+    maker.row(told)
+}
+
+/// Has each FOR name a loop end behind it, mostly the one that closes it as a bracket does. Where
+/// the last has none, one is added.
+pub fn name_ends(maker: &mut Maker) {
+    let is_end = |statement: &Statement| statement.code == code::LOOP_END;
+    let entries = maker.draft.entries();
+    let statements = &mut maker.draft.statements;
+    let Some(&last) = entries.last() else {
+        return;
+    };
+    if !statements[last..].iter().any(is_end) {
+        statements.push(Statement::new(code::LOOP_END, 0, 0, 0));
+    }
+    for i in entries {
+        let ends = (i + 1..statements.len()).filter(|&end| is_end(&statements[end]));
+        let ends: Vec<usize> = ends.collect();
+        let other = maker.random.pick(&ends);
+        let end = match maker.random.below(100) {
+            0..80 => closing(statements, i).unwrap_or(other),
+            _ => other,
+        };
+        statements[i].c = end as u16;
+    }
+}
+
+/// The loop end that closes the FOR at `i` as a bracket does, if there is one.
+fn closing(statements: &[Statement], i: usize) -> Option<usize> {
+    let mut depth = 0;
+    (i + 1..statements.len()).find(|&at| {
+        match statements[at].code {
+            code::FOR => depth += 1,
+            code::LOOP_END => depth -= 1,
+            _ => {}
+        }
+        depth < 0
+    })
 }
 
 /// Adds a computed GOTO and its table, which may fill the unit to its last statement.
