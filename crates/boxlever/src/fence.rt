@@ -283,9 +283,16 @@ fn say_uses(unit: &[u8], parts: Parts, s: Statement)
     requires { ⌜ Fills (now unit) parts ⌝ }
     requires { ⌜ SoundDialect (parts .dialect) ⌝ }
 {
+    let row = unit_decode::row_of(unit_decode::verb_of(s.code));
+    let count = unit_uses::count_of(unit, parts, row, s);
     let mut k: usize = 0;
-    while k < unit_uses::COUNT {
-        say_use(unit, parts, unit_uses::use_at(s, k));
+    while k < count {
+        let mut rows = [0u16; 1];
+        say_use(
+            unit,
+            parts,
+            unit_uses::use_by(unit, parts, &mut rows, row, s, k),
+        );
         k += 1;
     }
 }

@@ -86,13 +86,18 @@ fn say_parts(parts: Parts) -> usize {
 
 // ---- the statements
 
-// The statement that a statement goes to; one past the last where it goes to none.
+// The statement that a statement goes to, or that is its loop end; one past the last where it names none.
 fn target_of(s: Statement, n: u16) -> u16 {
     let row = unit_decode::row_of(unit_decode::verb_of(s.code));
     let c = row.c;
     match c {
-        Role::Target => s.c,
-        Role::Unused | Role::Written(_) | Role::Read(_) | Role::Table | Role::Never => n,
+        Role::Target | Role::End => s.c,
+        Role::Unused
+        | Role::Written(_)
+        | Role::Read(_)
+        | Role::Table
+        | Role::Numbers
+        | Role::Never => n,
     }
 }
 
@@ -103,7 +108,7 @@ fn set(t: &mut [u8], at: usize, b: u8) {
     }
 }
 
-// Marks each statement that one goes to.
+// Marks each statement that one goes to, and each loop end of one.
 fn mark_targets(unit: &[u8], parts: Parts, marks: &mut [u8]) {
     let mut i: u16 = 0;
     while i < parts.n {

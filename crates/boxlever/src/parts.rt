@@ -58,6 +58,14 @@ pub fn statement_of(unit: &[u8], parts: Parts, i: u16) -> Statement {
     unit_decode::statement(unit, parts, i)
 }
 
+// Where the expression behind the one at an offset starts; the same offset where the lengths do not fill the unit.
+pub fn next_of(unit: &[u8], parts: Parts, e: u16) -> u16 {
+    if unit_decode::full_length(parts) != unit.len() {
+        return e;
+    }
+    unit_decode::next_at(unit, parts, e)
+}
+
 // The bytes of the expressions.
 pub fn expressions_of(unit: &[u8], parts: Parts) -> &[u8] {
     part(

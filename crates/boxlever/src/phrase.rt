@@ -2,6 +2,7 @@
 // An expression is coded in postfix order. Its values stand as texts one after the other in the line, and an operator joins the last ones.
 use crate::parts::field_of;
 use crate::parts::literal_of;
+use crate::parts::next_of;
 use crate::parts::statement_of;
 use crate::say::Line;
 use crate::say::ROOM;
@@ -312,12 +313,23 @@ fn put_targets(l: Line, unit: &[u8], parts: Parts, i: u16, n: u16) -> Line {
     next
 }
 
-// Puts a part of the statement i, by its role: an expression, a target, or the targets of the statements behind it.
+// Puts the three numbers in a row of which the first stands at an offset of the expressions.
+fn put_numbers(l: Line, unit: &[u8], parts: Parts, e: u16) -> Line {
+    let limit = next_of(unit, parts, e);
+    let step = next_of(unit, parts, limit);
+    let mut next = put_expression(l, unit, parts, e);
+    next = put_expression(put_text(next, b" THRU "), unit, parts, limit);
+    put_expression(put_text(next, b" BY "), unit, parts, step)
+}
+
+// Puts a part of the statement i, by its role: an expression, three in a row, a target, the targets of the statements behind it, or its loop end.
 fn put_part(l: Line, unit: &[u8], parts: Parts, i: u16, role: Role, x: u16) -> Line {
     match role {
         Role::Written(_) | Role::Read(_) => put_expression(l, unit, parts, x),
         Role::Target => put_target(l, x, 1),
         Role::Table => put_targets(l, unit, parts, i, x),
+        Role::Numbers => put_numbers(l, unit, parts, x),
+        Role::End => put_form(l, b", ends at L#", x as u64, 0),
         Role::Unused | Role::Never => l,
     }
 }
@@ -354,7 +366,11 @@ pub fn put_statement(l: Line, unit: &[u8], parts: Parts, i: u16) -> Line {
         RETURN|\
         STOP|\
         GOTO (a), b|\
-        a = c, b|",
+        a = c, b|\
+        FOR a = bc|\
+        LOOP END|\
+        EXITLOOP|\
+        NEXTLOOP|",
         s.code,
     );
     let mut next = l;

@@ -1,9 +1,13 @@
-// `boxlever run FILE`: what the bench program writes of the unit, with the data as it is shown; then the stop in words, and what the fields hold after the run.
+// `boxlever run FILE`: what the bench program writes of the unit, with the data as it is shown; then the stop in words, the loops that are still open, and what the fields
+// hold after the run.
 use crate::fields::say_fields;
+use crate::phrase::put_statement;
 use crate::phrase::say_statement;
 use crate::say::Line;
 use crate::say::Show;
+use crate::say::line_for;
 use crate::say::new_line;
+use crate::say::put;
 use crate::say::put_form;
 use crate::say::put_number;
 use crate::say::put_text;
@@ -15,6 +19,9 @@ use crate::words::REFUSED;
 use crate::words::STOPPED;
 use crate::words::put_place;
 use crate::words::put_stop;
+use rules_run::Loop;
+use rules_run::Outcome;
+use rules_run::State;
 use rules_unit::Checked;
 use rules_unit::Parts;
 use rules_unit::Refusal;
@@ -46,6 +53,42 @@ fn say_place(unit: &[u8], parts: Parts, place: u16, show: Show) {
     }
 }
 
+// Puts a value in figures, with a minus before it where it is below 0.
+fn put_value(l: Line, v: i64) -> Line {
+    if v < 0 {
+        let less_one = (-(v + 1)) as u64;
+        return put_number(put(l, b'-'), less_one + 1);
+    }
+    put_number(l, v as u64)
+}
+
+// An open loop: its FOR, with the limit and the step that it was entered with.
+fn say_loop(unit: &[u8], parts: Parts, open: Loop, show: Show) {
+    let entry = open.entry;
+    let mut l = put_form(
+        line_for(show),
+        b"open loop of statement #, to ",
+        entry as u64,
+        0,
+    );
+    l = put_value(l, open.limit);
+    l = put_value(put_text(l, b" by "), open.step);
+    l = put_text(l, b": ");
+    say_line(put_statement(l, unit, parts, entry));
+}
+
+// The loops that are still open, the one opened last first.
+fn say_loops(unit: &[u8], parts: Parts, state: State, show: Show) {
+    let loops = state.loops;
+    let mut left = state.opened as usize;
+    while 0 < left {
+        left -= 1;
+        if left < 16 {
+            say_loop(unit, parts, loops[left], show);
+        }
+    }
+}
+
 // The data: as it is shown, or as it is.
 fn say_data(data: &[u8], show: Show) {
     if !show.raw {
@@ -57,11 +100,12 @@ fn say_data(data: &[u8], show: Show) {
 }
 
 // What is said of a run that is over.
-fn say_run(unit: &[u8], parts: Parts, data: &[u8], number: u8, place: u16, count: u64, show: Show) {
-    say_numbers(number, place, count);
+fn say_run(unit: &[u8], parts: Parts, data: &[u8], number: u8, out: Outcome, show: Show) {
+    say_numbers(number, out.place, out.count);
     say_data(data, show);
-    say_stop(number, count);
-    say_place(unit, parts, place, show);
+    say_stop(number, out.count);
+    say_place(unit, parts, out.place, show);
+    say_loops(unit, parts, out.state, show);
     say_fields(unit, parts, data, true, show);
 }
 
@@ -71,7 +115,7 @@ fn run_data(unit: &[u8], parts: Parts, data: &mut [u8], show: Show) -> u8 {
     let out = dibol::run(unit, data, dibol::start(), 100000);
     let stop = out.stop;
     let number = dibol::stop_number(stop);
-    say_run(unit, parts, data, number, out.place, out.count, show);
+    say_run(unit, parts, data, number, out, show);
     number
 }
 
