@@ -40,19 +40,19 @@
 extern "C" {
 #endif
 
-#define DIBOL_VERSION "0.1.0"
+#define DIBOL_VERSION "0.2.0"
 
 /* Ten thousand for the first number, a hundred for the second, one for the
    third. */
-#define DIBOL_VERSION_NUMBER 100
+#define DIBOL_VERSION_NUMBER 200
 
 /* How many numbers a resume state has. */
-#define DIBOL_STATE_LEN 52
+#define DIBOL_STATE_LEN 101
 
 /* Why a call ended: the stop. Each has the words that dibol_words gives.
 
    The place of a stop is N, the number of statements, for 0; the field entry
-   for 3; the statement for 4, 5 and 20 to 26; the next statement for 30; and 0
+   for 3; the statement for 4, 5 and 20 to 29; the next statement for 30; and 0
    for 1, 2, 6 and 7. Fields and statements are counted from 0.
 
    Later versions may add numbers. */
@@ -72,6 +72,9 @@ enum dibol_stop {
     DIBOL_CALLS_FULL = 24,    /* Calls nested to a depth greater than 50 */
     DIBOL_NO_CALL = 25,       /* RETURN with no CALL or XCALL */
     DIBOL_ROUND_COUNT = 26,   /* The rounding count is not 0 to 18 */
+    DIBOL_ZERO_STEP = 27,     /* The step of a loop is zero */
+    DIBOL_LOOPS_FULL = 28,    /* Loops nested to a depth greater than 16 */
+    DIBOL_NO_LOOP = 29,       /* Loop end, EXITLOOP or NEXTLOOP with no loop open */
     DIBOL_SPENT = 30          /* The allowance was spent before the end */
 };
 
@@ -98,9 +101,11 @@ enum dibol_breach {
    stop, its place, and how many statements this call completed.
 
    `state` holds DIBOL_STATE_LEN numbers: the statement to go on at, the number
-   of open calls, and 50 return numbers. The call rewrites it with the next
-   state. After DIBOL_SPENT, call again with the same unit, buffer and state,
-   and the run goes on as if it had not stopped.
+   of open calls, 50 return numbers, the number of open loops, and for each of
+   16 loops its FOR, its limit and its step. A limit or a step is signed: read
+   it as (int64_t)state[i]. The call rewrites `state` with the next one. After
+   DIBOL_SPENT, call again with the same unit, buffer and state, and the run
+   goes on as if it had not stopped.
 
    - Zero the state for a new run: a finished one, at the end, runs nothing and
      gives DIBOL_END with the count 0.
@@ -113,9 +118,11 @@ enum dibol_breach {
    The unit is checked first (1 to 5). Then the buffer must have the unit's D
    bytes (6), and the state must be sound (7): DIBOL_STATE_LEN numbers, its
    statement and the return numbers of its open calls at most N, at most 50
-   calls open, all other return numbers 0. After 1 to 7 no byte of `bytes` and
-   no number of `state` is changed, and the count is 0. A statement that ends in
-   20 to 26 has changed nothing: the state stands at it, and it is not counted.
+   calls and 16 loops open, each open loop with a FOR of the unit, a limit and a
+   step of at most 18 digits and a step that is not 0, all other numbers 0.
+   After 1 to 7 no byte of `bytes` and no number of `state` is changed, and the
+   count is 0. A statement that ends in 20 to 29 has changed nothing: the state
+   stands at it, and it is not counted.
 
        uint64_t state[DIBOL_STATE_LEN] = {0}, answer[3];
        uint64_t stop;

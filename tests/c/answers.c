@@ -1,5 +1,6 @@
 /* The exact answers of the C library: document 01's example, every refusal, every run error, a
- * formatted move, the fence and its rules, literals, words. */
+ * formatted move, loops and their numbers in the state, states of version 0.1, the fence and its
+ * rules, literals. */
 #include "expect.h"
 
 #define LENGTH(array) (sizeof(array) / sizeof *(array))
@@ -94,6 +95,7 @@ static const char LITERALS[] = "999999999999999999"
 #define NUMBER_1 "\1\0\23\1"
 #define NUMBER_2 "\1\0\24\1"
 #define NUMBER_3 "\1\0\25\1"
+#define NUMBER_9 "\1\0\33\1"
 #define NUMBER_99 "\1\0\0\2"
 #define FIELD(f) "\2\0" f
 #define SUBSCRIPT(f) "\3\0" f
@@ -209,14 +211,14 @@ static void refused_calls(void)
     static const struct {
         size_t at;
         uint64_t number;
-    } unsound[] = {{0, 3},     {1, 51},         {2, 1},          {51, 1},
-                   {0, 65536}, {1, 1ULL << 32}, {2, UINT64_MAX}, {51, 65536}};
+    } unsound[] = {{0, 3},     {1, 51},         {2, 1},          {51, 1},    {52, 1},
+                   {0, 65536}, {1, 1ULL << 32}, {2, UINT64_MAX}, {51, 65536}, {53, 1}};
     uint8_t data[3] = {'4', '1', '!'};
     uint64_t answer[3], state[DIBOL_STATE_LEN] = {0};
 
     SAME(dibol_run(EXAMPLE, 42, data, 1, state, DIBOL_STATE_LEN, 9, answer, 3), 6);
     SAME(dibol_run(EXAMPLE, 42, data, 3, state, DIBOL_STATE_LEN, 9, answer, 3), 6);
-    SAME(dibol_run(EXAMPLE, 42, data, 3, state, 51, 9, answer, 3), 6);
+    SAME(dibol_run(EXAMPLE, 42, data, 3, state, 52, 9, answer, 3), 6);
     for (size_t i = 0; i < LENGTH(unsound); i++) {
         memset(state, 0, sizeof state);
         state[unsound[i].at] = unsound[i].number;
@@ -259,6 +261,108 @@ static void a_formatted_move(void)
     SAME(dibol_literal(unit.bytes, unit.len, 0, answer, 2), 0);
     SAME(answer[0], 0);
     SAME(answer[1], 0);
+}
+
+/* The control place is the decimal of one character, and the numbers stand in a row behind it. */
+#define LOOP(start, limit, step) FIELD("\3") CLOSE start CLOSE limit CLOSE step CLOSE
+
+/* A FOR of these numbers in statement 1, behind a CLEAR of its control place, with its loop end
+ * behind it. */
+static coded loop_of(const char *expressions, size_t length)
+{
+    const entry loop[] = {{2, 0, 0, 0}, {14, 0, 4, 2}, {15, 0, 0, 0}};
+
+    return unit_with(expressions, length, loop, 3);
+}
+
+#define LOOP_OF(...) loop_of(LOOP(__VA_ARGS__), sizeof(LOOP(__VA_ARGS__)) - 1)
+
+/* 27, 28 and 29, and 20 for a control value that does not fit. */
+static void loop_errors(void)
+{
+    static const uint8_t acting[] = {15, 16, 17};
+    const char numbers[] = LOOP(NUMBER_1, NUMBER_9, NUMBER_1);
+    const entry leaking[] = {{14, 0, 4, 2}, {7, 0, 0, 0}, {15, 0, 0, 0}};
+    coded unit = LOOP_OF(NUMBER_1, NUMBER_9, NUMBER_1);
+
+    ran(&unit, 20, 2, 10, "0102wxyz9");
+    unit = LOOP_OF(GREATEST, NUMBER_1, NUMBER_1);
+    ran(&unit, 20, 1, 1, IMAGE);
+    unit = LOOP_OF(GREATEST, NUMBER_1, NUMBER_0);
+    ran(&unit, 27, 1, 1, IMAGE);
+    unit = unit_with(numbers, sizeof numbers - 1, leaking, 3);
+    ran(&unit, 28, 0, 32, "0102wxyz1");
+    for (size_t i = 0; i < LENGTH(acting); i++) {
+        unit = unit_one("", 0, (entry){acting[i], 0, 0, 0});
+        ran(&unit, 29, 0, 0, IMAGE);
+    }
+}
+
+/* An open loop stands in the state, its limit and its step with their signs, and is gone from it
+ * when the loop is left. */
+static void a_loop(void)
+{
+    const coded unit = LOOP_OF(NUMBER_3, NUMBER_1 NEGATE, NUMBER_2 NEGATE);
+    uint8_t data[sizeof IMAGE - 1];
+    uint64_t answer[3], state[DIBOL_STATE_LEN] = {0}, next[DIBOL_STATE_LEN] = {2};
+
+    next[52] = 1;
+    next[53] = 1;
+    next[54] = (uint64_t)(int64_t)-1;
+    next[55] = (uint64_t)(int64_t)-2;
+    memcpy(data, IMAGE, sizeof data);
+    SAME(dibol_run(unit.bytes, unit.len, data, sizeof data, state, DIBOL_STATE_LEN, 2, answer, 3),
+         30);
+    SAME_BYTES(state, next, sizeof state);
+    SAME_BYTES(data, "0102wxyz3", sizeof data);
+    SAME(dibol_run(unit.bytes, unit.len, data, sizeof data, state, DIBOL_STATE_LEN, 9, answer, 3),
+         0);
+    SAME(answer[2], 3);
+    memset(next, 0, sizeof next);
+    next[0] = 3;
+    SAME_BYTES(state, next, sizeof state);
+    SAME_BYTES(data, "0102wxyzs", sizeof data);
+}
+
+/* A state with one open loop that has another number in one place, and what a run with nothing
+ * allowed says of it: 30, or 7. */
+static void loop_state(const coded *unit, size_t at, uint64_t number, uint64_t stop)
+{
+    uint8_t data[sizeof IMAGE - 1];
+    uint64_t answer[3], state[DIBOL_STATE_LEN] = {2};
+
+    state[52] = 1;
+    state[53] = 1;
+    state[54] = 9;
+    state[55] = 1;
+    state[at] = number;
+    memcpy(data, IMAGE, sizeof data);
+    SAME(dibol_run(unit->bytes, unit->len, data, sizeof data, state, DIBOL_STATE_LEN, 0, answer, 3),
+         stop);
+    SAME(state[at], number);
+}
+
+/* Each way in which an open loop is unsound, beside the numbers that are just sound. */
+static void loop_states(void)
+{
+    static const struct {
+        size_t at;
+        uint64_t number;
+    } unsound[] = {{52, 0}, {52, 2}, {52, 17}, {52, 65537}, {53, 0}, {53, 2}, {53, 3},
+                   {53, 65537}, {55, 0}, {56, 1}, {57, 1}, {58, 1}, {98, 1}, {100, UINT64_MAX}};
+    const uint64_t greatest = 999999999999999999;
+    const coded unit = LOOP_OF(NUMBER_1, NUMBER_9, NUMBER_1);
+
+    loop_state(&unit, 52, 1, 30);
+    for (size_t at = 54; at <= 55; at++) {
+        loop_state(&unit, at, greatest, 30);
+        loop_state(&unit, at, greatest + 1, 7);
+        loop_state(&unit, at, -greatest, 30);
+        loop_state(&unit, at, -greatest - 1, 7);
+    }
+    loop_state(&unit, 54, 0, 30);
+    for (size_t i = 0; i < LENGTH(unsound); i++)
+        loop_state(&unit, unsound[i].at, unsound[i].number, 7);
 }
 
 static void pausing(void)
@@ -328,6 +432,41 @@ static void foreign_states(void)
     SAME(dibol_run(EXAMPLE, 42, example, 2, state, DIBOL_STATE_LEN, 9, answer, 3), 7);
 }
 
+/* A state that version 0.1 saved after so many statements has 52 numbers. With 49 zeros behind them
+ * it is the state that is handed back now, and the run goes on as it would have. */
+static void old_state(const coded *unit, const uint64_t *saved, uint64_t allowance, uint64_t stop,
+                      uint64_t place, const char *wanted)
+{
+    uint8_t data[sizeof IMAGE - 1];
+    uint64_t answer[3], state[DIBOL_STATE_LEN] = {0}, now[DIBOL_STATE_LEN] = {0};
+
+    memcpy(data, IMAGE, sizeof data);
+    memcpy(state, saved, 52 * sizeof *saved);
+    SAME(dibol_run(unit->bytes, unit->len, data, sizeof data, now, DIBOL_STATE_LEN, allowance,
+                   answer, 3),
+         30);
+    SAME_BYTES(state, now, sizeof state);
+    SAME(dibol_run(unit->bytes, unit->len, data, sizeof data, state, DIBOL_STATE_LEN, 9, answer, 3),
+         stop);
+    SAME(answer[1], place);
+    SAME_BYTES(data, wanted, sizeof data);
+}
+
+/* Such states inside a call, and with all 50 calls open. */
+static void old_states(void)
+{
+    const entry called[] = {{9, 0, 0, 2}, {11, 0, 0, 0}, {3, 0, 0, 0}, {10, 0, 0, 0}};
+    const entry calling[] = {{9, 0, 0, 0}};
+    const coded inside = unit_with(FIELD("\0") CLOSE, 4, called, 4);
+    const coded full = unit_with("", 0, calling, 1);
+    uint64_t calls[52] = {0, 50};
+
+    for (size_t i = 2; i < LENGTH(calls); i++)
+        calls[i] = 1;
+    old_state(&inside, (uint64_t[52]){3, 1, 1}, 2, 0, 4, "0202wxyz0");
+    old_state(&full, calls, 50, 24, 0, IMAGE);
+}
+
 /* Expects the fence to name statement 1, behind a STOP, and the number of a rule. */
 static void fenced_off(const char *expressions, size_t length, entry statement, uint64_t rule)
 {
@@ -377,9 +516,9 @@ static void literals(void)
 
 static void versions(void)
 {
-    SAME(dibol_version(), 100);
+    SAME(dibol_version(), 200);
     SAME(dibol_state_len(), DIBOL_STATE_LEN);
-    SAME(DIBOL_STATE_LEN, 52);
+    SAME(DIBOL_STATE_LEN, 101);
 }
 
 int main(void)
@@ -389,9 +528,13 @@ int main(void)
     refused_calls();
     run_errors();
     a_formatted_move();
+    loop_errors();
+    a_loop();
+    loop_states();
     pausing();
     starting_anew();
     foreign_states();
+    old_states();
     fence_rules();
     literals();
     versions();

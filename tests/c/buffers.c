@@ -3,10 +3,11 @@
 #include "expect.h"
 
 #define ZONE 16
-#define MOST 64
+#define MOST 128
+#define WORDS_MOST 64
 #define UNTOUCHED 0xA5A5A5A5A5A5A5A5u
 
-static const size_t LENGTHS[] = {0, 1, 2, 3, 4, 51, 52, 53};
+static const size_t LENGTHS[] = {0, 1, 2, 3, 4, 51, 52, 53, 100, 101, 102};
 #define LENGTH_COUNT (sizeof LENGTHS / sizeof *LENGTHS)
 
 /* Numbers to lend, between two red zones. */
@@ -58,7 +59,7 @@ static void answers(size_t length)
     holds(length, ran, 3);
 }
 
-/* A state of every length, all zero: 52 numbers are run from, and any other length is 7. */
+/* A state of every length, all zero: 101 numbers are run from, and any other length is 7. */
 static void states(size_t length)
 {
     const uint64_t zeros[MOST] = {0}, next[DIBOL_STATE_LEN] = {2};
@@ -79,11 +80,11 @@ static void states(size_t length)
 /* The words of a stop with room for none, some and all of them. */
 static void words_of(uint64_t stop)
 {
-    uint8_t whole[MOST], some[ZONE + MOST + ZONE], expected_bytes[sizeof some];
+    uint8_t whole[WORDS_MOST], some[ZONE + WORDS_MOST + ZONE], expected_bytes[sizeof some];
     size_t length = dibol_words(stop, whole, sizeof whole);
 
     SAME(length < sizeof whole, 1);
-    for (size_t room = 0; room <= length + 2 && room <= MOST; room++) {
+    for (size_t room = 0; room <= length + 2 && room <= WORDS_MOST; room++) {
         memset(some, 0xA5, sizeof some);
         memset(expected_bytes, 0xA5, sizeof expected_bytes);
         memcpy(expected_bytes + ZONE, whole, room < length ? room : length);
@@ -97,7 +98,8 @@ static void words_of(uint64_t stop)
 /* Every stop has words, no other number has, and where the manuals have words they are these. */
 static void words(void)
 {
-    static const uint64_t stops[] = {0, 1, 2, 3, 4, 5, 6, 7, 20, 21, 22, 23, 24, 25, 26, 30};
+    static const uint64_t stops[] = {0,  1,  2,  3,  4,  5,  6,  7,  20, 21,
+                                     22, 23, 24, 25, 26, 27, 28, 29, 30};
     static const struct {
         uint64_t stop;
         const char *words;
@@ -106,7 +108,7 @@ static void words(void)
                   {22, "Bad digit encountered"},
                   {23, "Attempt to divide by zero"},
                   {25, "RETURN with no CALL or XCALL"}};
-    uint8_t text[MOST];
+    uint8_t text[WORDS_MOST];
     size_t next = 0;
 
     for (uint64_t stop = 0; stop < 300; stop++) {
@@ -116,10 +118,10 @@ static void words(void)
         SAME(dibol_words(stop, text, 0) > 0, is_stop);
         words_of(stop);
     }
-    SAME(dibol_words(UINT64_MAX, text, MOST), 0);
-    SAME(dibol_words((1ULL << 32) + 20, text, MOST), 0);
+    SAME(dibol_words(UINT64_MAX, text, WORDS_MOST), 0);
+    SAME(dibol_words((1ULL << 32) + 20, text, WORDS_MOST), 0);
     for (size_t i = 0; i < sizeof manual / sizeof *manual; i++) {
-        SAME(dibol_words(manual[i].stop, text, MOST), strlen(manual[i].words));
+        SAME(dibol_words(manual[i].stop, text, WORDS_MOST), strlen(manual[i].words));
         SAME_BYTES(text, manual[i].words, strlen(manual[i].words));
     }
 }

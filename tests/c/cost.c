@@ -1,5 +1,6 @@
 /* The times that docs/HOST.md speaks of, taken anew and printed: of a call before its first
- * statement, and of statements. What is expected of them leaves room for a busy machine.
+ * statement, and of statements; FORs that share a long row of numbers among them. What is expected
+ * of them leaves room for a busy machine.
  *
  *     cost [FILES..]     of these units as well
  */
@@ -34,7 +35,8 @@ static void put_words(size_t count, const size_t *words)
     put_words(sizeof((size_t[]){__VA_ARGS__}) / sizeof(size_t), (size_t[]){__VA_ARGS__})
 
 /* Kinds and codes, each with the zero byte behind it. */
-enum { DECIMAL = 0x0100, SET = 0x0100, GOTO = 0x0700, MARK = 0x4442 };
+enum { ALPHA = 0x0000, DECIMAL = 0x0100, MARK = 0x4442 };
+enum { SET = 0x0100, GOTO = 0x0700, FOR = 0x0E00, LOOP_END = 0x0F00 };
 
 /* A SET of A from a sum of so many terms B, and a GOTO back to it; both have seven digits. */
 static void loop_of(size_t terms)
@@ -66,6 +68,28 @@ static void longest(void)
     for (size_t i = 0; i < 2048; i++)
         WORDS(SET, 0, 4, 0);
     WORDS(16383, 512, 16383, 4095, 2048, MARK);
+}
+
+/* 2,047 FORs to one loop end. In the row of numbers at 4 the start is a sum of 3,273 ones, so that
+ * limit and step stand behind 16 KB. At 10, and every 5 bytes on, a row starts inside one of these
+ * ones, at 01 00 [02 01 10], and shares all that stands behind it. Each FOR has the row so many bytes
+ * behind that of the FOR before it. */
+static void loops_by_rows(size_t first, size_t stride)
+{
+    memset(unit, '0', 279);
+    unit_len = 279;
+    for (size_t i = 0; i < 272; i++)
+        WORDS(ALPHA, i, 1, 1);
+    WORDS(DECIMAL, 272, 7, 1);
+    put("\2\1\20\0" "\1\0\2\1", 8);
+    for (size_t i = 1; i < 3273; i++)
+        put("\1\0\2\1\20", 5);
+    put("\0" "\1\0\2\7\0" "\1\0\2\1\0", 11);
+    put("..1999999", 9);
+    for (size_t i = 0; i < 2047; i++)
+        WORDS(FOR, 0, first + stride * i, 2047);
+    WORDS(LOOP_END, 0, 0, 0);
+    WORDS(279, 273, 16379, 9, 2048, MARK);
 }
 
 static void read_file(const char *name)
@@ -140,7 +164,7 @@ static void print_times(const char *name)
 
 int main(int argc, char **argv)
 {
-    double short_check, short_run;
+    double short_check, short_run, long_check;
 
     loop_of(1);
     print_times("A = B");
@@ -154,7 +178,15 @@ int main(int argc, char **argv)
     longest();
     SAME(unit_len, UNIT_MOST);
     print_times("the longest");
-    SAME(fastest(check) > 10 * short_check, 1);
+    long_check = fastest(check);
+    SAME(long_check > 10 * short_check, 1);
+    for (size_t stride = 0; stride <= 5; stride += 5) {
+        loops_by_rows(stride ? 10 : 4, stride);
+        print_times(stride ? "FORs by the ends of one row" : "FORs by one row");
+        SAME(completed, 16);
+        SAME(fastest(check) < 20 * long_check, 1);
+        SAME(fastest(fence) < 20 * long_check, 1);
+    }
     for (int i = 1; i < argc; i++) {
         read_file(argv[i]);
         print_times(argv[i]);

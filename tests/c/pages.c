@@ -101,6 +101,7 @@ static void run(const lent *l, record *r)
         note(r, stop);
         note_all(r, l->answers[3], 3);
         note_all(r, l->state, 4);
+        note_all(r, l->state + 52, 4);
     }
     for (size_t i = 0; i < l->data_len; i++)
         note(r, l->data[i]);

@@ -11,11 +11,12 @@
 #![no_std]
 #![warn(missing_docs)]
 
-/// How many numbers a resume state has: the statement, the open calls and 50 return numbers.
-pub const DIBOL_STATE_LEN: usize = 52;
+/// How many numbers a resume state has: the statement, the open calls, 50 return numbers, the open
+/// loops, and the FOR, the limit and the step of each of 16 loops.
+pub const DIBOL_STATE_LEN: usize = 101;
 
 extern "C" {
-    /// The version of the library: 100 is 0.1.0.
+    /// The version of the library: 200 is 0.2.0.
     pub fn dibol_version() -> u64;
 
     /// How many numbers the library's resume state has.

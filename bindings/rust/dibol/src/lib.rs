@@ -35,14 +35,14 @@ mod unit;
 
 pub use dibol_sys as ffi;
 pub use fence::{Breach, Verdict};
-pub use state::State;
+pub use state::{Loop, State};
 pub use stop::{Refusal, Stop};
 pub use unit::{Outcome, Unit};
 
-/// The version of the library that is linked: 100 is 0.1.0.
+/// The version of the library that is linked: 200 is 0.2.0.
 ///
 /// ```
-/// assert_eq!(dibol::version() / 100, 1);
+/// assert_eq!(dibol::version() / 100, 2);
 /// ```
 pub fn version() -> u64 {
     // SAFETY: the function takes nothing and reads nothing.

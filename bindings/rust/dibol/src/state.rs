@@ -3,7 +3,17 @@
 use crate::ffi::DIBOL_STATE_LEN;
 use crate::unit::Unit;
 
-/// Where a run goes on: the next statement, the number of open calls and 50 return numbers.
+/// How many calls can be open, each with a return number.
+const CALLS: usize = 50;
+
+/// How many loops can be open, each with a slot of three numbers.
+const LOOPS: usize = 16;
+
+/// Where the number of open loops stands, with the slots behind it.
+const OPEN_LOOPS: usize = 2 + CALLS;
+
+/// Where a run goes on: the next statement, the open calls with their return numbers, and the open
+/// loops.
 ///
 /// A state is a value: [`Unit::run`](crate::Unit::run) takes it and hands back the next one. A new
 /// run takes [`State::START`]; a finished state, as [`State::is_end`] says, runs nothing.
@@ -13,7 +23,7 @@ use crate::unit::Unit;
 ///
 /// ```
 /// use dibol::State;
-/// let saved: [u64; 52] = State::START.into();
+/// let saved: [u64; 101] = State::START.into();
 /// assert_eq!(State::from(saved), State::START);
 /// ```
 #[derive(Clone, Copy, Debug, PartialEq, Eq, Hash)]
@@ -21,8 +31,19 @@ pub struct State {
     numbers: [u64; DIBOL_STATE_LEN],
 }
 
+/// An open loop: its FOR, its limit and its step.
+#[derive(Clone, Copy, Debug, PartialEq, Eq, Hash)]
+pub struct Loop {
+    /// The number of its FOR statement.
+    pub entry: u64,
+    /// The limit that the FOR has worked out.
+    pub limit: i64,
+    /// The step that the FOR has worked out.
+    pub step: i64,
+}
+
 impl State {
-    /// The state of a new run: statement 0, and no call open.
+    /// The state of a new run: statement 0, with no call and no loop open.
     pub const START: State = State {
         numbers: [0; DIBOL_STATE_LEN],
     };
@@ -46,7 +67,23 @@ impl State {
     /// The 50 return numbers. Those of the open calls come first, the last opened last; the others
     /// of a sound state are zero.
     pub fn returns(&self) -> &[u64] {
-        &self.numbers[2..]
+        &self.numbers[2..OPEN_LOOPS]
+    }
+
+    /// The number of open loops.
+    pub fn open_loops(&self) -> u64 {
+        self.numbers[OPEN_LOOPS]
+    }
+
+    /// The 16 slots for loops. Those of the open loops come first, the last opened last; the others
+    /// of a sound state are zero.
+    pub fn loops(&self) -> [Loop; LOOPS] {
+        let slots = &self.numbers[OPEN_LOOPS + 1..];
+        std::array::from_fn(|k| Loop {
+            entry: slots[3 * k],
+            limit: slots[3 * k + 1] as i64,
+            step: slots[3 * k + 2] as i64,
+        })
     }
 
     /// The numbers as the C library takes them, to be rewritten.
@@ -62,7 +99,7 @@ impl Default for State {
     }
 }
 
-/// A state from its numbers: the statement, the open calls, the return numbers.
+/// A state from its numbers, which docs/HOST.md lists.
 impl From<[u64; DIBOL_STATE_LEN]> for State {
     fn from(numbers: [u64; DIBOL_STATE_LEN]) -> State {
         State { numbers }

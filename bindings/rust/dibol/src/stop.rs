@@ -1,4 +1,4 @@
-//! Why a call ended: the stops of document 01, with their numbers and words.
+//! Why a call ended: the stops of the papers, with their numbers and words.
 
 use crate::ffi;
 use std::error::Error;
@@ -47,6 +47,12 @@ pub enum Stop {
     NoCall,
     /// 26: The rounding count is not 0 to 18.
     RoundCount,
+    /// 27: The step of a loop is zero.
+    ZeroStep,
+    /// 28: Loops nested to a depth greater than 16.
+    LoopsFull,
+    /// 29: Loop end, EXITLOOP or NEXTLOOP with no loop open.
+    NoLoop,
     /// 30: The allowance was spent before the end.
     Spent,
     /// A number that this version of the crate has no name for.
@@ -54,7 +60,7 @@ pub enum Stop {
 }
 
 /// The stops that have a name, each with its number.
-const NAMED: [(u64, Stop); 16] = [
+const NAMED: [(u64, Stop); 19] = [
     (0, Stop::End),
     (1, Stop::NotFilled),
     (2, Stop::BadRange),
@@ -70,11 +76,14 @@ const NAMED: [(u64, Stop); 16] = [
     (24, Stop::CallsFull),
     (25, Stop::NoCall),
     (26, Stop::RoundCount),
+    (27, Stop::ZeroStep),
+    (28, Stop::LoopsFull),
+    (29, Stop::NoLoop),
     (30, Stop::Spent),
 ];
 
 impl Stop {
-    /// Document 01's number of the stop.
+    /// The papers' number of the stop.
     pub fn number(self) -> u64 {
         if let Stop::Other(number) = self {
             return number;
@@ -88,9 +97,9 @@ impl Stop {
         (1..=7).contains(&self.number())
     }
 
-    /// Whether a statement could not be completed, 20 to 26: it has changed nothing.
+    /// Whether a statement could not be completed, 20 to 29: it has changed nothing.
     pub fn is_run_error(self) -> bool {
-        (20..=26).contains(&self.number())
+        (20..=29).contains(&self.number())
     }
 }
 
@@ -160,8 +169,8 @@ mod tests {
         }
         let named = |number: &u64| !matches!(Stop::from(*number), Stop::Other(_));
         let numbers: Vec<u64> = (0..=100).filter(named).collect();
-        let paper = [0, 1, 2, 3, 4, 5, 6, 7, 20, 21, 22, 23, 24, 25, 26, 30];
-        assert_eq!(numbers, paper);
+        let papers: Vec<u64> = (0..=7).chain(20..=30).collect();
+        assert_eq!(numbers, papers);
     }
 
     #[test]
@@ -182,6 +191,7 @@ mod tests {
                 .collect()
         };
         assert_eq!(numbers(Stop::is_refusal), [1, 2, 3, 4, 5, 6, 7]);
-        assert_eq!(numbers(Stop::is_run_error), [20, 21, 22, 23, 24, 25, 26]);
+        let run_errors: Vec<u64> = (20..=29).collect();
+        assert_eq!(numbers(Stop::is_run_error), run_errors);
     }
 }

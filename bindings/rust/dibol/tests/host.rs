@@ -1,6 +1,6 @@
 //! The binding against the linked library: exact answers, as a host sees them.
 
-use dibol::{ffi, Breach, Refusal, State, Stop, Unit, Verdict};
+use dibol::{ffi, Breach, Loop, Refusal, State, Stop, Unit, Verdict};
 
 /// The 42 bytes of document 01's example: INCR of "41", then STOP.
 const EXAMPLE: [u8; 42] = *b"41\x01\0\0\0\0\x02\0\x01\x02\0\0\0\
@@ -50,9 +50,9 @@ fn refusal(unit: &[u8]) -> Option<(u64, usize)> {
 #[test]
 fn the_state_has_the_librarys_length() {
     // SAFETY: the function takes nothing.
-    assert_eq!(unsafe { ffi::dibol_state_len() }, 52);
-    assert_eq!(<[u64; 52]>::from(State::START).len(), ffi::DIBOL_STATE_LEN);
-    assert_eq!(dibol::version(), 100);
+    assert_eq!(unsafe { ffi::dibol_state_len() }, 101);
+    assert_eq!(<[u64; 101]>::from(State::START).len(), ffi::DIBOL_STATE_LEN);
+    assert_eq!(dibol::version(), 200);
 }
 
 #[test]
@@ -93,8 +93,17 @@ fn a_refused_run_changes_nothing() {
     let outcome = unit.run(&mut long, State::START, 9);
     assert_eq!((outcome.stop, outcome.count), (Stop::WrongSize, 0));
     assert_eq!((long, outcome.state), (*b"411", State::START));
-    for (entry, number) in [(0, 3), (1, 51), (2, 1), (51, 1), (0, 65_536), (1, u64::MAX)] {
-        let mut numbers = [0; 52];
+    let calls = [(0, 3), (1, 51), (2, 1), (51, 1), (0, 65_536), (1, u64::MAX)];
+    let loops = [
+        (52, 1),
+        (52, 17),
+        (53, 1),
+        (54, 1),
+        (55, 1),
+        (100, u64::MAX),
+    ];
+    for (entry, number) in calls.into_iter().chain(loops) {
+        let mut numbers = [0; 101];
         numbers[entry] = number;
         let state = State::from(numbers);
         let mut data = *b"41";
@@ -162,6 +171,56 @@ fn a_formatted_move_stores_what_its_mask_shows() {
     assert_eq!(outcome.count, 1);
     assert_eq!(data, b"0102 .1-");
     assert!(unit.literal(0).is_empty());
+}
+
+/// The unit of a FOR over the one digit of its data, from 5 down to the limit -1 by the step -3, with
+/// a loop end behind it.
+fn downward() -> Vec<u8> {
+    let numbers = b"\x01\0\0\x01\0\x01\0\x01\x01\x15\0\x01\0\x02\x01\x15\0";
+    let expressions = [b"\x02\0\0\0", &numbers[..]].concat();
+    let statements = [(14, 0, 4, 1), (15, 0, 0, 0)];
+    coded(
+        b"0",
+        &[(DECIMAL, 0, 1, 1)],
+        &expressions,
+        b"513",
+        &statements,
+    )
+}
+
+#[test]
+fn an_open_loop_stands_in_the_state() {
+    let bytes = downward();
+    let unit = Unit::check(&bytes).unwrap();
+    assert_eq!(unit.fence(), Verdict::Yes);
+    let mut data = *b"0";
+    let half = unit.run(&mut data, State::START, 2);
+    assert_eq!((half.stop, half.place, data), (Stop::Spent, 1, *b"2"));
+    let (entry, limit, step) = (0, -1, -3);
+    assert_eq!(half.state.open_loops(), 1);
+    assert_eq!(half.state.loops()[0], Loop { entry, limit, step });
+    let numbers: [u64; 101] = half.state.into();
+    let kept = [1, 0, -1_i64 as u64, -3_i64 as u64];
+    assert_eq!(
+        (&numbers[52..56], &numbers[56..]),
+        (&kept[..], &[0; 45][..])
+    );
+    let end = unit.run(&mut data, half.state, 9);
+    assert_eq!((end.stop, end.place, end.count), (Stop::End, 2, 2));
+    assert_eq!((end.state.open_loops(), data), (0, *b"t"));
+    assert_eq!(end.state.loops(), State::START.loops());
+}
+
+#[test]
+fn a_loop_end_without_a_loop_is_29() {
+    let bytes = downward();
+    let unit = Unit::check(&bytes).unwrap();
+    let mut numbers = [0; 101];
+    numbers[0] = 1;
+    let mut data = *b"0";
+    let outcome = unit.run(&mut data, State::from(numbers), 9);
+    assert_eq!((outcome.stop, outcome.place), (Stop::NoLoop, 1));
+    assert_eq!((outcome.count, data), (0, *b"0"));
 }
 
 #[test]
