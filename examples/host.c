@@ -57,7 +57,7 @@ static void print_fence(const uint8_t *unit, size_t unit_len)
 static uint64_t run_in_slices(const uint8_t *unit, size_t unit_len, uint8_t *data, size_t data_len,
                               uint64_t slice)
 {
-    uint64_t state[DIBOL_STATE_LEN] = {0}; /* statement 0, no call open */
+    uint64_t state[DIBOL_STATE_LEN] = {0}; /* statement 0, nothing open */
     uint64_t answer[3] = {0, 0, 0};        /* stop, place, count */
     uint64_t stop, allowance, left = STATEMENTS_MOST, slices = 0;
 
