@@ -173,7 +173,7 @@ pub struct State {
 
 impl State {
     // CALL: the number after this statement is stored, and the run goes on at to. The return numbers are changed in a copy of their own, here and in
-    // `back`: changed where they stand, they have the compiler copy the whole state some times over, 667 instructions more for a CALL and its RETURN.
+    // `back`: changed where they stand, they have the compiler copy the whole state some times over, 663 instructions more for a CALL and its RETURN.
     pub fn call(mut self, to: u16) -> Self
         requires { ⌜ (self .at < 65535) × (self .depth < 50) ⌝ }
         ensures { λ r. ⌜ r ≡ called self to ⌝ }
