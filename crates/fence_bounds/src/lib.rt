@@ -218,7 +218,7 @@ fn start_bound(form: Form, s: Seen) -> i64
 
 // ---- the span
 
-// The bytes that a reference names by its bounds; Outside where 21 would be given.
+// The bytes that a reference names by its bounds, of a strict field too; Outside where the rule of document 01 gives 21.
 pub fn fixed_span(unit: &[u8], parts: Parts, form: Form, field: u16, s: Seen) -> Span
     requires { ⌜ Fills (now unit) parts ⌝ }
     requires { ⌜ field < parts .f ⌝ }

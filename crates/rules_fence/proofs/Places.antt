@@ -12,17 +12,19 @@ use lib.IntN.{ℤ, pos}
 use lib.ListN.{length}
 use borrow.Author.Tests.{ltb-true}
 use Rattle.rules.specs.declared.Fault.the-variants as fault
+use Rattle.rules_unit.specs.declared.Rule.{Rule}
 use Rattle.rules_unit.specs.declared.Form.{Form}
 use Rattle.rules_unit.specs.declared.Form.the-variants as form
-use Rattle.rules_unit.specs.Codes.{Code, decimalb}
+use Rattle.rules_unit.specs.Codes.{Code, ruleOf, decimalb}
 use Rattle.rules_unit.specs.Sound.{SoundCode}
 use Rattle.rules_run.specs.declared.Span.{Span}
 use Rattle.rules_run.specs.declared.Span.the-variants.{At, Outside}
 use Rattle.rules_run.specs.declared.Worked.{Worked}
 use Rattle.rules_run.specs.declared.Worked.the-variants as worked
-use Rattle.rules_run.specs.Spans.{spanOf}
+use Rattle.rules_run.specs.Spans.{spanOf, spanBy}
 use Rattle.rules_run.specs.Evaluation.{asPlace, placeBy, place}
 use Rattle.rules_run.proofs.Located.{span-some}
+use Rattle.rules_run.proofs.Strict.{found-held}
 use Rattle.rules_fence.specs.declared.Seen.{Seen}
 use Rattle.rules_fence.specs.declared.Seen.the-variants as seen
 use Rattle.rules_fence.specs.Bounds.{fixedSpan}
@@ -83,6 +85,11 @@ module _ (c : Code) (s : SoundCode c) (d : List ℕ) (e : length d ≡ c .size) 
 
     -- ---- a last reference
 
+    -- the fence rules keep a span inside its field, so it is found by either rule
+    pub kept-found : (r : Rule) (h : Form) (x y : ℤ) (span : Span) → span ≡ spanOf (length d) (c .field f) h x y → SpanKept c dest f span → spanBy r (length d) (c .field f) h x y ≡ span
+    kept-found r h x y Outside q k = absurd k
+    kept-found r h x y (At a n) q k = found-held (length d) (c .field f) r h x y (k .from, k .to) (sym q)
+
     module _ (h : Form) (x y : ℤ) where
       as-place : (span : Span) → f < c .fields → span ≡ spanOf (length d) (c .field f) h x y → SpanKept c dest f span → WorkedOk c dest span (asPlace c f span)
       as-place Outside k q r = absurd r
@@ -100,8 +107,8 @@ module _ (c : Code) (s : SoundCode c) (d : List ℕ) (e : length d ≡ c .size) 
       unfolding placeBy
       place-by span q r = by (ltb f (c .fields)) refl
         where
-          by : (t : Bool) → ltb f (c .fields) ≡ t → WorkedOk c dest span (cond t (asPlace c f (spanOf (length d) (c .field f) h x y)) (worked.Failed fault.Malformed))
-          by true p = rw (← q) (as-place span (ltb-true f (c .fields) p) q r)
+          by : (t : Bool) → ltb f (c .fields) ≡ t → WorkedOk c dest span (cond t (asPlace c f (spanBy (ruleOf (c .field f)) (length d) (c .field f) h x y)) (worked.Failed fault.Malformed))
+          by true p = rw (kept-found (ruleOf (c .field f)) h x y span q r) (as-place span (ltb-true f (c .fields) p) q r)
           by false p = refl
 
     pub place-ok : (h : Form) (b : Seen) (st : List ℤ) → SpanKept c dest f (fixedSpan c h f b) → HeldAs b st → WorkedOk c dest (fixedSpan c h f b) (place c d h f st)

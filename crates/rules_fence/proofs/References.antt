@@ -13,13 +13,13 @@ use Rattle.rules.specs.declared.Num.the-variants.{Failed}
 use Rattle.rules_unit.specs.declared.Form.{Form}
 use Rattle.rules_unit.specs.declared.Form.the-variants as form
 use Rattle.rules_unit.specs.declared.Item.the-variants as item
-use Rattle.rules_unit.specs.Codes.{Code, decimalb}
+use Rattle.rules_unit.specs.Codes.{Code, ruleOf, decimalb}
 use Rattle.rules_unit.specs.Expressions.{formTakes}
 use Rattle.rules_unit.specs.Sound.{SoundCode}
 use Rattle.rules_run.specs.declared.Span.{Span}
 use Rattle.rules_run.specs.declared.Span.the-variants.{At, Outside}
 use Rattle.rules_run.specs.declared.Worked.{Worked}
-use Rattle.rules_run.specs.Spans.{spanOf}
+use Rattle.rules_run.specs.Spans.{spanOf, spanBy}
 use Rattle.rules_run.specs.Evaluation.{readSpan, reference, apply, stepBy, onHeld}
 use Rattle.rules_run.proofs.Located.{span-some}
 use Rattle.rules_run.proofs.Faults.{on-room}
@@ -29,7 +29,7 @@ use Rattle.rules_fence.specs.Fence.{SpanKept}
 use Rattle.rules_fence.specs.Destinations.{AllValid}
 use Rattle.rules_fence.proofs.Elements.{span-reads}
 use Rattle.rules_fence.proofs.Mild.{mildb, mildNum, mild-value, Mild}
-use Rattle.rules_fence.proofs.Places.{HeldAs, fixed-whole, fixed-element, fixed-range, fixed-length}
+use Rattle.rules_fence.proofs.Places.{HeldAs, kept-found, fixed-whole, fixed-element, fixed-range, fixed-length}
 
 module _ (c : Code) (s : SoundCode c) (d : List ℕ) (e : length d ≡ c .size) (v : AllValid c d) (f : ℕ) where
   ref-mild : (h : Form) (x y : ℤ) (span : Span) → span ≡ spanOf (length d) (c .field f) h x y → SpanKept c false f span → mildNum false (reference c d h f x y) ≡ true
@@ -41,8 +41,8 @@ module _ (c : Code) (s : SoundCode c) (d : List ℕ) (e : length d ≡ c .size) 
       read k t Outside q r = absurd r
 
       by : (t u : Bool) → ltb f (c .fields) ≡ t → decimalb c f ≡ u
-          → mildNum false (cond t (cond u (readSpan c d (spanOf (length d) (c .field f) h x y)) (Failed fault.Malformed)) (Failed fault.Malformed)) ≡ true
-      by true true p o = rw (← q) (read (ltb-true f (c .fields) p) o span q r)
+          → mildNum false (cond t (cond u (readSpan c d (spanBy (ruleOf (c .field f)) (length d) (c .field f) h x y)) (Failed fault.Malformed)) (Failed fault.Malformed)) ≡ true
+      by true true p o = rw (kept-found c s d e false f (ruleOf (c .field f)) h x y span q r) (read (ltb-true f (c .fields) p) o span q r)
       by true false p o = refl
       by false u p o = refl
 

@@ -85,7 +85,7 @@ boundedb form.PosLength seen.Nothing = false
 boundedb form.PosLength (seen.One y plain) = false
 boundedb form.PosLength (seen.Two x y plain) = true
 
--- The span by the rules of a run: Outside where 21 would be given, and where a bound is not written so.
+-- The span by the rule of document 01, of a strict field too: Outside where that gives 21, and where a bound is not written so.
 unfoldable pub fixedSpan : Code → Form → ℕ → Seen → Span
 fixedSpan c form.First f s = spanOf (c .size) (c .field f) form.First (pos 0) (pos 0)
 fixedSpan c form.Subscript f seen.Nothing = Outside

@@ -107,7 +107,7 @@ SpanKept c dest f Outside = ⊥
 
 -- ---- references, expressions and statements
 
--- The span by the rules of a run. Bounds that are written in the unit are the same in every run, so the span is fixed.
+-- The span by the rule of document 01, of a strict field too. Bounds that are written in the unit are the same in every run, so the span is fixed.
 pub record RefFenced (c : Code) (dest : Bool) (h : Form) (f : ℕ) (before : List Item) : Type 0 where
   pub x : ℤ
   pub y : ℤ

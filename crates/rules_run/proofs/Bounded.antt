@@ -24,7 +24,7 @@ use Rattle.rules_unit.specs.declared.Form.{Form}
 use Rattle.rules_unit.specs.declared.Form.the-variants as form
 use Rattle.rules_unit.specs.declared.Item.{Item}
 use Rattle.rules_unit.specs.declared.Item.the-variants as item
-use Rattle.rules_unit.specs.Codes.{Code, decimalb}
+use Rattle.rules_unit.specs.Codes.{Code, ruleOf, decimalb}
 use Rattle.rules_unit.specs.Decode.{SoundDialect}
 use Rattle.rules_unit.specs.Expressions.{opTakes, takes, textb}
 use Rattle.rules_unit.specs.Sound.{SoundCode}
@@ -32,9 +32,10 @@ use Rattle.rules_run.specs.declared.Span.{Span}
 use Rattle.rules_run.specs.declared.Span.the-variants.{At, Outside}
 use Rattle.rules_run.specs.declared.Worked.{Worked}
 use Rattle.rules_run.specs.declared.Worked.the-variants as worked
-use Rattle.rules_run.specs.Spans.{spanOf}
+use Rattle.rules_run.specs.Spans.{spanBy}
 use Rattle.rules_run.specs.Evaluation.{apply, Held, go, halt, stepBy, left, onHeld, asPlace, placeBy, place, textBy, lastOf, workedFrom, workedOf, numberOf, readAt, Within}
 use Rattle.rules_run.proofs.Located.{found-inside, span-some}
+use Rattle.rules_run.proofs.Strict.{found-loose}
 use Rattle.rules_run.proofs.Ranges.{apply-range, read-range}
 use Rattle.rules_run.proofs.Held.{Vals, HeldIn, step-in}
 
@@ -62,9 +63,11 @@ module _ (c : Code) (d : List ℕ) (bound : ℕ) (truths : 1 < bound) (sums : c 
   by-bounded : (h : Form) (f : ℕ) (x y : ℤ) → Bounded bound c (length d) (placeBy c d h f x y)
   unfolding placeBy
   by-bounded h f x y =
-      cond-case (Bounded bound c (length d)) (ltb f (c .fields)) (asPlace c f (spanOf (length d) (c .field f) h x y)) (worked.Failed fault.Malformed)
-      (λ l. found-bounded f (spanOf (length d) (c .field f) h x y)
-      (λ a n e. (found-inside (length d) (c .field f) h x y e, λ sized. span-some (length d) (c .field f) h x y (sized f (ltb-true f (c .fields) l)) e)))
+      cond-case (Bounded bound c (length d)) (ltb f (c .fields)) (asPlace c f (spanBy (ruleOf (c .field f)) (length d) (c .field f) h x y)) (worked.Failed fault.Malformed)
+      (λ l. found-bounded f (spanBy (ruleOf (c .field f)) (length d) (c .field f) h x y)
+      (λ a n e.
+      let loose = found-loose (length d) (c .field f) (ruleOf (c .field f)) h x y e in
+      (found-inside (length d) (c .field f) h x y loose, λ sized. span-some (length d) (c .field f) h x y (sized f (ltb-true f (c .fields) l)) loose)))
       (λ _. tt)
 
   place-bounded : (h : Form) (f : ℕ) (st : List ℤ) → Bounded bound c (length d) (place c d h f st)

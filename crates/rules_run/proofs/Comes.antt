@@ -17,14 +17,14 @@ use Rattle.rules_unit.specs.declared.Item.{Item}
 use Rattle.rules_unit.specs.declared.Item.the-variants as item
 use Rattle.rules_unit.specs.declared.Sort.{Sort}
 use Rattle.rules_unit.specs.declared.Sort.the-variants as sort
-use Rattle.rules_unit.specs.Codes.{Code, decimalb}
+use Rattle.rules_unit.specs.Codes.{Code, ruleOf, decimalb}
 use Rattle.rules_unit.specs.Expressions.{opTakes, formTakes, takes, itemb, placeSort, sortOf}
 use Rattle.rules_unit.proofs.Items.{op-two}
 use Rattle.rules_run.specs.declared.Span.{Span}
 use Rattle.rules_run.specs.declared.Span.the-variants.{At, Outside}
 use Rattle.rules_run.specs.declared.Worked.{Worked}
 use Rattle.rules_run.specs.declared.Worked.the-variants as worked
-use Rattle.rules_run.specs.Spans.{spanOf}
+use Rattle.rules_run.specs.Spans.{spanBy}
 use Rattle.rules_run.specs.Evaluation.{apply, left, asPlace, placeBy, place, lastOf}
 use Rattle.rules_run.proofs.Faults.{calc-passes}
 use Rattle.rules_run.proofs.Formed.{formedb, literal-formed, step-formed}
@@ -52,7 +52,7 @@ module _ (c : Code) (d : List ℕ) where
 
   by-comes : (h : Form) (f : ℕ) (x y : ℤ) → ltb f (c .fields) ≡ true → Comes (placeSort (decimalb c f)) (placeBy c d h f x y)
   unfolding placeBy
-  by-comes h f x y e = rw e (span-comes f (spanOf (length d) (c .field f) h x y))
+  by-comes h f x y e = rw e (span-comes f (spanBy (ruleOf (c .field f)) (length d) (c .field f) h x y))
 
   place-comes : (h : Form) (f : ℕ) (st : List ℤ) → ltb f (c .fields) ≡ true → length st ≡ formTakes h → Comes (placeSort (decimalb c f)) (place c d h f st)
   unfolding place

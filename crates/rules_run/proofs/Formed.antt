@@ -16,13 +16,13 @@ use Rattle.rules.specs.declared.Num.{Num}
 use Rattle.rules.specs.declared.Num.the-variants.{Value, Failed}
 use Rattle.rules_unit.specs.declared.Item.{Item}
 use Rattle.rules_unit.specs.declared.Item.the-variants as item
-use Rattle.rules_unit.specs.Codes.{Code, decimalb}
+use Rattle.rules_unit.specs.Codes.{Code, ruleOf, decimalb}
 use Rattle.rules_unit.specs.Expressions.{numberb, itemb, placeSort, sortOf, goesOn}
 use Rattle.rules_run.specs.declared.Span.{Span}
 use Rattle.rules_run.specs.declared.Span.the-variants.{At, Outside}
 use Rattle.rules_run.specs.declared.Worked.{Worked}
 use Rattle.rules_run.specs.declared.Worked.the-variants as worked
-use Rattle.rules_run.specs.Spans.{spanOf}
+use Rattle.rules_run.specs.Spans.{spanBy}
 use Rattle.rules_run.specs.Evaluation.{literalNumber, readSpan, reference, apply, push, room, stepBy, onHeld}
 use Rattle.rules_run.proofs.Faults.{passes, calc-passes, read-passes}
 
@@ -55,8 +55,8 @@ module _ (c : Code) where
   item-formed d (item.Number p l) x y o g = literal-formed p l o
   item-formed d (item.Reference h f) x y o g = rw o (by (decimalb c f) g)
     where
-      by : (t : Bool) → goesOn (placeSort t) ≡ true → passes formedb (cond t (readSpan c d (spanOf (length d) (c .field f) h x y)) (Failed fault.Malformed)) ≡ true
-      by true g = span-formed d (spanOf (length d) (c .field f) h x y)
+      by : (t : Bool) → goesOn (placeSort t) ≡ true → passes formedb (cond t (readSpan c d (spanBy (ruleOf (c .field f)) (length d) (c .field f) h x y)) (Failed fault.Malformed)) ≡ true
+      by true g = span-formed d (spanBy (ruleOf (c .field f)) (length d) (c .field f) h x y)
       by false g = absurd (false≢true g)
   item-formed d (item.Text p l) x y o g = absurd (false≢true g)
   item-formed d (item.Operator q) x y o g = calc-passes formedb refl refl refl (c .dialect .top) q x y

@@ -2,8 +2,9 @@ pub mod Stored
 pub mod Located
 pub mod Ranges
 pub mod Held
-pub mod Bounded
 pub mod Faults
+pub mod Strict
+pub mod Bounded
 pub mod Formed
 pub mod Comes
 pub mod Sorted

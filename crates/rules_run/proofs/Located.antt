@@ -124,7 +124,7 @@ module _ (size o : ℕ) where
 
 -- ---- what is named, both ways
 
-not-at : (a n : ℕ) → Outside ≡ At a n → ⊥
+pub not-at : (a n : ℕ) → Outside ≡ At a n → ⊥
 not-at a n e = let z : _≡_ {A = ℕ} 0 1 = cc in omega arith
 
 module _ (size : ℕ) where

@@ -28,11 +28,11 @@ use Rattle.rules_unit.specs.declared.Op.{Op}
 use Rattle.rules_unit.specs.declared.Op.the-variants as op
 use Rattle.rules_unit.specs.declared.Item.{Item}
 use Rattle.rules_unit.specs.declared.Item.the-variants as item
-use Rattle.rules_unit.specs.Codes.{Code, decimalb}
+use Rattle.rules_unit.specs.Codes.{Code, ruleOf, decimalb}
 use Rattle.rules_unit.specs.Expressions.{digitsb, numberb}
 use Rattle.rules_run.specs.declared.Span.{Span}
 use Rattle.rules_run.specs.declared.Span.the-variants.{At, Outside}
-use Rattle.rules_run.specs.Spans.{spanOf}
+use Rattle.rules_run.specs.Spans.{spanBy}
 use Rattle.rules_run.specs.Evaluation.{calc, digitsFrom, literalNumber, readAt, readSpan, reference, apply}
 
 pub range-up : {low high : ℕ} → low ≤ high → (n : Num) → InRange low n → InRange high n
@@ -97,7 +97,7 @@ module _ (c : Code) (d : List ℕ) (bound : ℕ) (truths : 1 < bound) (sums : c 
   unfolding reference
   reference-range h f x y =
       cond-case (InRange bound) (ltb f (c .fields)) _ (Failed fault.Malformed)
-      (λ _. cond-case (InRange bound) (decimalb c f) _ (Failed fault.Malformed) (λ _. span-range (spanOf (length d) (c .field f) h x y)) (λ _. tt))
+      (λ _. cond-case (InRange bound) (decimalb c f) _ (Failed fault.Malformed) (λ _. span-range (spanBy (ruleOf (c .field f)) (length d) (c .field f) h x y)) (λ _. tt))
       (λ _. tt)
 
   pub apply-range : (i : Item) (x y : ℤ) → Val bound x → Val bound y → InRange bound (apply c d i x y)

@@ -20,13 +20,13 @@ use Rattle.rules_unit.specs.declared.Form.{Form}
 use Rattle.rules_unit.specs.declared.Form.the-variants as form
 use Rattle.rules_unit.specs.declared.Item.{Item}
 use Rattle.rules_unit.specs.declared.Item.the-variants as item
-use Rattle.rules_unit.specs.Codes.{Code, decimalb}
+use Rattle.rules_unit.specs.Codes.{Code, ruleOf, decimalb}
 use Rattle.rules_unit.specs.Expressions.{opTakes, takes, textb}
 use Rattle.rules_run.specs.declared.Span.{Span}
 use Rattle.rules_run.specs.declared.Span.the-variants.{At, Outside}
 use Rattle.rules_run.specs.declared.Worked.{Worked}
 use Rattle.rules_run.specs.declared.Worked.the-variants as worked
-use Rattle.rules_run.specs.Spans.{spanOf}
+use Rattle.rules_run.specs.Spans.{spanBy}
 use Rattle.rules_run.specs.Evaluation.{readAt, readSpan, reference, apply, left, asPlace, placeBy, place, lastOf, workedFrom, workedOf, numberOf}
 use Rattle.rules_run.specs.Turns.{counted}
 use Rattle.rules_run.proofs.Faults.{passes, pass-cond, kept-passes, calc-passes, read-passes, alpha-passes, literal-passes, step-any}
@@ -72,7 +72,7 @@ module _ (c : Code) (d : List ℕ) where
   item-works (item.Number p l) x y = literal-passes workb refl c p l
   item-works (item.Reference h f) x y =
       pass-cond workb (ltb f (c .fields)) _ (Failed fault.Malformed)
-      (pass-cond workb (decimalb c f) _ (Failed fault.Malformed) (span-works (spanOf (length d) (c .field f) h x y)) refl) refl
+      (pass-cond workb (decimalb c f) _ (Failed fault.Malformed) (span-works (spanBy (ruleOf (c .field f)) (length d) (c .field f) h x y)) refl) refl
   item-works (item.Text p l) x y = refl
   item-works (item.Operator o) x y = calc-passes workb refl refl refl (c .dialect .top) o x y
   item-works item.End x y = refl
@@ -93,7 +93,7 @@ module _ (c : Code) (d : List ℕ) where
 
   by-works : (h : Form) (f : ℕ) (x y : ℤ) → Works (placeBy c d h f x y)
   unfolding placeBy
-  by-works h f x y = cond-either Works (ltb f (c .fields)) _ (worked.Failed fault.Malformed) (as-works f (spanOf (length d) (c .field f) h x y)) refl
+  by-works h f x y = cond-either Works (ltb f (c .fields)) _ (worked.Failed fault.Malformed) (as-works f (spanBy (ruleOf (c .field f)) (length d) (c .field f) h x y)) refl
 
   place-works : (h : Form) (f : ℕ) (st : List ℤ) → Works (place c d h f st)
   unfolding place

@@ -29,13 +29,13 @@ use Rattle.rules_unit.specs.declared.Op.{Op}
 use Rattle.rules_unit.specs.declared.Op.the-variants as op
 use Rattle.rules_unit.specs.declared.Item.{Item}
 use Rattle.rules_unit.specs.declared.Item.the-variants as item
-use Rattle.rules_unit.specs.Codes.{Code, decimalb}
+use Rattle.rules_unit.specs.Codes.{Code, ruleOf, decimalb}
 use Rattle.rules_unit.specs.Expressions.{opTakes, takes, numberb, textb}
 use Rattle.rules_run.specs.declared.Span.{Span}
 use Rattle.rules_run.specs.declared.Span.the-variants.{At, Outside}
 use Rattle.rules_run.specs.declared.Worked.{Worked}
 use Rattle.rules_run.specs.declared.Worked.the-variants as worked
-use Rattle.rules_run.specs.Spans.{spanOf}
+use Rattle.rules_run.specs.Spans.{spanBy}
 
 -- ---- items
 
@@ -75,11 +75,12 @@ abbrev pub readSpan : Code → List ℕ → Span → Num
 readSpan c d (At a n) = readAt c d a n
 readSpan c d Outside = Failed fault.Outside
 
--- "02 field; 03 field(subscript); 04 field(start,end); 05 field(pos:length)", read where it stands: 21, then 20, then 22
+-- "02 field; 03 field(subscript); 04 field(start,end); 05 field(pos:length)", found by the rule that the field chooses and read where it stands: 21, then
+-- 20, then 22
 unfoldable pub reference : Code → List ℕ → Form → ℕ → ℤ → ℤ → Num
 reference c d h f x y =
     cond (ltb f (c .fields))
-    (cond (decimalb c f) (readSpan c d (spanOf (length d) (c .field f) h x y)) (Failed fault.Malformed))
+    (cond (decimalb c f) (readSpan c d (spanBy (ruleOf (c .field f)) (length d) (c .field f) h x y)) (Failed fault.Malformed))
     (Failed fault.Malformed)
 
 abbrev pub apply : Code → List ℕ → Item → ℤ → ℤ → Num
@@ -133,7 +134,7 @@ asPlace c f Outside = worked.Failed fault.Outside
 
 unfoldable pub placeBy : Code → List ℕ → Form → ℕ → ℤ → ℤ → Worked
 placeBy c d h f x y =
-    cond (ltb f (c .fields)) (asPlace c f (spanOf (length d) (c .field f) h x y)) (worked.Failed fault.Malformed)
+    cond (ltb f (c .fields)) (asPlace c f (spanBy (ruleOf (c .field f)) (length d) (c .field f) h x y)) (worked.Failed fault.Malformed)
 
 -- A last reference takes all that is held as its bounds.
 unfoldable pub place : Code → List ℕ → Form → ℕ → List ℤ → Worked

@@ -1,15 +1,22 @@
--- The bytes that a reference names (document 01, "Values and references").
---   within size a n             n bytes from a, where they lie inside size bytes
---   spanOf size field form x y  the span of a reference with its bounds x and y, inside size bytes
---   Located field form x y a n  n bytes from a on are that span, said by natural numbers
+-- The bytes that a reference names (document 01, "Values and references"; request 5 of document 02, "Strict arrays, by choice").
+--   within size a n                  n bytes from a, where they lie inside size bytes
+--   spanOf size field form x y       the span of a reference with its bounds x and y, inside size bytes
+--   insideb field a n                whether n bytes from a on lie inside the field
+--   heldTo rule field span           what a rule makes of a span that was found
+--   spanBy rule size field form x y  the span of a reference by a rule
+--   Located field form x y a n       n bytes from a on are the span of a reference, said by natural numbers
+--   Inside field a n                 they lie inside the field
 -- The size is D, the length of the data. Bounds are any numbers: nothing wraps.
 -- Assumes nothing.
 use mathlib.Core.Path.{_≡_}
 use Prim.Native.Nat.{ℕ, zero, suc, _+_, _*_, _≤_}
-use mathlib.Core.Bool.{cond}
+use mathlib.Core.Bool.{Bool, cond}
 use lib.Dec.{leb}
 use lib.IntN.{ℤ, pos, negsuc, natAbs, _+ℤ_, _-ℤ_, _*ℤ_}
 use lib.Signed.{leZ}
+use Rattle.rules.specs.Tests.{_&&_}
+use Rattle.rules_unit.specs.declared.Rule.{Rule}
+use Rattle.rules_unit.specs.declared.Rule.the-variants as rule
 use Rattle.rules_unit.specs.declared.Field.{Field}
 use Rattle.rules_unit.specs.declared.Form.{Form}
 use Rattle.rules_unit.specs.declared.Form.the-variants as form
@@ -47,6 +54,27 @@ spanOf size f form.Subscript x y = subscriptSpan size (f .offset) (f .size) x
 spanOf size f form.StartEnd x y = startEndSpan size (f .offset) x y
 spanOf size f form.PosLength x y = posLengthSpan size (f .offset) x y
 
+-- ---- strict fields
+
+-- "that field's size x count bytes": the n bytes from a on lie inside them
+abbrev pub insideb : Field → ℕ → ℕ → Bool
+insideb f a n = leb (f .offset) a && leb (a + n) (f .offset + f .count * f .size)
+
+-- "with it, 21 is given whenever the span leaves that field's size x count bytes"
+abbrev pub heldTo : Rule → Field → Span → Span
+heldTo rule.Loose f s = s
+heldTo rule.Strict f (At a n) = cond (insideb f a n) (At a n) Outside
+heldTo rule.Strict f Outside = Outside
+
+-- "Finding a span must now promise which of the two rules it followed". Without bounds it is the first element, which never leaves its field.
+abbrev pub spanBy : Rule → ℕ → Field → Form → ℤ → ℤ → Span
+spanBy r size f form.First x y = spanOf size f form.First x y
+spanBy r size f form.Subscript x y = heldTo r f (spanOf size f form.Subscript x y)
+spanBy r size f form.StartEnd x y = heldTo r f (spanOf size f form.StartEnd x y)
+spanBy r size f form.PosLength x y = heldTo r f (spanOf size f form.PosLength x y)
+
+-- ---- spans by natural numbers
+
 -- The same sentences by natural numbers: the n bytes from a on are those of a reference with the bounds x and y, wherever they lie.
 abbrev pub Located : Field → Form → ℤ → ℤ → ℕ → ℕ → Type 0
 -- "no bounds gives the first element"
@@ -62,3 +90,7 @@ Located f form.StartEnd (negsuc s) y a n = ⊥
 Located f form.PosLength (pos p) (pos k) a n = (1 ≤ p) × (1 ≤ k) × (a + 1 ≡ f .offset + p) × (n ≡ k)
 Located f form.PosLength (pos p) (negsuc k) a n = (1 ≤ p) × (a + n ≡ f .offset + p) × (n ≡ suc k)
 Located f form.PosLength (negsuc p) y a n = ⊥
+
+-- "that field's size x count bytes", as insideb tests them.
+abbrev pub Inside : Field → ℕ → ℕ → Type 0
+Inside f a n = (f .offset ≤ a) × (a + n ≤ f .offset + f .count * f .size)

@@ -5,12 +5,13 @@ use native.Mathlib.Omega.{arith}
 use native.Mathlib.Nat.{mul-le-mul}
 use mathlib.Core.Path.{_≡_, refl, sym, _∙_, subst}
 use mathlib.Core.Bool.{Bool, true, false, cond, false≢true, true≢false}
-use lib.Dec.{ltb}
-use borrow.Author.Tests.{ltb-true, ltb-false}
+use mathlib.Core.Logic.{_⊎_, inl, inr}
+use lib.Dec.{ltb, eqb}
+use borrow.Author.Tests.{ltb-true, ltb-false, eqb-true, eqb-false}
 use Rattle.rules_unit.specs.declared.Kind.{Kind}
 use Rattle.rules_unit.specs.declared.Kind.the-variants as kind
 use Rattle.rules_unit.specs.Codes.{Code, isBad, isDecimal, isRecord, decimalb, recordb, offsetOf, sizeOf, countOf, endOf}
-use Rattle.rules_unit.specs.Checks.{entryb, floorAfter, goodFields}
+use Rattle.rules_unit.specs.Checks.{choiceb, entryb, floorAfter, goodFields}
 use Rattle.rules_unit.specs.Sound.{EntrySound, EntryFits}
 use Rattle.rules_unit.proofs.Tells.{Tells, tells-le, tells-eq, tells-true, tells-as, tells-and, tells-not, tells-which, tells-fails, one-more}
 
@@ -19,6 +20,22 @@ decimal-kind kind.Alpha e = refl
 decimal-kind kind.Decimal e = refl
 decimal-kind kind.Record e = absurd (false≢true e)
 decimal-kind kind.Bad e = refl
+
+-- the two choices
+choice-tells : (z : ℕ) → Tells (choiceb z) ((z ≡ 0) ⊎ (z ≡ 0x80))
+unfolding choiceb
+choice-tells z = tells-as to of (tells-which (eqb z 0) tells-true (tells-eq z 0x80))
+  where
+    to : (eqb z 0 ≡ true → Unit {0}) × (eqb z 0 ≡ false → z ≡ 0x80) → (z ≡ 0) ⊎ (z ≡ 0x80)
+    to r = by (eqb z 0) refl
+      where
+        by : (t : Bool) → eqb z 0 ≡ t → (z ≡ 0) ⊎ (z ≡ 0x80)
+        by true e = inl (eqb-true z 0 e)
+        by false e = inr (r .1 e)
+
+    of : (z ≡ 0) ⊎ (z ≡ 0x80) → (eqb z 0 ≡ true → Unit {0}) × (eqb z 0 ≡ false → z ≡ 0x80)
+    of (inl e) = (λ _. tt, λ n. absurd (eqb-false z 0 n e))
+    of (inr e) = (λ _. tt, λ _. e)
 
 module _ (c : Code) where
   pub decimal-not : (i : ℕ) → decimalb c i ≡ true → recordb c i ≡ false
@@ -33,7 +50,7 @@ module _ (c : Code) where
       (λ r. (
         record {
           known = r .0;
-          blank = r .1 .0;
+          choice = r .1 .0;
           some = r .1 .1 .0;
           many = r .1 .1 .1 .0;
           inside = r .1 .1 .1 .1 .0;
@@ -42,9 +59,9 @@ module _ (c : Code) where
         },
         λ t. r .1 .1 .1 .1 .1 .1 t .0,
       ))
-      (λ r. (r .0 .known, (r .0 .blank, (r .0 .some, (r .0 .many, (r .0 .inside, (r .0 .once, λ t. (r .1 t, (r .0 .short, λ w. tt)))))))))
+      (λ r. (r .0 .known, (r .0 .choice, (r .0 .some, (r .0 .many, (r .0 .inside, (r .0 .once, λ t. (r .1 t, (r .0 .short, λ w. tt)))))))))
       (tells-and (tells-not (isBad (c .field i .kind)))
-      (tells-and (tells-eq (c .field i .zero) 0)
+      (tells-and (choice-tells (c .field i .zero))
       (tells-and (tells-le 1 (sizeOf c i))
       (tells-and (tells-le 1 (countOf c i))
       (tells-and (tells-le (endOf c i) (c .size))

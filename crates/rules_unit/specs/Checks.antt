@@ -1,6 +1,7 @@
 -- The checks 1 to 5 (document 01, "Stops and their numbers").
 --   filledb u                 check 1
 --   rangesb p                 check 2
+--   choiceb z                 whether a field's zero byte is a choice
 --   entryb c i floor          check 3 of the entry i; goodFields counts the entries that pass, from the first on
 --   roleb c i r x             whether the part x of the statement i is right, by its role; rowb c i r s all three parts
 --   shapeb c i                check 5 of the statement i; foundOf c i is 5 before 4
@@ -62,13 +63,17 @@ rangesb p =
 
 -- ---- fields
 
+-- "a choice in the high bit of its zero byte"; "Refusals: 3 for any other nonzero value of that byte." (request 5 of document 02)
+unfoldable pub choiceb : ℕ → Bool
+choiceb z = cond (eqb z 0) true (eqb z 0x80)
+
 -- "Size and count are at least 1; a decimal's size is at most 18; a record's count is 1; offset + size x count is at most D. Alpha and decimal
 -- entries stand in rising offset and share no byte; gaps are allowed. Records may cover anything and stand anywhere in the list." The floor is
 -- the end of the last alpha or decimal entry before.
 unfoldable pub entryb : Code → ℕ → ℕ → Bool
 entryb c i floor =
     not (isBad (c .field i .kind))
-    && eqb (c .field i .zero) 0
+    && choiceb (c .field i .zero)
     && leb 1 (sizeOf c i)
     && leb 1 (countOf c i)
     && leb (endOf c i) (c .size)

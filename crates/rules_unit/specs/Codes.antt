@@ -1,15 +1,19 @@
 -- A unit, decoded (document 01, "The coded unit").
 --   Code                           what the rules from expressions on speak of
 --   isDecimal k, isRecord k        the kind of a field
+--   ruleOf f                       the rule that a field chooses
 --   offsetOf, sizeOf, countOf c f  the numbers of the field f
 --   elementAt c f k, endOf c f     where its element k starts, from 0, and where it ends
 -- Assumes nothing.
 use Prim.Native.Nat.{ℕ, _+_, _*_}
-use mathlib.Core.Bool.{Bool, true, false}
+use mathlib.Core.Bool.{Bool, true, false, cond}
 use mathlib.Core.List.{List}
+use lib.Dec.{eqb}
 use Rattle.rules_unit.specs.declared.Dialect.{Dialect}
 use Rattle.rules_unit.specs.declared.Kind.{Kind}
 use Rattle.rules_unit.specs.declared.Kind.the-variants as kind
+use Rattle.rules_unit.specs.declared.Rule.{Rule}
+use Rattle.rules_unit.specs.declared.Rule.the-variants as rule
 use Rattle.rules_unit.specs.declared.Field.{Field}
 use Rattle.rules_unit.specs.declared.Item.{Item}
 use Rattle.rules_unit.specs.declared.Statement.{Statement}
@@ -43,6 +47,10 @@ isBad kind.Alpha = false
 isBad kind.Decimal = false
 isBad kind.Record = false
 isBad kind.Bad = true
+
+-- "Give each field a choice in the high bit of its zero byte" (request 5 of document 02)
+abbrev pub ruleOf : Field → Rule
+ruleOf f = cond (eqb (f .zero) 0x80) rule.Strict rule.Loose
 
 abbrev pub decimalb : Code → ℕ → Bool
 decimalb c f = isDecimal (c .field f .kind)

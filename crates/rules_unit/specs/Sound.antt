@@ -13,6 +13,7 @@
 use Prim.Native.Nat.{ℕ, _+_, _-_, _<_, _≤_}
 use mathlib.Core.Path.{_≡_}
 use mathlib.Core.Bool.{true, false}
+use mathlib.Core.Logic.{_⊎_}
 use mathlib.Core.List.{List}
 use lib.ListN.{length, getD}
 use Rattle.rules_unit.specs.declared.Parts.{Parts}
@@ -52,8 +53,8 @@ pub record Filled (u : List ℕ) : Type 0 where
 pub record EntrySound (c : Code) (i : ℕ) : Type 0 where
   -- "kind (0 alpha, 1 decimal, 2 record)"
   pub known : isBad (c .field i .kind) ≡ false
-  -- "zero byte"
-  pub blank : c .field i .zero ≡ 0
+  -- "zero byte", and "a choice in the high bit" of it
+  pub choice : (c .field i .zero ≡ 0) ⊎ (c .field i .zero ≡ 0x80)
   -- "Size and count are at least 1"
   pub some : 1 ≤ sizeOf c i
   pub many : 1 ≤ countOf c i

@@ -41,7 +41,13 @@ pub enum Kind {
     Bad,
 }
 
-// A field entry.
+// The rule by which a reference with bounds is found. A span may leave a loose field, and not a strict one.
+pub enum Rule {
+    Loose,
+    Strict,
+}
+
+// A field entry. Its zero byte has the field's choice of a rule.
 pub struct Field {
     pub kind: Kind,
     pub zero: u8,

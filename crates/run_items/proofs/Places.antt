@@ -19,18 +19,21 @@ use Rattle.rules.specs.Values.{Val, readOf}
 use Rattle.rules.proofs.Signed.{op-plain, again, pow-le18}
 use Rattle.rules.proofs.Range.{of-range}
 use Rattle.rules_unit.specs.declared.Parts.{Parts}
+use Rattle.rules_unit.specs.declared.Rule.{Rule}
 use Rattle.rules_unit.specs.declared.Field.{Field}
 use Rattle.rules_unit.specs.declared.Form.{Form}
-use Rattle.rules_unit.specs.Codes.{isDecimal}
+use Rattle.rules_unit.specs.declared.Form.the-variants as form
+use Rattle.rules_unit.specs.Codes.{ruleOf, isDecimal}
 use Rattle.rules_unit.specs.Decode.{SoundDialect, codeOf}
 use Rattle.rules_unit.specs.Expressions.{formTakes}
 use Rattle.rules_run.specs.declared.Span.{Span}
 use Rattle.rules_run.specs.declared.Span.the-variants.{At, Outside}
 use Rattle.rules_run.specs.declared.Worked.{Worked}
 use Rattle.rules_run.specs.declared.Worked.the-variants as worked
-use Rattle.rules_run.specs.Spans.{spanOf}
+use Rattle.rules_run.specs.Spans.{spanOf, spanBy}
 use Rattle.rules_run.specs.Evaluation.{readSpan, reference, asPlace, placeBy}
 use Rattle.rules_run.proofs.Located as located
+use Rattle.rules_run.proofs.Strict as strict
 use Rattle.rules_run.proofs.Ranges.{read-range}
 
 -- The part of the data that the reader is handed.
@@ -44,9 +47,16 @@ read-again p d a n x v dialect e g =
     again
     (of-range (sym e ∙ g) (read-range (codeOf [] p) d (10 ^ 18) (omega arith) (dialect .bound .most) (pow-le18 (omega (arith, dialect .limit .most))) a n))
 
+-- Finding a span: k is the rule that the field chooses.
+pub found-by : (size : ℕ) (entry : Field) (h : Form) (x y : ℤ) (s : Span) (k : Rule) → k ≡ ruleOf entry → s ≡ spanBy k size entry h x y → s ≡ spanBy (ruleOf entry) size entry h x y
+found-by size entry h x y s k e q = q ∙ ap (λ (z : Rule). spanBy z size entry h x y) e
+
 -- "it must stay inside the D bytes"
-pub found-inside : (size : ℕ) (entry : Field) (h : Form) (x y : ℤ) (s : Span) (a n : ℕ) → s ≡ spanOf size entry h x y → s ≡ At a n → a + n ≤ size
-found-inside size entry h x y s a n e t = located.found-inside size entry h x y (sym e ∙ t)
+pub found-inside : (size : ℕ) (entry : Field) (h : Form) (x y : ℤ) (s : Span) (k : Rule) (a n : ℕ) → s ≡ At a n → s ≡ spanBy k size entry h x y → a + n ≤ size
+found-inside size entry h x y s k a n w q = located.found-inside size entry h x y (strict.found-loose size entry k h x y (sym q ∙ w))
+
+pub first-inside : (size : ℕ) (entry : Field) (x y : ℤ) (s : Span) (a n : ℕ) → s ≡ spanOf size entry form.First x y → s ≡ At a n → a + n ≤ size
+first-inside size entry x y s a n q w = located.found-inside size entry form.First x y (sym q ∙ w)
 
 module _ (u : List ℕ) (p : Parts) (d : List ℕ) (h : Form) (f : ℕ) (x y : ℤ) where
   pub reference-none : p .f ≤ f → Failed fault.Malformed ≡ reference (codeOf u p) d h f x y
@@ -66,9 +76,9 @@ module _ (u : List ℕ) (p : Parts) (d : List ℕ) (h : Form) (f : ℕ) (x y : �
     unfolding reference
     reference-alpha e = sym (rw (lt-ltb f (p .f) there, kind, not-true decimal e))
 
-    module _ (fx : SFits w64 x) (fy : SFits w64 y) (s : Span) (es : s ≡ spanOf (length d) entry h (toZ w64 (ofZ w64 x)) (toZ w64 (ofZ w64 y))) where
-      span : spanOf (length d) (codeOf u p .field f) h x y ≡ s
-      span = ap (λ (g : Field). spanOf (length d) g h x y) (sym ee) ∙ sym (es ∙ op-plain (spanOf (length d) entry h) fx fy)
+    module _ (fx : SFits w64 x) (fy : SFits w64 y) (s : Span) (es : s ≡ spanBy (ruleOf entry) (length d) entry h (toZ w64 (ofZ w64 x)) (toZ w64 (ofZ w64 y))) where
+      span : spanBy (ruleOf (codeOf u p .field f)) (length d) (codeOf u p .field f) h x y ≡ s
+      span = ap (λ (g : Field). spanBy (ruleOf g) (length d) g h x y) (sym ee) ∙ sym (es ∙ op-plain (spanBy (ruleOf entry) (length d) entry h) fx fy)
 
       read-as : decimal ≡ true → reference (codeOf u p) d h f x y ≡ readSpan (codeOf u p) d s
       unfolding reference

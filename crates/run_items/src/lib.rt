@@ -106,7 +106,8 @@ pub fn read_reference(
     if !unit_decode::is_decimal(kind) {
         return Num::Failed(Fault::Malformed);
     }
-    match run_spans::span_of(bytes.len(), entry, form, x, y) {
+    let rule = run_spans::rule_of(entry);
+    match run_spans::span_by(rule, bytes.len(), entry, form, x, y) {
         Span::At { start, len } => read_at(parts, bytes, start, len),
         Span::Outside => Num::Failed(Fault::Outside),
     }
@@ -203,7 +204,8 @@ fn place_by(
     let kind = entry.kind;
     let decimal = unit_decode::is_decimal(kind);
     let most = unit_decode::long(parts.dialect.limit);
-    match run_spans::span_of(bytes.len(), entry, form, x, y) {
+    let rule = run_spans::rule_of(entry);
+    match run_spans::span_by(rule, bytes.len(), entry, form, x, y) {
         Span::At { start, len } => place_at(most, decimal, start, len),
         Span::Outside => Worked::Failed(Fault::Outside),
     }

@@ -5,15 +5,15 @@ use mathlib.Core.Bool.{Bool, true, false, cond, not}
 use mathlib.Core.List.{List}
 use lib.Dec.{leb, eqb}
 use lib.ListN.{length}
-use borrow.Author.Tests.{lt-leb, le-leb, eq-eqb, ne-eqb}
+use borrow.Author.Tests.{lt-leb, le-leb, not-false}
 use Rattle.rules.specs.Tests.{_&&_}
-use Rattle.rules.proofs.Walk.{cond-no, cond-yes, denied-yes, denied-no}
+use Rattle.rules.proofs.Walk.{cond-no, cond-yes, denied-yes, denied-no, seen-yes, seen-no}
 use Rattle.rules_unit.specs.declared.Mark.{Mark}
 use Rattle.rules_unit.specs.declared.Parts.{Parts}
 use Rattle.rules_unit.specs.declared.Field.{Field}
 use Rattle.rules_unit.specs.Codes.{Code, isBad, isDecimal, isRecord}
 use Rattle.rules_unit.specs.Decode.{markOf, wrongMark, partsOf, fullLength, codeOf}
-use Rattle.rules_unit.specs.Checks.{filledb, entryb, floorAfter, goodFields}
+use Rattle.rules_unit.specs.Checks.{filledb, choiceb, entryb, floorAfter, goodFields}
 use Rattle.rules_unit.proofs.Statements.{left-suc, left-none}
 
 -- the last two tests of check 1: m is the mark that the code has read, and w whether it is wrong
@@ -36,7 +36,7 @@ restOf limit size f floor =
 
 abbrev entryOf : ℕ → ℕ → Field → ℕ → Bool
 entryOf limit size f floor =
-    not (isBad (f .kind)) && eqb (f .zero) 0 && leb 1 (f .size) && leb 1 (f .count) && restOf limit size f floor
+    not (isBad (f .kind)) && choiceb (f .zero) && leb 1 (f .size) && leb 1 (f .count) && restOf limit size f floor
 
 module _ (u : List ℕ) (p : Parts) (i floor : ℕ) (f : Field) (read : f ≡ codeOf u p .field i) where
   pub entry-by : (z : Bool) → z ≡ entryOf (p .dialect .limit) (p .d) f floor → z ≡ entryb (codeOf u p) i floor
@@ -44,10 +44,10 @@ module _ (u : List ℕ) (p : Parts) (i floor : ℕ) (f : Field) (read : f ≡ co
   entry-by z h = subst (λ (x : Field). z ≡ entryOf (p .dialect .limit) (p .d) x floor) read h
 
   -- past the first four tests, with the data's length in hand and the entry's end
-  module _ (bad : Bool) (b₁ : bad ≡ isBad (f .kind)) (b₂ : bad ≡ false) (zero : f .zero ≡ 0) (some : 1 ≤ f .size) (many : 1 ≤ f .count)
+  module _ (bad : Bool) (b₁ : bad ≡ isBad (f .kind)) (b₂ : bad ≡ false) (choice : Bool) (c₁ : choice ≡ choiceb (f .zero)) (c₂ : not choice ≡ false) (some : 1 ≤ f .size) (many : 1 ≤ f .count)
       (size end : ℕ) (s₁ : size ≡ p .d) (s₂ : end ≡ f .offset + f .count * f .size) where
     past : (z : Bool) → z ≡ restOf (p .dialect .limit) size f floor → z ≡ entryb (codeOf u p) i floor
-    past z h = entry-by z (rw (← b₁, b₂, eq-eqb (f .zero) 0 zero, le-leb 1 (f .size) some, le-leb 1 (f .count) many, ← s₁) h)
+    past z h = entry-by z (rw (← b₁, b₂, ← c₁, not-false choice c₂, le-leb 1 (f .size) some, le-leb 1 (f .count) many, ← s₁) h)
 
     pub entry-long : size < end → false ≡ entryb (codeOf u p) i floor
     entry-long l = past false (rw (← s₂, lt-leb end size l))
@@ -73,7 +73,7 @@ module _ (u : List ℕ) (p : Parts) (i floor : ℕ) (f : Field) (read : f ≡ co
   pub floor-rises : (b : Bool) (z : ℕ) → b ≡ isRecord (f .kind) → b ≡ false → z ≡ f .offset + f .count * f .size → z ≡ floorAfter (codeOf u p) i floor
   floor-rises b z g h k = subst (λ (x : Field). z ≡ cond (isRecord (x .kind)) floor (x .offset + x .count * x .size)) read (rw (← g, h) k)
 
-pub ruleset entry-walk = (entry-by, cond-no, cond-yes, denied-yes, denied-no, eq-eqb, ne-eqb, lt-leb, le-leb)
+pub ruleset entry-walk = (entry-by, cond-no, cond-yes, denied-yes, denied-no, seen-yes, seen-no, lt-leb, le-leb)
 
 pub ruleset entry-laws = (entry-long, entry-record, entry-below, entry-decimal, entry-alpha)
 

@@ -6,7 +6,7 @@ ghost use mathlib.Core.Path.{_≡_};
 ghost use Prim.Native.Nat.{_+_, _<_};
 ghost use Rattle.rules_unit.specs.Codes.{isBad, isRecord};
 ghost use Rattle.rules_unit.specs.Decode.{Fills, wrongMark, codeOf};
-ghost use Rattle.rules_unit.specs.Checks.{filledb, rangesb, entryb, floorAfter, goodFields};
+ghost use Rattle.rules_unit.specs.Checks.{filledb, rangesb, choiceb, entryb, floorAfter, goodFields};
 
 // ---- 1 and 2
 
@@ -88,6 +88,16 @@ fn is_record(kind: Kind) -> bool
     }
 }
 
+// Whether a field's zero byte is a choice: loose or strict.
+fn is_choice(zero: u8) -> bool
+    ensures { λ r. ⌜ r ≡ choiceb zero ⌝ }
+{
+    if zero == 0 {
+        return true;
+    }
+    zero == 128
+}
+
 // Whether the field entry i keeps its rule. The floor is the end of the last alpha or decimal entry before it.
 fn entry_good(unit: &[u8], parts: Parts, i: u16, floor: usize) -> bool
     requires { ⌜ Fills (now unit) parts ⌝ }
@@ -99,7 +109,7 @@ fn entry_good(unit: &[u8], parts: Parts, i: u16, floor: usize) -> bool
     if is_bad(kind) {
         return false;
     }
-    if field.zero != 0 {
+    if !is_choice(field.zero) {
         return false;
     }
     if field.size < 1 {

@@ -2,7 +2,7 @@
 -- Assumes nothing.
 use borrow.Author.Needs.{needs}
 use Rattle.number.proofs.Negation.{zero-fits}
-use Rattle.run_items.proofs.Places.{found-inside, reference-none, reference-alpha, reference-read, reference-outside}
+use Rattle.run_items.proofs.Places.{first-inside, reference-none, reference-alpha, reference-read, reference-outside}
 use Rattle.run_items.proofs.read_first.Statement.{statement}
 use Rattle.run_items.proofs.read_first.Tie as tie
 
@@ -25,7 +25,7 @@ enum-known-start : tie.Need-enum-known-start
 enum-known-start c = search needs
 
 read-at-requires : tie.Need-read-at-requires
-read-at-requires c κs = (search needs, search found-inside depth 3)
+read-at-requires c κs = (search needs, search first-inside depth 3)
 
 enum-told : tie.Need-enum-told
 enum-told c = search needs

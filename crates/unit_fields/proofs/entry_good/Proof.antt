@@ -14,6 +14,9 @@ is-bad-requires c κs = search needs
 returns : tie.Need-returns
 returns c = search entry-walk depth 12
 
+is-choice-requires : tie.Need-is-choice-requires
+is-choice-requires c κs = search needs
+
 returns-2 : tie.Need-returns-2
 returns-2 c = search entry-walk depth 12
 
@@ -60,6 +63,7 @@ entry-good-spec =
     field-requires
     is-bad-requires
     returns
+    is-choice-requires
     returns-2
     returns-3
     returns-4
