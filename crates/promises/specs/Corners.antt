@@ -24,7 +24,7 @@ use Rattle.rules_unit.specs.declared.Item.the-variants as item
 use Rattle.rules_unit.specs.Decode.{fullLength, markOf, partsOf, kindOf, fieldAt, referenceAt, numberAt, textAt, itemBy, itemAt, itemsIn, itemsAt, statementAt}
 use Rattle.rules_unit.specs.Table.{verbOf}
 use Rattle.rules_unit.specs.Expressions.{digitsb, numberb, textb, sortFrom, sortAt, usesb}
-use Rattle.rules_unit.specs.Checks.{filledb, rangesb, entryb, goodFields, rowb, shapeb, foundOf, statementsFrom, partsCheck, checkOf}
+use Rattle.rules_unit.specs.Checks.{filledb, rangesb, choiceb, entryb, goodFields, rowb, shapeb, foundOf, statementsFrom, partsCheck, checkOf}
 use Rattle.rules_unit.specs.Literals.{stretchOf, literalOf}
 use Rattle.rules_run.specs.Spans.{within, subscriptSpan, startEndSpan, posLengthSpan, spanOf}
 use Rattle.rules_run.specs.Evaluation.{digitsFrom, literalNumber, reference, stepBy, placeBy, place, lastOf, workedFrom, workedOf, calc}
@@ -241,7 +241,7 @@ pub record Literals : Type 0 where
   pub refused : literalOf (0 ∷ named) 0 ≡ []
 
 pub literals : Literals
-unfolding markOf partsOf kindOf fieldAt referenceAt numberAt textAt itemBy itemAt itemsIn itemsAt statementAt verbOf digitsb numberb textb sortFrom sortAt usesb filledb rangesb entryb goodFields rowb shapeb foundOf statementsFrom partsCheck checkOf stretchOf
+unfolding markOf partsOf kindOf fieldAt referenceAt numberAt textAt itemBy itemAt itemsIn itemsAt statementAt verbOf digitsb numberb textb sortFrom sortAt usesb filledb rangesb choiceb entryb goodFields rowb shapeb foundOf statementsFrom partsCheck checkOf stretchOf
 literals = record { lone = refl; no-literal = refl; no-set = refl; past-the-last = refl; refused = refl }
 
 -- ---- states

@@ -124,7 +124,7 @@ div-23 = causes.div-23
 pub round-26 : (v k : ℤ) → (roundOf v k ≡ Failed fault.RoundCount) ↔ ((n : ℕ) → k ≡ pos n → n ≤ 18 → ⊥)
 round-26 = causes.round-26
 
--- "A span may leave its field in either direction; it must stay inside the D bytes. Otherwise 21.": the size is D
+-- "A span may leave its field in either direction; it must stay inside the D bytes. Otherwise 21.": the size is D. Of a strict field Strict has the rule.
 pub span-exactly : (size : ℕ) (f : Field) (a n : ℕ) (h : Form) (x y : ℤ) → (spanOf size f h x y ≡ At a n) ↔ Located f h x y a n × (a + n ≤ size)
 span-exactly = located.span-exactly
 

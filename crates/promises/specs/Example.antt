@@ -12,7 +12,7 @@ use Rattle.rules.specs.Moves.{placed}
 use Rattle.rules_unit.specs.Decode.{markOf, partsOf, kindOf, fieldAt, referenceAt, itemBy, itemAt, itemsIn, itemsAt, statementAt}
 use Rattle.rules_unit.specs.Table.{verbOf}
 use Rattle.rules_unit.specs.Expressions.{sortFrom, sortAt, usesb}
-use Rattle.rules_unit.specs.Checks.{filledb, rangesb, entryb, goodFields, rowb, shapeb, foundOf, statementsFrom, partsCheck, checkOf}
+use Rattle.rules_unit.specs.Checks.{filledb, rangesb, choiceb, entryb, goodFields, rowb, shapeb, foundOf, statementsFrom, partsCheck, checkOf}
 use Rattle.rules_run.specs.Spans.{within, spanOf}
 use Rattle.rules_run.specs.Evaluation.{placeBy, place, lastOf, workedFrom, workedOf}
 use Rattle.rules_run.specs.States.{returnsb, emptyb, slotsb, soundb, started}
@@ -45,5 +45,5 @@ pub record Example : Type 0 where
   pub leaves : ran .bytes ≡ bytes "42"
 
 pub example : Example
-unfolding readOf paddedRead readFrom placed markOf partsOf kindOf fieldAt referenceAt itemBy itemAt itemsIn itemsAt statementAt verbOf sortFrom sortAt usesb filledb rangesb entryb goodFields rowb shapeb foundOf statementsFrom partsCheck checkOf within spanOf placeBy place lastOf workedFrom workedOf returnsb emptyb slotsb soundb stored applied turnBy turnOf movedBy runFrom runChecked runOf
+unfolding readOf paddedRead readFrom placed markOf partsOf kindOf fieldAt referenceAt itemBy itemAt itemsIn itemsAt statementAt verbOf sortFrom sortAt usesb filledb rangesb choiceb entryb goodFields rowb shapeb foundOf statementsFrom partsCheck checkOf within spanOf placeBy place lastOf workedFrom workedOf returnsb emptyb slotsb soundb stored applied turnBy turnOf movedBy runFrom runChecked runOf
 example = record { stops = refl; reached = refl; completed = refl; leaves = refl }

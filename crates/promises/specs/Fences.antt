@@ -11,7 +11,7 @@ use Prim.Native.Nat.{ℕ, zero, suc, _<_, _≤_}
 use Rattle.rules_unit.specs.Decode.{markOf, partsOf, kindOf, fieldAt, referenceAt, numberAt, textAt, itemBy, itemAt, itemsIn, itemsAt, statementAt}
 use Rattle.rules_unit.specs.Table.{verbOf}
 use Rattle.rules_unit.specs.Expressions.{digitsb, numberb, textb, sortFrom, sortAt, extentOf, usesb}
-use Rattle.rules_unit.specs.Checks.{filledb, rangesb, entryb, goodFields, endb, rowb, shapeb, foundOf, statementsFrom, partsCheck, checkOf}
+use Rattle.rules_unit.specs.Checks.{filledb, rangesb, choiceb, entryb, goodFields, endb, rowb, shapeb, foundOf, statementsFrom, partsCheck, checkOf}
 use Rattle.rules_run.specs.Spans.{within, subscriptSpan, startEndSpan, posLengthSpan, spanOf}
 use Rattle.rules_run.specs.Evaluation.{digitsFrom, literalNumber}
 use Rattle.rules_fence.specs.declared.Verdict.the-variants.{Yes, No}
@@ -66,7 +66,7 @@ pub record Fences : Type 0 where
   pub step-last : breachNumber (breachIn (forAt (numbers (figure 1) chosen-bound wrong-bounds) I) 0) ≡ 1
 
 pub fences : Fences
-unfolding markOf partsOf kindOf fieldAt referenceAt numberAt textAt itemBy itemAt itemsIn itemsAt verbOf statementAt digitsb numberb textb sortFrom sortAt extentOf usesb filledb rangesb entryb goodFields endb rowb shapeb foundOf statementsFrom partsCheck checkOf within subscriptSpan startEndSpan posLengthSpan spanOf digitsFrom literalNumber fixedSpan elementBreach apartFrom alphaBreach referenceBreach breachFrom usesBreach breachOf verdictFrom fenceOf breachIn
+unfolding markOf partsOf kindOf fieldAt referenceAt numberAt textAt itemBy itemAt itemsIn itemsAt verbOf statementAt digitsb numberb textb sortFrom sortAt extentOf usesb filledb rangesb choiceb entryb goodFields endb rowb shapeb foundOf statementsFrom partsCheck checkOf within subscriptSpan startEndSpan posLengthSpan spanOf digitsFrom literalNumber fixedSpan elementBreach apartFrom alphaBreach referenceBreach breachFrom usesBreach breachOf verdictFrom fenceOf breachIn
 fences =
     record {
       bound-chosen = refl;

@@ -19,3 +19,4 @@ pub mod Slips
 pub mod Fences
 pub mod Masks
 pub mod Blanks
+pub mod Strict

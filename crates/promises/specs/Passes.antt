@@ -18,7 +18,7 @@ use Rattle.rules.specs.Moves.{placed}
 use Rattle.rules_unit.specs.Decode.{markOf, partsOf, kindOf, fieldAt, referenceAt, numberAt, itemBy, itemAt, itemsIn, itemsAt, statementAt}
 use Rattle.rules_unit.specs.Table.{verbOf}
 use Rattle.rules_unit.specs.Expressions.{digitsb, numberb, sortFrom, sortAt, extentOf, usesb}
-use Rattle.rules_unit.specs.Checks.{filledb, rangesb, entryb, goodFields, endb, rowb, shapeb, foundOf, statementsFrom, partsCheck, checkOf}
+use Rattle.rules_unit.specs.Checks.{filledb, rangesb, choiceb, entryb, goodFields, endb, rowb, shapeb, foundOf, statementsFrom, partsCheck, checkOf}
 use Rattle.rules_run.specs.Spans.{within, subscriptSpan, startEndSpan, spanOf}
 use Rattle.rules_run.specs.Evaluation.{calc, digitsFrom, literalNumber, reference, stepBy, placeBy, place, lastOf, workedFrom, workedOf}
 use Rattle.rules_run.specs.States.{noLoop, returnsb, loopb, emptyb, slotsb, soundb}
@@ -51,7 +51,7 @@ passed =
     ∷ []
 
 pub passed-hold : AllHold passed
-unfolding readOf paddedRead readFrom placed markOf partsOf kindOf fieldAt referenceAt numberAt itemBy itemAt itemsIn itemsAt statementAt verbOf digitsb numberb sortFrom sortAt extentOf usesb filledb rangesb entryb goodFields endb rowb shapeb foundOf statementsFrom partsCheck checkOf within subscriptSpan spanOf calc digitsFrom literalNumber reference stepBy placeBy place lastOf workedFrom workedOf returnsb loopb emptyb slotsb soundb stored applied enters repeats exits turnBy turnOf movedBy runFrom runChecked runOf
+unfolding readOf paddedRead readFrom placed markOf partsOf kindOf fieldAt referenceAt numberAt itemBy itemAt itemsIn itemsAt statementAt verbOf digitsb numberb sortFrom sortAt extentOf usesb filledb rangesb choiceb entryb goodFields endb rowb shapeb foundOf statementsFrom partsCheck checkOf within subscriptSpan spanOf calc digitsFrom literalNumber reference stepBy placeBy place lastOf workedFrom workedOf returnsb loopb emptyb slotsb soundb stored applied enters repeats exits turnBy turnOf movedBy runFrom runChecked runOf
 passed-hold = refl
 
 -- ---- the order of the errors on entry
@@ -98,7 +98,7 @@ entries =
     ∷ []
 
 pub entries-hold : AllHold entries
-unfolding readOf paddedRead readFrom placed markOf partsOf kindOf fieldAt referenceAt numberAt itemBy itemAt itemsIn itemsAt statementAt verbOf digitsb numberb sortFrom sortAt extentOf usesb filledb rangesb entryb goodFields endb rowb shapeb foundOf statementsFrom partsCheck checkOf within subscriptSpan spanOf calc digitsFrom literalNumber reference stepBy placeBy place lastOf workedFrom workedOf returnsb loopb emptyb slotsb soundb stored applied enters repeats exits turnBy turnOf movedBy runFrom runChecked runOf
+unfolding readOf paddedRead readFrom placed markOf partsOf kindOf fieldAt referenceAt numberAt itemBy itemAt itemsIn itemsAt statementAt verbOf digitsb numberb sortFrom sortAt extentOf usesb filledb rangesb choiceb entryb goodFields endb rowb shapeb foundOf statementsFrom partsCheck checkOf within subscriptSpan spanOf calc digitsFrom literalNumber reference stepBy placeBy place lastOf workedFrom workedOf returnsb loopb emptyb slotsb soundb stored applied enters repeats exits turnBy turnOf movedBy runFrom runChecked runOf
 entries-hold = refl
 
 -- ---- ways through a loop and out of it
@@ -121,7 +121,7 @@ ways =
     ∷ []
 
 pub ways-hold : AllHold ways
-unfolding readOf paddedRead readFrom placed markOf partsOf kindOf fieldAt referenceAt numberAt itemBy itemAt itemsIn itemsAt statementAt verbOf digitsb numberb sortFrom sortAt extentOf usesb filledb rangesb entryb goodFields endb rowb shapeb foundOf statementsFrom partsCheck checkOf within subscriptSpan spanOf calc digitsFrom literalNumber reference stepBy placeBy place lastOf workedFrom workedOf returnsb loopb emptyb slotsb soundb stored applied enters repeats exits turnBy turnOf movedBy runFrom runChecked runOf
+unfolding readOf paddedRead readFrom placed markOf partsOf kindOf fieldAt referenceAt numberAt itemBy itemAt itemsIn itemsAt statementAt verbOf digitsb numberb sortFrom sortAt extentOf usesb filledb rangesb choiceb entryb goodFields endb rowb shapeb foundOf statementsFrom partsCheck checkOf within subscriptSpan spanOf calc digitsFrom literalNumber reference stepBy placeBy place lastOf workedFrom workedOf returnsb loopb emptyb slotsb soundb stored applied enters repeats exits turnBy turnOf movedBy runFrom runChecked runOf
 ways-hold = refl
 
 -- ---- the control place from pass to pass
@@ -151,7 +151,7 @@ controls =
     ∷ []
 
 pub controls-hold : AllHold controls
-unfolding readOf paddedRead readFrom placed markOf partsOf kindOf fieldAt referenceAt numberAt itemBy itemAt itemsIn itemsAt statementAt verbOf digitsb numberb sortFrom sortAt extentOf usesb filledb rangesb entryb goodFields endb rowb shapeb foundOf statementsFrom partsCheck checkOf within subscriptSpan startEndSpan spanOf calc digitsFrom literalNumber reference stepBy placeBy place lastOf workedFrom workedOf returnsb loopb emptyb slotsb soundb stored applied enters repeats exits turnBy turnOf movedBy runFrom runChecked runOf
+unfolding readOf paddedRead readFrom placed markOf partsOf kindOf fieldAt referenceAt numberAt itemBy itemAt itemsIn itemsAt statementAt verbOf digitsb numberb sortFrom sortAt extentOf usesb filledb rangesb choiceb entryb goodFields endb rowb shapeb foundOf statementsFrom partsCheck checkOf within subscriptSpan startEndSpan spanOf calc digitsFrom literalNumber reference stepBy placeBy place lastOf workedFrom workedOf returnsb loopb emptyb slotsb soundb stored applied enters repeats exits turnBy turnOf movedBy runFrom runChecked runOf
 controls-hold = refl
 
 -- ---- slots
@@ -165,5 +165,5 @@ pub record Slots : Type 0 where
   pub outer-kept : ranOf 3 (loopOf "000" (numbers (figure 1) (figure 2) (figure 1)) 5 (coded 14 0 4 3 ∷ plain 16 ∷ plain 15 ∷ plain 11 ∷ plain 15 ∷ [])) .outcome .state .loops ≡ slot 0 (pos 2) (pos 1) ∷ replicate 15 noLoop
 
 pub slots : Slots
-unfolding readOf paddedRead readFrom placed markOf partsOf kindOf fieldAt referenceAt numberAt itemBy itemAt itemsIn itemsAt statementAt verbOf digitsb numberb sortFrom sortAt extentOf usesb filledb rangesb entryb goodFields endb rowb shapeb foundOf statementsFrom partsCheck checkOf within subscriptSpan spanOf calc digitsFrom literalNumber reference stepBy placeBy place lastOf workedFrom workedOf returnsb loopb emptyb slotsb soundb stored applied enters repeats exits turnBy turnOf movedBy runFrom runChecked runOf
+unfolding readOf paddedRead readFrom placed markOf partsOf kindOf fieldAt referenceAt numberAt itemBy itemAt itemsIn itemsAt statementAt verbOf digitsb numberb sortFrom sortAt extentOf usesb filledb rangesb choiceb entryb goodFields endb rowb shapeb foundOf statementsFrom partsCheck checkOf within subscriptSpan spanOf calc digitsFrom literalNumber reference stepBy placeBy place lastOf workedFrom workedOf returnsb loopb emptyb slotsb soundb stored applied enters repeats exits turnBy turnOf movedBy runFrom runChecked runOf
 slots = record { still-open = refl; closed-again = refl; closed-early = refl; outer-kept = refl }

@@ -29,7 +29,7 @@ use Rattle.rules_unit.proofs.Sound.{check-only}
 use Rattle.rules_unit.specs.Decode.{fullLength, markOf, partsOf, kindOf, fieldAt, referenceAt, numberAt, textAt, itemBy, itemAt, itemsIn, itemsAt, statementAt}
 use Rattle.rules_unit.specs.Table.{verbOf}
 use Rattle.rules_unit.specs.Expressions.{digitsb, numberb, textb, sortFrom, sortAt, extentOf, usesb}
-use Rattle.rules_unit.specs.Checks.{filledb, rangesb, entryb, goodFields, gotosb, tableb, endb, rowb, shapeb, foundOf, statementsFrom, partsCheck, checkOf}
+use Rattle.rules_unit.specs.Checks.{filledb, rangesb, choiceb, entryb, goodFields, gotosb, tableb, endb, rowb, shapeb, foundOf, statementsFrom, partsCheck, checkOf}
 use Rattle.promises.specs.Rows.{Answer, number, refusal, Row, _is_, AllHold}
 use Rattle.promises.specs.Samples.{tour, seats, answered, changed, with-field, with-fields, entry, with-parts, of-set, A, N, X, last-of-all, last-for, sums, figure, I, P, numbers, coded, plain, with-loop, with-alpha}
 
@@ -42,10 +42,16 @@ refusals =
     ∷ changed 251 0x45 is refusal 1 0
     ∷ changed 252 0x43 is refusal 1 0
     ∷ changed 242 11 is refusal 1 0
-    -- "3 | a field entry breaks its rule | first such entry": the kind, the zero byte, the size, the count, the end, a shared byte
+    -- "3 | a field entry breaks its rule | first such entry": the kind, the zero byte, where 80 is a choice, the size, the count, the end, a shared
+    -- byte
     ∷ changed 10 3 is refusal 3 0
     ∷ changed 19 1 is refusal 3 1
-    ∷ changed 19 0x80 is refusal 3 1
+    ∷ changed 19 0x40 is refusal 3 1
+    ∷ changed 19 0x7f is refusal 3 1
+    ∷ changed 19 0x80 is number (pos 10)
+    ∷ changed 19 0x81 is refusal 3 1
+    ∷ changed 19 0xff is refusal 3 1
+    ∷ changed 11 0x80 is number (pos 10)
     ∷ changed 31 0 is refusal 3 2
     ∷ changed 33 0 is refusal 3 2
     ∷ changed 39 2 is refusal 3 3
@@ -95,7 +101,7 @@ refusals =
     ∷ []
 
 pub refusals-hold : AllHold refusals
-unfolding markOf partsOf kindOf fieldAt referenceAt numberAt textAt itemBy itemAt itemsIn itemsAt statementAt verbOf digitsb numberb textb sortFrom sortAt usesb filledb rangesb entryb goodFields gotosb tableb endb rowb shapeb foundOf statementsFrom partsCheck checkOf
+unfolding markOf partsOf kindOf fieldAt referenceAt numberAt textAt itemBy itemAt itemsIn itemsAt statementAt verbOf digitsb numberb textb sortFrom sortAt usesb filledb rangesb choiceb entryb goodFields gotosb tableb endb rowb shapeb foundOf statementsFrom partsCheck checkOf
 refusals-hold = refl
 
 -- ---- fields
@@ -124,14 +130,16 @@ orders =
     ∷ with-fields (entry 1 4 2) (entry 0 0 4) is refusal 3 1
     ∷ with-fields (entry 2 0 19) (entry 0 0 4) is number (pos 19)
     ∷ with-fields (entry 0 4 4) (entry 2 0 19) is number (pos 19)
+    -- a strict record, beside a strict field
+    ∷ with-fields (set (entry 0 4 4) 1 0x80) (set (entry 2 0 19) 1 0x80) is number (pos 19)
     ∷ []
 
 pub orders-hold : AllHold orders
-unfolding markOf partsOf kindOf fieldAt statementAt verbOf usesb filledb rangesb entryb goodFields rowb shapeb foundOf statementsFrom partsCheck checkOf
+unfolding markOf partsOf kindOf fieldAt statementAt verbOf usesb filledb rangesb choiceb entryb goodFields rowb shapeb foundOf statementsFrom partsCheck checkOf
 orders-hold = refl
 
 pub fields-hold : AllHold fields
-unfolding markOf partsOf kindOf fieldAt statementAt verbOf usesb filledb rangesb entryb goodFields rowb shapeb foundOf statementsFrom partsCheck checkOf
+unfolding markOf partsOf kindOf fieldAt statementAt verbOf usesb filledb rangesb choiceb entryb goodFields rowb shapeb foundOf statementsFrom partsCheck checkOf
 fields-hold = refl
 
 -- ---- expressions
@@ -160,7 +168,7 @@ expressions =
     ∷ []
 
 pub expressions-hold : AllHold expressions
-unfolding markOf partsOf kindOf fieldAt referenceAt numberAt textAt itemBy itemAt itemsIn itemsAt statementAt verbOf digitsb numberb textb sortFrom sortAt usesb filledb rangesb entryb goodFields rowb shapeb foundOf statementsFrom partsCheck checkOf
+unfolding markOf partsOf kindOf fieldAt referenceAt numberAt textAt itemBy itemAt itemsIn itemsAt statementAt verbOf digitsb numberb textb sortFrom sortAt usesb filledb rangesb choiceb entryb goodFields rowb shapeb foundOf statementsFrom partsCheck checkOf
 expressions-hold = refl
 
 -- ---- loops
@@ -210,12 +218,12 @@ loops =
     ∷ []
 
 pub loops-hold : AllHold loops
-unfolding markOf partsOf kindOf fieldAt referenceAt numberAt itemBy itemAt itemsIn itemsAt statementAt verbOf digitsb numberb sortFrom sortAt extentOf usesb filledb rangesb entryb goodFields endb rowb shapeb foundOf statementsFrom partsCheck checkOf
+unfolding markOf partsOf kindOf fieldAt referenceAt numberAt itemBy itemAt itemsIn itemsAt statementAt verbOf digitsb numberb sortFrom sortAt extentOf usesb filledb rangesb choiceb entryb goodFields endb rowb shapeb foundOf statementsFrom partsCheck checkOf
 loops-hold = refl
 
 -- Behind the last statement stands a byte that would be a loop end's.
 pub end-outside : last-for ≡ refusal 5 0
-unfolding markOf partsOf kindOf fieldAt referenceAt itemBy itemAt itemsIn itemsAt statementAt verbOf digitsb numberb sortFrom sortAt extentOf usesb filledb rangesb entryb goodFields endb rowb shapeb foundOf statementsFrom partsCheck checkOf
+unfolding markOf partsOf kindOf fieldAt referenceAt itemBy itemAt itemsIn itemsAt statementAt verbOf digitsb numberb sortFrom sortAt extentOf usesb filledb rangesb choiceb entryb goodFields endb rowb shapeb foundOf statementsFrom partsCheck checkOf
 end-outside = refl
 
 -- "The control place is a decimal place; start, limit and step are numbers; another sort is 4."
@@ -239,7 +247,7 @@ numbers-of-loops =
     ∷ []
 
 pub numbers-of-loops-hold : AllHold numbers-of-loops
-unfolding markOf partsOf kindOf fieldAt referenceAt numberAt textAt itemBy itemAt itemsIn itemsAt statementAt verbOf digitsb numberb textb sortFrom sortAt extentOf usesb filledb rangesb entryb goodFields endb rowb shapeb foundOf statementsFrom partsCheck checkOf
+unfolding markOf partsOf kindOf fieldAt referenceAt numberAt textAt itemBy itemAt itemsIn itemsAt statementAt verbOf digitsb numberb textb sortFrom sortAt extentOf usesb filledb rangesb choiceb entryb goodFields endb rowb shapeb foundOf statementsFrom partsCheck checkOf
 numbers-of-loops-hold = refl
 
 -- ---- lengths and tables
@@ -259,7 +267,7 @@ too-many c i n h = rw (le-leb 1 n (omega (arith, h)), lt-leb n 255 (omega (arith
 
 -- "needs n GOTO statements right after it inside the unit"
 pub table-outside : last-of-all ≡ refusal 5 0
-unfolding markOf partsOf numberAt itemBy itemAt itemsIn itemsAt statementAt verbOf digitsb numberb sortFrom sortAt usesb filledb rangesb entryb goodFields gotosb tableb endb rowb shapeb foundOf statementsFrom partsCheck checkOf
+unfolding markOf partsOf numberAt itemBy itemAt itemsIn itemsAt statementAt verbOf digitsb numberb sortFrom sortAt usesb filledb rangesb choiceb entryb goodFields gotosb tableb endb rowb shapeb foundOf statementsFrom partsCheck checkOf
 table-outside = refl
 
 -- ---- "At most 16 values are held at once"

@@ -1,4 +1,4 @@
--- The units of the examples, in their bytes, and how an example is asked: what the tables of Slips, Fences, Tour, Refusals, Corners, Moves, Blanks and Passes are made of.
+-- The units of the examples, in their bytes, and how an example is asked: what the tables of Slips, Fences, Tour, Refusals, Corners, Moves, Blanks, Passes and Strict are made of.
 -- Assumes nothing.
 use mathlib.Core.Bool.{Bool, cond, _||_}
 use mathlib.Core.List.{List, [], _∷_, _++_}
@@ -8,6 +8,7 @@ use lib.IntN.{ℤ, pos}
 use lib.Dec.{eqb}
 use lib.ListN.{length, set, take, replicate}
 use Rattle.rules.specs.Stops.{faultNumber}
+use Rattle.rules_unit.specs.declared.Kind.{Kind}
 use Rattle.rules_unit.specs.declared.Kind.the-variants as kind
 use Rattle.rules_unit.specs.declared.Field.{Field}
 use Rattle.rules_unit.specs.declared.Item.{Item}
@@ -255,6 +256,20 @@ of-two o x y = bare (itemsAt (1 ∷ 0 ∷ 2 * x ∷ 2 ∷ 1 ∷ 0 ∷ 2 * y ∷ 
 -- A decimal of 10 characters before 30 other bytes.
 abbrev pub of-forty : List Item → Answer
 of-forty list = accessed (unitOver 40 1 (λ f. record { kind = kind.Decimal; zero = 0; offset = 0; size = 10; count = 1 }) (λ e. [])) (replicate 40 49) list
+
+-- A field of the kind and the zero byte given: three elements of two bytes behind two other bytes, or six bytes where it is a record.
+abbrev pub of-seats : Kind → ℕ → List Item → Answer
+of-seats k choice list = accessed (unitOver 10 1 (λ f. record { kind = k; zero = choice; offset = 2; size = 6 - 4 * by k; count = 1 + 2 * by k }) (λ e. [])) (bytes "abA1B2C3yz") list
+  where
+    by : Kind → ℕ
+    by kind.Record = 0
+    by kind.Alpha = 1
+    by kind.Decimal = 1
+    by kind.Bad = 1
+
+-- Two decimals of 10 characters before 20 other bytes.
+abbrev pub of-digits : ℕ → List Item → Answer
+of-digits choice list = accessed (unitOver 40 1 (λ f. record { kind = kind.Decimal; zero = choice; offset = 0; size = 10; count = 2 }) (λ e. [])) (replicate 40 49) list
 
 -- A unit of 9 statements, of which 3 is a FOR. What would be the statement 9 is one too, but lies behind the last.
 abbrev pub nine : Code

@@ -17,7 +17,7 @@ use Rattle.rules.specs.Moves.{placed, fitted}
 use Rattle.rules_unit.specs.Decode.{markOf, partsOf, kindOf, fieldAt, referenceAt, numberAt, textAt, itemBy, itemAt, itemsIn, itemsAt, statementAt}
 use Rattle.rules_unit.specs.Table.{verbOf}
 use Rattle.rules_unit.specs.Expressions.{digitsb, numberb, textb, sortFrom, sortAt, usesb}
-use Rattle.rules_unit.specs.Checks.{filledb, rangesb, entryb, goodFields, rowb, shapeb, foundOf, statementsFrom, partsCheck, checkOf}
+use Rattle.rules_unit.specs.Checks.{filledb, rangesb, choiceb, entryb, goodFields, rowb, shapeb, foundOf, statementsFrom, partsCheck, checkOf}
 use Rattle.rules_run.specs.Spans.{within, subscriptSpan, startEndSpan, spanOf}
 use Rattle.rules_run.specs.Evaluation.{calc, digitsFrom, literalNumber, stepBy, placeBy, place, lastOf, workedFrom, workedOf}
 use Rattle.rules_run.specs.States.{returnsb, emptyb, slotsb, soundb}
@@ -58,7 +58,7 @@ pub record Slips : Type 0 where
   pub no-smear-stop : stops 13 smear ≡ 0
 
 pub slips : Slips
-unfolding validFrom paddedb validb placed fitted markOf partsOf kindOf fieldAt referenceAt numberAt textAt itemBy itemAt itemsIn itemsAt verbOf statementAt digitsb numberb textb sortFrom sortAt usesb filledb rangesb entryb goodFields rowb shapeb foundOf statementsFrom partsCheck checkOf within subscriptSpan startEndSpan spanOf calc digitsFrom literalNumber stepBy placeBy place lastOf workedFrom workedOf returnsb emptyb slotsb soundb stored applied turnBy turnOf movedBy runFrom runChecked runOf fixedSpan elementBreach apartFrom alphaBreach referenceBreach breachFrom usesBreach breachOf verdictFrom fenceOf breachIn
+unfolding validFrom paddedb validb placed fitted markOf partsOf kindOf fieldAt referenceAt numberAt textAt itemBy itemAt itemsIn itemsAt verbOf statementAt digitsb numberb textb sortFrom sortAt usesb filledb rangesb choiceb entryb goodFields rowb shapeb foundOf statementsFrom partsCheck checkOf within subscriptSpan startEndSpan spanOf calc digitsFrom literalNumber stepBy placeBy place lastOf workedFrom workedOf returnsb emptyb slotsb soundb stored applied turnBy turnOf movedBy runFrom runChecked runOf fixedSpan elementBreach apartFrom alphaBreach referenceBreach breachFrom usesBreach breachOf verdictFrom fenceOf breachIn
 slips =
     record {
       past-table = refl;

@@ -9,7 +9,7 @@ use Rattle.rules.specs.Moves.{placed}
 use Rattle.rules_unit.specs.Decode.{markOf, partsOf, kindOf, fieldAt, referenceAt, numberAt, itemBy, itemAt, itemsIn, itemsAt, statementAt}
 use Rattle.rules_unit.specs.Table.{verbOf}
 use Rattle.rules_unit.specs.Expressions.{digitsb, numberb, sortFrom, sortAt, usesb}
-use Rattle.rules_unit.specs.Checks.{filledb, rangesb, entryb, goodFields, gotosb, tableb, rowb, shapeb, foundOf, statementsFrom, partsCheck, checkOf}
+use Rattle.rules_unit.specs.Checks.{filledb, rangesb, choiceb, entryb, goodFields, gotosb, tableb, rowb, shapeb, foundOf, statementsFrom, partsCheck, checkOf}
 use Rattle.rules_run.specs.Spans.{within, startEndSpan, spanOf}
 use Rattle.rules_run.specs.Evaluation.{calc, digitsFrom, literalNumber, reference, stepBy, placeBy, place, lastOf, workedFrom, workedOf}
 use Rattle.rules_run.specs.States.{returnsb, emptyb, slotsb, soundb, started}
@@ -30,5 +30,5 @@ pub record Tours : Type 0 where
   pub leaves : ran .bytes ≡ bytes "04xabYCd80"
 
 pub tours : Tours
-unfolding readOf paddedRead readFrom placed markOf partsOf kindOf fieldAt referenceAt numberAt itemBy itemAt itemsIn itemsAt statementAt verbOf digitsb numberb sortFrom sortAt usesb filledb rangesb entryb goodFields gotosb tableb rowb shapeb foundOf statementsFrom partsCheck checkOf within startEndSpan spanOf calc digitsFrom literalNumber reference stepBy placeBy place lastOf workedFrom workedOf returnsb emptyb slotsb soundb stored applied turnBy turnOf movedBy runFrom runChecked runOf
+unfolding readOf paddedRead readFrom placed markOf partsOf kindOf fieldAt referenceAt numberAt itemBy itemAt itemsIn itemsAt statementAt verbOf digitsb numberb sortFrom sortAt usesb filledb rangesb choiceb entryb goodFields gotosb tableb rowb shapeb foundOf statementsFrom partsCheck checkOf within startEndSpan spanOf calc digitsFrom literalNumber reference stepBy placeBy place lastOf workedFrom workedOf returnsb emptyb slotsb soundb stored applied turnBy turnOf movedBy runFrom runChecked runOf
 tours = record { stops = refl; reached = refl; completed = refl; no-call-open = refl; leaves = refl }
