@@ -26,17 +26,23 @@ use crate::say::sum;
 use crate::say::width;
 use rules_unit::Field;
 use rules_unit::Parts;
+use rules_unit::Rule;
 
-// The columns of the table.
+// The columns of the table: where a field's bytes begin, where its size and its count end, where what is stored begins, and where its value in figures does.
+struct Columns {
+    span: usize,
+    size: usize,
+    count: usize,
+    stored: usize,
+    value: usize,
+}
+
+// The column of the kinds, and where that of the bytes begins, without strict fields and with them.
 const KIND: usize = 7;
 
 const SPAN: usize = 16;
 
-const SIZE: usize = 33;
-
-const COUNT: usize = 40;
-
-const STORED: usize = 42;
+const STRICT_SPAN: usize = 23;
 
 // The most columns that the stored characters of a decimal field take in a row, and those of another.
 const DECIMAL_ROOM: usize = 28;
@@ -128,15 +134,15 @@ fn element_of(data: &[u8], field: Field, i: u16) -> &[u8] {
     part(data, start_of(field, i), field.size as usize)
 }
 
-// Puts the elements of a field that a row has from the element i on: as they are stored, and decimals in the column given in figures.
-fn put_held(l: Line, parts: Parts, data: &[u8], field: Field, i: u16, column: usize) -> Line {
+// Puts the elements of a field that a row has from the element i on: as they are stored, and decimals in figures too.
+fn put_held(l: Line, t: Columns, parts: Parts, data: &[u8], field: Field, i: u16) -> Line {
     let kind = field.kind;
     let size = field.size as usize;
     let start = start_of(field, i);
     let k = least(on_row(field), less(field.count as usize, i as usize));
     let next = put_elements(l, parts, data, start, size, k, false);
     if unit_decode::is_decimal(kind) {
-        let filled = fill_to(put_text(next, b"  "), column);
+        let filled = fill_to(put_text(next, b"  "), t.value);
         return put_elements(filled, parts, data, start, size, k, true);
     }
     next
@@ -175,6 +181,47 @@ fn widest(unit: &[u8], parts: Parts, data: &[u8], show: Show) -> usize {
     width
 }
 
+// Whether a field is strict.
+fn is_strict(field: Field) -> bool {
+    match run_spans::rule_of(field) {
+        Rule::Loose => false,
+        Rule::Strict => true,
+    }
+}
+
+// Whether any of a unit's fields is strict.
+fn has_strict(unit: &[u8], parts: Parts) -> bool {
+    let mut i: u16 = 0;
+    while i < parts.f {
+        if is_strict(field_of(unit, parts, i)) {
+            return true;
+        }
+        i += 1;
+    }
+    false
+}
+
+// The columns of a table whose bytes begin at the column given, where stored characters take so many columns.
+fn columns_from(span: usize, width: usize) -> Columns {
+    let stored = sum(span, 26);
+    Columns {
+        span: span,
+        size: sum(span, 17),
+        count: sum(span, 24),
+        stored: stored,
+        value: sum(sum(stored, 2), width),
+    }
+}
+
+// The columns of a unit's table.
+fn columns_of(unit: &[u8], parts: Parts, data: &[u8], show: Show) -> Columns {
+    let width = widest(unit, parts, data, show);
+    if has_strict(unit, parts) {
+        return columns_from(STRICT_SPAN, width);
+    }
+    columns_from(SPAN, width)
+}
+
 // ---- the first row of a field
 
 // Puts `3-7`, or `3` for one byte.
@@ -186,8 +233,8 @@ pub fn put_span(l: Line, from: usize, len: usize) -> Line {
     put_form(l, b"#-#", from as u64, last as u64)
 }
 
-// Puts a field's name and kind.
-fn put_entry(l: Line, field: Field, i: u16) -> Line {
+// Puts a field's name and kind, and whether it is strict.
+fn put_entry(l: Line, t: Columns, field: Field, i: u16) -> Line {
     let kind = field.kind;
     let mut next = put_name(l, field, i);
     next = fill_to(next, KIND);
@@ -195,16 +242,19 @@ fn put_entry(l: Line, field: Field, i: u16) -> Line {
         next,
         piece(b"alpha|decimal|record|none|", kind_number(kind)),
     );
-    fill_to(next, SPAN)
+    if is_strict(field) {
+        next = put_text(next, b" strict");
+    }
+    fill_to(next, t.span)
 }
 
 // Puts a field's bytes, size and count.
-fn put_sizes(l: Line, field: Field) -> Line {
+fn put_sizes(l: Line, t: Columns, field: Field) -> Line {
     let from = field.offset as usize;
     let mut next = put_span(l, from, less(unit_decode::end_of(field), from));
-    next = put_right(next, field.size as u64, SIZE);
-    next = put_right(next, field.count as u64, COUNT);
-    fill_to(next, STORED)
+    next = put_right(next, field.size as u64, t.size);
+    next = put_right(next, field.count as u64, t.count);
+    fill_to(next, t.stored)
 }
 
 // Puts how many elements are not told.
@@ -228,93 +278,83 @@ fn begins(at: usize, k: usize) -> bool {
 }
 
 // The row of an element's characters from a count on, if a row begins there.
-fn say_characters(s: &[u8], at: usize, show: Show) {
+fn say_characters(s: &[u8], at: usize, t: Columns, show: Show) {
     if !begins(at, ALPHA_ROOM) {
         return;
     }
-    let l = fill_to(line_for(show), STORED);
+    let l = fill_to(line_for(show), t.stored);
     say_line(put_element(l, part(s, at, s.len())));
 }
 
 // The rows of an element's characters behind its first row.
-fn say_tail(s: &[u8], show: Show) {
+fn say_tail(s: &[u8], t: Columns, show: Show) {
     let mut at = 1;
     while at < s.len() {
-        say_characters(s, at, show);
+        say_characters(s, at, t, show);
         at += 1;
     }
 }
 
 // Puts the subscript of the element i into the column of the counts.
-fn put_subscript(l: Line, i: u16) -> Line {
+fn put_subscript(l: Line, t: Columns, i: u16) -> Line {
     let n = i as u64 + 1;
     let figures = put_form(new_line(), b"(#)", n, 0);
-    let mut next = fill_to(l, less(COUNT, figures.at));
+    let mut next = fill_to(l, less(t.count, figures.at));
     next = put_form(next, b"(#)", n, 0);
-    fill_to(next, STORED)
+    fill_to(next, t.stored)
 }
 
 // The rows from the element i on, if a row begins there: that of the element, and those of its further characters.
-fn say_element(parts: Parts, data: &[u8], field: Field, i: u16, column: usize, show: Show) {
+fn say_element(parts: Parts, data: &[u8], field: Field, i: u16, t: Columns, show: Show) {
     if !begins(i as usize, on_row(field)) {
         return;
     }
-    let l = put_subscript(line_for(show), i);
-    say_line(put_held(l, parts, data, field, i, column));
-    say_tail(element_of(data, field, i), show);
+    let l = put_subscript(line_for(show), t, i);
+    say_line(put_held(l, t, parts, data, field, i));
+    say_tail(element_of(data, field, i), t, show);
 }
 
 // The rows of a field's elements behind those of its first row.
-fn say_others(parts: Parts, data: &[u8], field: Field, column: usize, show: Show) {
+fn say_others(parts: Parts, data: &[u8], field: Field, t: Columns, show: Show) {
     let mut i: u16 = 1;
     while i < field.count {
-        say_element(parts, data, field, i, column, show);
+        say_element(parts, data, field, i, t, show);
         i += 1;
     }
 }
 
 // All rows of a field behind its first. A record has none, since it covers other fields.
-fn say_rest(parts: Parts, data: &[u8], field: Field, column: usize, show: Show) {
+fn say_rest(parts: Parts, data: &[u8], field: Field, t: Columns, show: Show) {
     let kind = field.kind;
     if kind_number(kind) == RECORD {
         return;
     }
-    say_tail(element_of(data, field, 0), show);
-    say_others(parts, data, field, column, show);
+    say_tail(element_of(data, field, 0), t, show);
+    say_others(parts, data, field, t, show);
 }
 
 // ---- the table
 
 // The rows of the field i over some data: all that it holds, or one with its first elements and how many more there are.
-fn say_field(
-    unit: &[u8],
-    parts: Parts,
-    data: &[u8],
-    i: u16,
-    column: usize,
-    whole: bool,
-    show: Show,
-) {
+fn say_field(unit: &[u8], parts: Parts, data: &[u8], i: u16, t: Columns, whole: bool, show: Show) {
     let field = field_of(unit, parts, i);
-    let mut l = put_entry(line_for(show), field, i);
-    l = put_sizes(l, field);
-    l = put_held(l, parts, data, field, 0, column);
+    let mut l = put_entry(line_for(show), t, field, i);
+    l = put_sizes(l, t, field);
+    l = put_held(l, t, parts, data, field, 0);
     if whole {
         say_line(l);
-        say_rest(parts, data, field, column, show);
+        say_rest(parts, data, field, t, show);
         return;
     }
     say_line(put_more(l, field));
 }
 
 // The head of the table, after a line with nothing in it.
-fn say_head(column: usize) {
+fn say_head(t: Columns) {
     say(b"\n");
-    let mut l = put_text(
-        new_line(),
-        b"field  kind     bytes        size  count  stored",
-    );
-    l = fill_to(l, column);
+    let mut l = fill_to(put_text(new_line(), b"field  kind"), t.span);
+    l = put_text(l, b"bytes        size  count  stored");
+    l = fill_to(l, t.value);
     say_line(put_text(l, b"value"));
 }
 
@@ -323,11 +363,11 @@ pub fn say_fields(unit: &[u8], parts: Parts, data: &[u8], whole: bool, show: Sho
     if parts.f < 1 {
         return;
     }
-    let column = sum(STORED + 2, widest(unit, parts, data, show));
-    say_head(column);
+    let t = columns_of(unit, parts, data, show);
+    say_head(t);
     let mut i: u16 = 0;
     while i < parts.f {
-        say_field(unit, parts, data, i, column, whole, show);
+        say_field(unit, parts, data, i, t, whole, show);
         i += 1;
     }
 }

@@ -6,22 +6,16 @@ use Rattle.boxlever.proofs.fields.say_fields.Statement.{statement}
 use Rattle.boxlever.proofs.fields.say_fields.Tie as tie
 
 abbrev Inv-loop : tie.InvT-loop
-Inv-loop unit parts «data» whole show column i₀ i = Unit {0}
+Inv-loop unit parts «data» whole show t i₀ i = Unit {0}
 
 abbrev μ-loop : tie.MeasureT-loop
-μ-loop unit parts «data» whole show column i₀ i = parts .f - i
+μ-loop unit parts «data» whole show t i₀ i = parts .f - i
 
 returns : tie.Need-returns Inv-loop μ-loop
 returns c = search needs
 
-add-sum : tie.Need-add-sum Inv-loop μ-loop
-add-sum c = search needs
-
-widest-requires : tie.Need-widest-requires Inv-loop μ-loop
-widest-requires c κs = search needs
-
-sum-requires : tie.Need-sum-requires Inv-loop μ-loop
-sum-requires c κs = search needs
+columns-of-requires : tie.Need-columns-of-requires Inv-loop μ-loop
+columns-of-requires c κs = search needs
 
 say-head-requires : tie.Need-say-head-requires Inv-loop μ-loop
 say-head-requires c κs = search needs
@@ -51,9 +45,7 @@ say-fields-spec =
     Inv-loop
     μ-loop
     returns
-    add-sum
-    widest-requires
-    sum-requires
+    columns-of-requires
     say-head-requires
     loop-holds
     say-field-requires

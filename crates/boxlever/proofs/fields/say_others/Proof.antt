@@ -6,10 +6,10 @@ use Rattle.boxlever.proofs.fields.say_others.Statement.{statement}
 use Rattle.boxlever.proofs.fields.say_others.Tie as tie
 
 abbrev Inv-loop : tie.InvT-loop
-Inv-loop parts «data» field column show i₀ i = Unit {0}
+Inv-loop parts «data» field t show i₀ i = Unit {0}
 
 abbrev μ-loop : tie.MeasureT-loop
-μ-loop parts «data» field column show i₀ i = field .count - i
+μ-loop parts «data» field t show i₀ i = field .count - i
 
 loop-holds : tie.Need-loop-holds Inv-loop μ-loop
 loop-holds c = search needs

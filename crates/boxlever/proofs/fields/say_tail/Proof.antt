@@ -7,10 +7,10 @@ use Rattle.boxlever.proofs.fields.say_tail.Statement.{statement}
 use Rattle.boxlever.proofs.fields.say_tail.Tie as tie
 
 abbrev Inv-loop : tie.InvT-loop
-Inv-loop s show at₀ at = Unit {0}
+Inv-loop s t show at₀ at = Unit {0}
 
 abbrev μ-loop : tie.MeasureT-loop
-μ-loop s show at₀ at = length s - at
+μ-loop s t show at₀ at = length s - at
 
 loop-holds : tie.Need-loop-holds Inv-loop μ-loop
 loop-holds c = search needs
