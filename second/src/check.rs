@@ -3,7 +3,7 @@
 use crate::decimal::DIGITS_MOST;
 use crate::expression::{sort_at, three_from, Sort};
 use crate::stop::Refusal;
-use crate::unit::{code, Field, Parts, Statement, ALPHA, DECIMAL, RECORD};
+use crate::unit::{code, Field, Parts, Statement, ALPHA, DECIMAL, LOOSE, RECORD, STRICT};
 use std::ops::RangeInclusive;
 
 const IMAGE_RANGE: RangeInclusive<usize> = 1..=16_383;
@@ -77,7 +77,8 @@ fn field_fits(field: &Field, length: usize) -> bool {
         RECORD => field.count == 1,
         _ => false,
     };
-    kind_fits && field.zero == 0 && field.size >= 1 && field.count >= 1 && field.end() <= length
+    let choice_fits = matches!(field.choice, LOOSE | STRICT);
+    kind_fits && choice_fits && field.size >= 1 && field.count >= 1 && field.end() <= length
 }
 
 /// Check 5: code, zero parts, count and target of statement `i`.
@@ -170,6 +171,7 @@ mod tests {
         let mut longest = Sample {
             image: vec![b' '; 16_383],
             fields: vec![(0, 0, 1, 1); 512],
+            choices: vec![0x80; 512],
             expressions: vec![0; 16_383],
             literals: vec![b' '; 4_095],
             statements: vec![(11, 0, 0, 0); 2_048],
@@ -266,6 +268,45 @@ mod tests {
             over_twenty(&[(2, 9, 9, 1), (0, 4, 1, 1), (2, 0, 1, 1), (1, 5, 1, 1)]),
             PASSED
         );
+    }
+
+    #[test]
+    fn byte_1_of_an_entry_is_00_or_80() {
+        for entry in 0..3 {
+            for byte in 0..=255 {
+                let mut sample = Sample::fields((11, 0, 0, 0), b"");
+                sample.choices = vec![0; entry];
+                sample.choices.push(byte);
+                let wanted = match byte {
+                    0x00 | 0x80 => PASSED,
+                    _ => (3, entry),
+                };
+                assert_eq!(sample.answer(), wanted, "{byte:02X} of entry {entry}");
+            }
+        }
+    }
+
+    #[test]
+    fn a_strict_entry_keeps_the_other_rules() {
+        for bad in [
+            (0, 0, 11, 1),
+            (0, 10, 1, 1),
+            (0, 0, 0, 1),
+            (0, 0, 1, 0),
+            (1, 0, 19, 1),
+            (2, 0, 5, 2),
+            (3, 0, 1, 1),
+        ] {
+            let mut sample = Sample::fields((11, 0, 0, 0), b"");
+            sample.fields = vec![bad];
+            assert_eq!(sample.strict().answer(), (3, 0), "{bad:?}");
+        }
+        let mut shared = Sample::fields((11, 0, 0, 0), b"");
+        shared.fields = vec![(0, 0, 2, 2), (1, 3, 1, 1)];
+        assert_eq!(shared.strict().answer(), (3, 1));
+        let mut both = Sample::fields((11, 0, 0, 0), b"");
+        (both.fields, both.choices) = (vec![(0, 0, 1, 1), (0, 0, 0, 1)], vec![0x80, 0x81]);
+        assert_eq!(both.answer(), (3, 1));
     }
 
     fn answer_to(statements: &[StatementEntry]) -> (u8, usize) {

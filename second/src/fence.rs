@@ -177,11 +177,12 @@ fn reference_breach(
         }
     }
     // "the bounds are ones that 21 isn't given for, and the span lies inside the field's size x
-    // count bytes": a span "must stay inside the D bytes. Otherwise 21."
+    // count bytes": a span "must stay inside the D bytes. Otherwise 21." Whether the field is strict
+    // is not asked, since every field is held to its bytes here.
     let Some(span) = named(field, form, values, parts.image.len()) else {
         return Some(Breach::BoundsWrong);
     };
-    if span.start < field.offset || field.end() < span.end {
+    if !field.holds(&span) {
         return Some(Breach::LeavesField);
     }
     if field.is_decimal() {

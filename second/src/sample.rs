@@ -4,7 +4,8 @@ use crate::bench::{image, BENCH_ALLOWANCE};
 use crate::check::check;
 use crate::run::run;
 use crate::state::State;
-use crate::unit::code;
+use crate::unit::{code, LOOSE, STRICT};
+use std::iter::repeat;
 
 pub type FieldEntry = (u8, u16, u16, u16);
 pub type StatementEntry = (u8, u16, u16, u16);
@@ -14,6 +15,8 @@ pub type StatementEntry = (u8, u16, u16, u16);
 pub struct Sample {
     pub image: Vec<u8>,
     pub fields: Vec<FieldEntry>,
+    /// Byte 1 of the first field entries; that of the others is 0.
+    pub choices: Vec<u8>,
     pub expressions: Vec<u8>,
     pub literals: Vec<u8>,
     pub statements: Vec<StatementEntry>,
@@ -25,6 +28,7 @@ impl Sample {
         Sample {
             image: vec![b' '],
             fields: vec![],
+            choices: vec![],
             expressions: vec![],
             literals: vec![],
             statements: vec![(11, 0, 0, 0)],
@@ -37,6 +41,7 @@ impl Sample {
         Sample {
             image: vec![b'0'; 10],
             fields: vec![(1, 0, 2, 2), (0, 4, 6, 1), (2, 0, 10, 1)],
+            choices: vec![],
             expressions: expressions.to_vec(),
             literals: b"1234567890123456789".to_vec(),
             statements: vec![statement],
@@ -48,6 +53,7 @@ impl Sample {
         Sample {
             image: image.as_bytes().to_vec(),
             fields: fields.to_vec(),
+            choices: vec![],
             expressions: vec![],
             literals: vec![],
             statements: vec![],
@@ -60,6 +66,12 @@ impl Sample {
             "abcdefghijklmnopqrstuvwxyz1234567890",
             &[(0, 0, 13, 1), (0, 13, 13, 1), (1, 26, 10, 1)],
         )
+    }
+
+    /// The same with all its fields strict.
+    pub fn strict(mut self) -> Sample {
+        self.choices = vec![STRICT; self.fields.len()];
+        self
     }
 
     /// Adds an expression, told by its items in postfix order, and gives its offset. Items are
@@ -163,13 +175,14 @@ impl Sample {
 
     pub fn unit(&self) -> Vec<u8> {
         let mut unit = self.image.clone();
-        for &(kind, offset, size, count) in &self.fields {
-            unit.extend(entry(kind, [offset, size, count]));
+        let choices = self.choices.iter().copied().chain(repeat(LOOSE));
+        for (&(kind, offset, size, count), choice) in self.fields.iter().zip(choices) {
+            unit.extend(entry(kind, choice, [offset, size, count]));
         }
         unit.extend(&self.expressions);
         unit.extend(&self.literals);
         for &(code, a, b, c) in &self.statements {
-            unit.extend(entry(code, [a, b, c]));
+            unit.extend(entry(code, 0, [a, b, c]));
         }
         let (image, fields) = (self.image.len(), self.fields.len());
         let (expressions, literals) = (self.expressions.len(), self.literals.len());
@@ -224,8 +237,8 @@ pub fn written(length: usize, write: impl FnOnce(&mut [u8])) -> String {
     String::from_utf8(place).unwrap()
 }
 
-fn entry(first: u8, numbers: [u16; 3]) -> Vec<u8> {
-    let mut bytes = vec![first, 0];
+fn entry(first: u8, second: u8, numbers: [u16; 3]) -> Vec<u8> {
+    let mut bytes = vec![first, second];
     bytes.extend(numbers.iter().flat_map(|number| number.to_be_bytes()));
     bytes
 }

@@ -42,8 +42,8 @@ fn stretch(form: Form, bounds: [i64; 2], size: usize) -> Option<Range<i64>> {
     }
 }
 
-/// The bytes that a reference names in `length` bytes of data; or nothing if 21 is given, for the
-/// bounds themselves or because these bytes do not stay inside the data.
+/// The bytes that a reference names in `length` bytes of data; or nothing if 21 is given for any
+/// field, for the bounds themselves or because these bytes do not stay inside the data.
 pub fn named(field: &Field, form: Form, bounds: [i64; 2], length: usize) -> Option<Range<usize>> {
     let stretch = stretch(form, bounds, field.size)?;
     let offset = field.offset as i64;
@@ -51,10 +51,12 @@ pub fn named(field: &Field, form: Form, bounds: [i64; 2], length: usize) -> Opti
     is_inside.then(|| (offset + stretch.start) as usize..(offset + stretch.end) as usize)
 }
 
-/// The span of a reference in `length` bytes of data: 21 if there is none, then 20 if it is a
-/// decimal span of more than 18 characters.
+/// The span of a reference in `length` bytes of data: 21 if there is none, or if it leaves the bytes
+/// of a strict field; then 20 if it is a decimal span of more than 18 characters.
 pub fn span(field: &Field, form: Form, bounds: [i64; 2], length: usize) -> Result<Span, Fault> {
-    let Range { start, end } = named(field, form, bounds, length).ok_or(Fault::Subscript)?;
+    let Range { start, end } = named(field, form, bounds, length)
+        .filter(|span| !field.is_strict() || field.holds(span))
+        .ok_or(Fault::Subscript)?;
     let is_decimal = field.is_decimal();
     if is_decimal && end - start > DIGITS_MOST {
         return Err(Fault::Digits);
@@ -69,14 +71,14 @@ pub fn span(field: &Field, form: Form, bounds: [i64; 2], length: usize) -> Resul
 #[cfg(test)]
 mod tests {
     use super::*;
-    use crate::unit::{ALPHA, DECIMAL};
+    use crate::unit::{ALPHA, DECIMAL, LOOSE, RECORD, STRICT};
 
     const FAR: i64 = 999_999_999_999_999_999;
 
     fn field(kind: u8, offset: usize, size: usize, count: usize) -> Field {
         Field {
             kind,
-            zero: 0,
+            choice: LOOSE,
             offset,
             size,
             count,
@@ -180,5 +182,75 @@ mod tests {
         assert_eq!(part(1, 37), Err(21));
         let text = field(ALPHA, 0, 12, 3);
         assert_eq!(found(text, Form::StartEnd, [1, 19]), Ok((0, 19)));
+    }
+
+    /// A field that is strict.
+    fn strict(kind: u8, offset: usize, size: usize, count: usize) -> Field {
+        Field {
+            choice: STRICT,
+            ..field(kind, offset, size, count)
+        }
+    }
+
+    #[test]
+    fn a_strict_field_holds_its_subscripts() {
+        for kind in [ALPHA, DECIMAL] {
+            let element = |s| found(strict(kind, 10, 4, 3), Form::Subscript, [s, 0]);
+            assert_eq!(element(1), Ok((10, 14)));
+            assert_eq!(element(3), Ok((18, 22)));
+            for s in [0, 4, -1, -2, 7, FAR, -FAR] {
+                assert_eq!(element(s), Err(21), "{s}");
+            }
+        }
+        let first = found(strict(ALPHA, 10, 4, 3), Form::First, [0, 0]);
+        assert_eq!(first, Ok((10, 14)));
+    }
+
+    #[test]
+    fn a_strict_field_holds_its_substrings() {
+        let seats = strict(ALPHA, 10, 4, 3);
+        let part = |start, end| found(seats, Form::StartEnd, [start, end]);
+        assert_eq!(part(1, 12), Ok((10, 22)));
+        assert_eq!(part(3, 9), Ok((12, 19)));
+        assert_eq!(part(12, 12), Ok((21, 22)));
+        assert_eq!(part(12, 13), Err(21));
+        assert_eq!(part(13, 13), Err(21));
+        assert_eq!(part(1, 27), Err(21));
+        let part = |pos, length| found(seats, Form::PosLength, [pos, length]);
+        assert_eq!(part(3, 10), Ok((12, 22)));
+        assert_eq!(part(3, 11), Err(21));
+        assert_eq!(part(12, -12), Ok((10, 22)));
+        assert_eq!(part(12, -13), Err(21));
+        assert_eq!(part(1, -1), Ok((10, 11)));
+        assert_eq!(part(1, -2), Err(21));
+        assert_eq!(part(13, -1), Err(21));
+        assert_eq!(part(13, -14), Err(21));
+    }
+
+    #[test]
+    fn a_strict_record_holds_its_own_size() {
+        let middle = strict(RECORD, 10, 5, 1);
+        let part = |start, end| found(middle, Form::StartEnd, [start, end]);
+        assert_eq!(part(1, 5), Ok((10, 15)));
+        assert_eq!(part(1, 6), Err(21));
+        let element = |s| found(middle, Form::Subscript, [s, 0]);
+        assert_eq!(element(1), Ok((10, 15)));
+        assert_eq!([element(0), element(2)], [Err(21), Err(21)]);
+    }
+
+    #[test]
+    fn a_strict_decimal_is_21_before_20() {
+        let fares = strict(DECIMAL, 0, 12, 2);
+        let part = |start, end| found(fares, Form::StartEnd, [start, end]);
+        assert_eq!(part(7, 24), Ok((6, 24)));
+        assert_eq!(part(6, 24), Err(20));
+        assert_eq!(part(6, 25), Err(21));
+    }
+
+    #[test]
+    fn the_data_end_before_a_strict_field_that_is_not_sound() {
+        let long = strict(ALPHA, 30, 10, 1);
+        assert_eq!(found(long, Form::StartEnd, [1, 6]), Ok((30, 36)));
+        assert_eq!(found(long, Form::StartEnd, [1, 7]), Err(21));
     }
 }

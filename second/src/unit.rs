@@ -1,5 +1,7 @@
 //! The coded unit: its five parts, and how field entries and statements are read from them.
 
+use std::ops::Range;
+
 /// The length of the trailer in bytes.
 pub const TRAILER: usize = 12;
 
@@ -15,6 +17,10 @@ pub const MARK: [u8; 2] = [0x44, 0x42];
 pub const ALPHA: u8 = 0;
 pub const DECIMAL: u8 = 1;
 pub const RECORD: u8 = 2;
+
+/// What a field may choose in byte 1 of its entry.
+pub const LOOSE: u8 = 0x00;
+pub const STRICT: u8 = 0x80;
 
 /// The codes of the statements.
 pub mod code {
@@ -51,7 +57,7 @@ pub struct Parts<'a> {
 #[derive(Clone, Copy, Debug, PartialEq, Eq)]
 pub struct Field {
     pub kind: u8,
-    pub zero: u8,
+    pub choice: u8,
     pub offset: usize,
     pub size: usize,
     pub count: usize,
@@ -114,7 +120,7 @@ impl<'a> Parts<'a> {
         let entry = self.fields.chunks_exact(ENTRY).nth(i)?;
         Some(Field {
             kind: entry[0],
-            zero: entry[1],
+            choice: entry[1],
             offset: number_at(entry, 2),
             size: number_at(entry, 4),
             count: number_at(entry, 6),
@@ -152,5 +158,15 @@ impl Field {
 
     pub fn is_decimal(&self) -> bool {
         self.kind == DECIMAL
+    }
+
+    /// Whether a reference to the field that leaves its bytes is 21.
+    pub fn is_strict(&self) -> bool {
+        self.choice == STRICT
+    }
+
+    /// Whether a span lies inside the field's size x count bytes.
+    pub fn holds(&self, span: &Range<usize>) -> bool {
+        self.offset <= span.start && span.end <= self.end()
     }
 }

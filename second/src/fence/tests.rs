@@ -19,7 +19,7 @@ fn sample() -> Sample {
     )
 }
 
-/// The number of the rule that the only statement breaks, or 0.
+/// The number of the rule that the only statement breaks, or 0. With strict fields it is the same.
 fn broken(sample: Sample) -> u8 {
     let unit = sample.unit();
     let number = breach(&unit, 0).map_or(0, Breach::number);
@@ -29,6 +29,9 @@ fn broken(sample: Sample) -> u8 {
         Fence::No(0)
     };
     assert_eq!(fence(&unit), wanted);
+    let strict = sample.strict().unit();
+    assert_eq!(fence(&strict), wanted);
+    assert_eq!(breach(&strict, 0), breach(&unit, 0));
     number
 }
 

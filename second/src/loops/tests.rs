@@ -507,6 +507,26 @@ mod errors {
     }
 
     #[test]
+    fn a_strict_control_is_held_at_the_entry_and_at_each_pass() {
+        let entered = |control| {
+            sample()
+                .strict()
+                .looped(control, ["1", "9", "1"], |body| body)
+        };
+        assert_eq!(entered("3 %2()").fault(), (21, 0));
+        assert_eq!(entered("0 %2()").fault(), (21, 0));
+        let loose = sample().looped("0 %2()", ["1", "9", "1"], |body| body);
+        assert_eq!(loose.data(), "55100102x7");
+        // The subscript has run out of the table when the third pass is over.
+        let numbers = ["1", "99", "1"];
+        let mut runs_out = sample().looped("%1 %2()", numbers, |body| body.on(code::INCR, "%1"));
+        runs_out = runs_out.strict();
+        let (outcome, data) = ran(&runs_out, "55010102x7", State::START, 99);
+        assert_eq!((outcome.stop, outcome.place, outcome.count), (21, 2, 4));
+        assert_eq!(data, "55030103x7");
+    }
+
+    #[test]
     fn a_control_of_18_digits_keeps_to_the_range() {
         let nines = "9".repeat(18);
         let sample = Sample::over(&"?".repeat(18), &[(1, 0, 18, 1)]);

@@ -349,6 +349,88 @@ mod errors {
     }
 }
 
+mod strict_fields {
+    use super::*;
+
+    /// The sample with one strict field.
+    fn with_strict(field: usize) -> Sample {
+        let mut sample = sample();
+        sample.choices = vec![0; field];
+        sample.choices.push(0x80);
+        sample
+    }
+
+    #[test]
+    fn a_strict_place_keeps_to_its_field() {
+        for code in [code::CLEAR, code::INCR, code::DECR] {
+            let on = |place| with_strict(2).on(code, place).ran().0;
+            assert_eq!([on("%2"), on("1 %2()"), on("2 %2()")], [0; 3]);
+            assert_eq!([on("3 %2()"), on("0 %2()")], [21; 2]);
+            assert_eq!([on("1 4 %2(,)"), on("4 4 neg %2(:)")], [0; 2]);
+            assert_eq!([on("4 5 %2(,)"), on("1 2 neg %2(:)")], [21; 2]);
+        }
+        for code in [code::CLEAR, code::UPCASE, code::LOCASE] {
+            let on = |field, place| with_strict(field).on(code, place).ran().0;
+            assert_eq!([on(1, "%1"), on(1, "1 %1()"), on(1, "1 4 %1(,)")], [0; 3]);
+            assert_eq!([on(1, "2 %1()"), on(1, "1 5 %1(,)")], [21; 2]);
+            assert_eq!([on(0, "2 %1()"), on(0, "1 5 %1(,)")], [0; 2]);
+            assert_eq!([on(3, "1 10 %3(,)"), on(3, "1 11 %3(,)")], [0, 21]);
+        }
+    }
+
+    #[test]
+    fn the_same_loose_runs_on() {
+        let stored = |sample: Sample| sample.set("0 %2()", "5").ran();
+        let (kept, written) = ("07aB1z1112".to_string(), "07aB051112".to_string());
+        assert_eq!(stored(sample()), (0, 1, 1, written.clone()));
+        assert_eq!(stored(with_strict(2)), (21, 0, 0, kept));
+        assert_eq!(stored(with_strict(1)), (0, 1, 1, written));
+        // A record over it may write it.
+        let over = with_strict(1).set("3 6 %3(,)", "\"Eve\"").data();
+        assert_eq!(over, "07Eve 1112");
+    }
+
+    #[test]
+    fn strict_in_every_part() {
+        let fault = |statement: fn(Sample) -> Sample| statement(sample().strict()).fault();
+        let past = [
+            fault(|sample| sample.set("3 %2()", "1 0 /")),
+            fault(|sample| sample.set("%0", "0 %2()")),
+            fault(|sample| sample.set("%1", "2 5 %1(,)")),
+            fault(|sample| sample.set("%0", "1 3 %2() +")),
+            fault(|sample| sample.set("0 %2() %2()", "1")),
+            fault(|sample| sample.format("1 5 %1(,)", "\"X\"", "1 0 /")),
+            fault(|sample| sample.format("%1", "1 5 %1(,)", "1 0 /")),
+            fault(|sample| sample.format("%1", "\"X\"", "3 %2()")),
+            fault(|sample| sample.by(code::GOTO_IF_ZERO, "3 %2()", 0)),
+            fault(|sample| {
+                sample
+                    .by(code::COMPUTED_GOTO, "3 %2()", 1)
+                    .to(code::GOTO, 0)
+            }),
+        ];
+        assert_eq!(past, [(21, 0); 10]);
+    }
+
+    #[test]
+    fn bounds_and_then_21_and_20_and_22() {
+        let wide = |image: char| {
+            let image: String = [image; 30].iter().collect();
+            let mut wide = Sample::over(&image, &[(1, 5, 10, 2), (1, 25, 5, 1)]);
+            wide.choices = vec![0x80];
+            wide
+        };
+        let incr = |image, place| wide(image).on(code::INCR, place).ran().0;
+        assert_eq!(incr('1', "1 0 / 21 %0(,)"), 23);
+        assert_eq!(incr('1', "%1 21 %0(,)"), 21);
+        assert_eq!(incr('x', "%1 21 %0(,)"), 22);
+        assert_eq!(incr('x', "2 21 %0(,)"), 21);
+        assert_eq!(incr('x', "2 20 %0(,)"), 20);
+        assert_eq!(incr('x', "3 20 %0(,)"), 22);
+        assert_eq!(incr('1', "3 20 %0(,)"), 0);
+    }
+}
+
 mod states {
     use super::*;
 
