@@ -19,6 +19,10 @@ import signal
 import sys
 
 KINDS = ["alpha", "decimal", "record"]
+
+# What a strict field has in byte 1 of its entry.
+STRICT = 0x80
+
 WORDS = dict(enumerate(["set", "clear", "incr", "decr", "upcase", "locase", "goto", "ifzero",
                         "call", "return", "stop", "computed", "using", "for", "loopend", "exitloop", "nextloop"], 1))
 CODES = {word: code for code, word in WORDS.items()}
@@ -359,7 +363,7 @@ class Assembler:
         name, offset, size, count = line.name(), line.number(), line.number(), 1
         if re.fullmatch("x[0-9]+", line.peek()[1]):
             count = number_of(line.name()[1:])
-        parts = {"kind": KINDS.index(word), "zero": 0}
+        parts = {"kind": KINDS.index(word), "zero": STRICT if line.accept("strict") else 0}
         if line.accept("with"):
             line.changes(parts)
         self.add_field(name, entry(parts["kind"], parts["zero"], offset, size, count))
@@ -621,7 +625,8 @@ class Disassembler:
             return f"field {name} {hexed(data)}"
         _, offset, size, count = words_of(data)
         times = f" x{count}" if count != 1 else ""
-        return f"{KINDS[data[0]]} {name} {offset} {size}{times}{changed(zero=data[1])}"
+        choice = " strict" if data[1] == STRICT else changed(zero=data[1])
+        return f"{KINDS[data[0]]} {name} {offset} {size}{times}{choice}"
 
     def expression_lines(self):
         """The expressions, cut where the statements say that one starts."""
