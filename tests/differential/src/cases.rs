@@ -1,7 +1,7 @@
 //! The cases: a unit with a data buffer, a resume state and allowances, all from a case's number.
 
 use crate::damage::damaged;
-use crate::data::{fill, Quality};
+use crate::data::{fill, make_strict, Quality};
 use crate::decode::{LOOPS_MOST, OPENED};
 use crate::draft::Draft;
 use crate::expressions::GREATEST;
@@ -71,13 +71,15 @@ impl Case {
 
 fn draft(random: &mut Random, kind: Kind) -> Draft {
     let fenced = random.chance(40);
-    match kind {
+    let mut draft = match kind {
         Kind::Random => random_unit(random, false),
         Kind::Fenced => random_unit(random, true),
         Kind::Limit => limit_unit(random),
         Kind::Damaged if random.chance(15) => limit_unit(random),
         Kind::Damaged => random_unit(random, fenced),
-    }
+    };
+    make_strict(random, &mut draft.fields);
+    draft
 }
 
 /// A data buffer: the image, or one filled anew; rarely of another length.

@@ -51,6 +51,7 @@ pub fn compare(case: &Case, reached: &mut Reached) -> Result<(), Difference> {
         if has_passed {
             reached.formats.breach(&Sound::of(unit), i, rule);
             reached.loops.breach(unit, i, rule);
+            reached.stricts.breach(&Sound::of(unit), i, rule);
         }
         literal(case, i, reached)?;
     }
@@ -68,6 +69,9 @@ pub fn compare(case: &Case, reached: &mut Reached) -> Result<(), Difference> {
     }
     if has_passed && case.is_stepped {
         step(case, reached)?;
+    }
+    if has_passed {
+        promises::loose_twin(case, &ran, reached)?;
     }
     promises::error_changed_nothing(case, &ran)?;
     promises::demand_3(case, &ran, reached)
@@ -106,6 +110,9 @@ fn check(case: &Case, reached: &mut Reached) -> Result<bool, Difference> {
                 reached.formats.refused(&case.unit, stop, refusal.place);
                 reached.loops.refused(&case.unit, stop, refusal.place);
             }
+            if refusal.stop == 3 {
+                reached.stricts.refused(&case.unit, refusal.place);
+            }
             (refusal.stop.into(), refusal.place as u64, 0)
         }
     };
@@ -128,6 +135,7 @@ fn fence(case: &Case, reached: &mut Reached) -> Result<(), Difference> {
     if given.result == 0 {
         reached.formats.fenced(&Sound::of(unit));
         reached.loops.fenced(&Sound::of(unit));
+        reached.stricts.fenced(&Sound::of(unit));
     }
     same(|| "fence".to_string(), given, expected)
 }
@@ -258,6 +266,13 @@ fn step(case: &Case, reached: &mut Reached) -> Result<(), Difference> {
         let (before, state) = from.clone();
         let (before, state) = (before.part(), state.part());
         let ran = run(case, from, 1, reached)?;
+        let stop = ran.given.result;
+        if ran.count == 1 || (20..=29).contains(&stop) {
+            if let Some(is_lost) = reached.stricts.worked(&unit, at, before, state) {
+                let what = || format!("whether a reference of statement {at} is 21");
+                same(what, stop == 21, is_lost)?;
+            }
+        }
         if ran.count == 1 {
             reached.statement(&unit, at);
             let after = ran.data.part();
@@ -271,11 +286,11 @@ fn step(case: &Case, reached: &mut Reached) -> Result<(), Difference> {
             };
             reached.loops.completed(&unit, &turn, &mut followed);
         }
-        if (20..=29).contains(&ran.given.result) {
+        if (20..=29).contains(&stop) {
             reached.formats.failed(&case.unit, at, before);
             reached.loops.failed(&case.unit, at, before, state);
         }
-        if ran.given.result != 30 {
+        if stop != 30 {
             break;
         }
         from = (ran.data, ran.state);

@@ -103,7 +103,10 @@ fn edit_field(random: &mut Random, draft: &mut Draft) {
     };
     match random.below(6) {
         0 => field.kind = random.below(4) as u8,
-        1 => field.zero = random.pick(&[1, 0x80, 0xFF]),
+        1 => {
+            let any = random.byte();
+            field.zero = random.pick(&[0x01, 0x40, 0x7F, 0x80, 0x81, 0xFF, any]);
+        }
         2 => field.offset = other(random, field.offset),
         3 => field.size = other(random, field.size),
         4 => field.count = other(random, field.count),

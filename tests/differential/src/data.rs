@@ -1,6 +1,6 @@
 //! Field tables, and bytes to fill data buffers with.
 
-use crate::draft::{Field, ALPHA, DECIMAL, RECORD};
+use crate::draft::{Field, ALPHA, DECIMAL, RECORD, STRICT};
 use crate::random::Random;
 
 /// How good the decimals of a data buffer are.
@@ -46,6 +46,15 @@ fn entry(random: &mut Random, at: usize, length: usize) -> Field {
     let size = random.within(1..=widest);
     let most = (room / size).min(random.weighed(&[(6, 1), (3, 4), (1, 9)]));
     Field::new(kind, at, size, random.within(1..=most))
+}
+
+/// Makes about a third of some fields strict.
+pub fn make_strict(random: &mut Random, fields: &mut [Field]) {
+    for field in fields {
+        if random.chance(33) {
+            field.zero = STRICT;
+        }
+    }
 }
 
 /// Fills a data buffer: text for the alphas and gaps, numbers for the decimals.

@@ -48,6 +48,10 @@ impl<'a> Sound<'a> {
         self.statements.len() / 8
     }
 
+    pub fn field_count(&self) -> usize {
+        self.fields.len() / 8
+    }
+
     pub fn statement(&self, i: usize) -> Statement {
         let entry = &self.statements[8 * i..][..8];
         Statement {
@@ -73,7 +77,10 @@ impl<'a> Sound<'a> {
     pub fn field(&self, i: usize) -> Field {
         let entry = &self.fields[8 * i..][..8];
         let number = |at| usize::from(word(entry, at));
-        Field::new(entry[0], number(2), number(4), number(6))
+        Field {
+            zero: entry[1],
+            ..Field::new(entry[0], number(2), number(4), number(6))
+        }
     }
 
     /// The items of the expression at `offset`, without the 00 that closes it.
@@ -198,6 +205,7 @@ impl<'a> Sound<'a> {
                     found.push(Reference {
                         field: self.field(item.number),
                         span: bounds.and_then(|bounds| self.named(item, &bounds)),
+                        is_bounded: count > 0,
                         is_last: i + 1 == items.len(),
                     });
                     None
@@ -218,20 +226,71 @@ impl<'a> Sound<'a> {
         found
     }
 
-    /// The bytes that a reference with these bounds names, where it has found them in the data.
-    fn named(&self, reference: Item, bounds: &[i64]) -> Option<Range<usize>> {
+    /// Where the bytes lie that a reference with these bounds names, counted from the first of the
+    /// data; or nothing where the bounds themselves are wrong.
+    fn stretch(&self, reference: Item, bounds: &[i64]) -> Option<Range<i64>> {
         let field = self.field(reference.number);
         let size = field.size() as i64;
         let (start, end) = match (reference.code, bounds) {
+            (0x02, _) => (0, size),
             (0x03, [s]) => ((s - 1).saturating_mul(size), s.saturating_mul(size)),
-            (0x04, [start, end]) => (start - 1, *end),
-            (0x05, [pos, length]) if *length > 0 => (pos - 1, pos - 1 + length),
-            (0x05, [pos, length]) => (pos + length, *pos),
-            _ => (0, size),
+            (0x04, [start, end]) if 1 <= *start && start <= end => (start - 1, *end),
+            (0x05, [pos, length]) if *pos >= 1 && *length > 0 => (pos - 1, pos - 1 + length),
+            (0x05, [pos, length]) if *pos >= 1 && *length < 0 => (pos + length, *pos),
+            _ => return None,
         };
-        let at = |bound: i64| usize::try_from(bound.saturating_add(field.start() as i64)).ok();
-        let (start, end) = (at(start)?, at(end)?);
-        (start < end && end <= self.image).then_some(start..end)
+        let at = |bound: i64| bound.saturating_add(field.start() as i64);
+        Some(at(start)..at(end))
+    }
+
+    /// The bytes that a reference with these bounds names, where it has found them in the data: a
+    /// strict field has no others than its own.
+    fn named(&self, reference: Item, bounds: &[i64]) -> Option<Range<usize>> {
+        let Range { start, end } = self.stretch(reference, bounds)?;
+        let span = usize::try_from(start).ok()?..usize::try_from(end).ok()?;
+        let field = self.field(reference.number);
+        let is_found = span.end <= self.image && (!field.is_strict() || field.holds(&span));
+        is_found.then_some(span)
+    }
+
+    /// The references of an expression with what they name over this data, left to right, and whether
+    /// these are all. None is told behind one that gives an error, or behind other items than those
+    /// of `held`.
+    pub fn met(&self, offset: u16, data: &[u8]) -> (Vec<Met>, bool) {
+        let items = self.items(offset);
+        let mut met = Vec::new();
+        for (i, &item) in items.iter().enumerate() {
+            if !(0x02..=0x05).contains(&item.code) {
+                continue;
+            }
+            let Some(mut held) = self.held(&items[..i], data) else {
+                return (met, false);
+            };
+            let bounds = held.split_off(held.len() - taken(item));
+            let taker = taker(&items[i + 1..]);
+            met.push(Met {
+                code: item.code,
+                field: self.field(item.number),
+                stretch: self.stretch(item, &bounds),
+                bounds,
+                is_last: taker.is_none(),
+                is_bound: taker.is_some_and(|taker| (0x03..=0x05).contains(&taker.code)),
+            });
+        }
+        (met, true)
+    }
+
+    /// Whether an expression gives no error over this data, where its items are no others than those
+    /// of `held`. What stands last is read where it is a number, and found where it is a place.
+    pub fn works(&self, offset: u16, is_number: bool, data: &[u8]) -> bool {
+        if is_number {
+            return self.value_over(offset, data).is_some();
+        }
+        let Some(place) = self.place(offset) else {
+            return true;
+        };
+        let is_short = |span: Range<usize>| !place.field.is_decimal() || span.len() <= 18;
+        self.span_over(offset, data).is_some_and(is_short)
     }
 
     /// The reference that an expression ends with, if it does.
@@ -259,7 +318,8 @@ impl<'a> Sound<'a> {
                 }
                 0x10 | 0x11 => {
                     let (y, x): (i64, i64) = (held.pop()?, held.pop()?);
-                    x.checked_add(if item.code == 0x10 { y } else { -y })?
+                    let sum = x + if item.code == 0x10 { y } else { -y };
+                    Some(sum).filter(|sum| sum.unsigned_abs() < 10_u64.pow(18))?
                 }
                 0x15 => -held.pop()?,
                 _ => return None,
@@ -345,7 +405,7 @@ impl<'a> Sound<'a> {
 
     /// The elements of every decimal field.
     fn elements<'d>(&self, data: &'d [u8]) -> Vec<&'d [u8]> {
-        let fields = (0..self.fields.len() / 8).map(|i| self.field(i));
+        let fields = (0..self.field_count()).map(|i| self.field(i));
         let decimals = fields.filter(Field::is_decimal);
         decimals
             .flat_map(|field| data[field.start()..field.end()].chunks(field.size()))
@@ -443,11 +503,49 @@ impl<'a> Sound<'a> {
     }
 }
 
+/// How many values an item takes.
+fn taken(item: Item) -> usize {
+    match item.code {
+        0x01 | 0x06 => 0,
+        0x02..=0x05 => BOUNDS[usize::from(item.code) - 2],
+        0x15 | 0x1C => 1,
+        _ => 2,
+    }
+}
+
+/// Which of some items takes the value that was held last before them, if one does.
+fn taker(items: &[Item]) -> Option<Item> {
+    // How many values are held from that one on.
+    let mut held = 1;
+    for &item in items {
+        if taken(item) >= held {
+            return Some(item);
+        }
+        held = held + 1 - taken(item);
+    }
+    None
+}
+
+/// A reference with what it names over some data.
+pub struct Met {
+    pub code: u8,
+    pub field: Field,
+    pub bounds: Vec<i64>,
+    /// Where its bytes lie, counted from the first of the data, if its bounds are not wrong in themselves.
+    pub stretch: Option<Range<i64>>,
+    /// Whether it is the last item.
+    pub is_last: bool,
+    /// Whether its value is a bound of another.
+    pub is_bound: bool,
+}
+
 /// A reference in an expression.
 pub struct Reference {
     pub field: Field,
     /// Where the bytes that it names stand in the data, if its bounds are literals.
     pub span: Option<Range<usize>>,
+    /// Whether it has bounds.
+    pub is_bounded: bool,
     /// Whether it is the last item.
     pub is_last: bool,
 }
@@ -536,7 +634,7 @@ pub fn bad_character(characters: &[u8]) -> Option<usize> {
 #[cfg(test)]
 mod tests {
     use super::Sound;
-    use crate::draft::{Draft, Field, Statement, ALPHA, DECIMAL};
+    use crate::draft::{Draft, Field, Statement, ALPHA, DECIMAL, STRICT};
 
     /// SET A(2:-2) from `x`, CLEAR D(2), INCR D(1,3), LOCASE A, over A at 1 and D at 6.
     fn unit() -> Vec<u8> {
@@ -604,6 +702,33 @@ mod tests {
         assert_eq!(sound.span_over(entry.a, b"3003"), Some(3..4));
         assert_eq!(sound.span_over(entry.a, b"9003"), None);
         assert_eq!(sound.span_over(entry.a, b"?003"), None);
+    }
+
+    #[test]
+    fn a_strict_field_has_its_own_bytes_alone() {
+        let mut draft = Draft::counting_loop();
+        draft.image = b"20030".to_vec();
+        let met = |draft: &Draft, data: &[u8]| {
+            let unit = draft.unit();
+            let sound = Sound::of(&unit);
+            let control = sound.statement(0).a;
+            let (met, is_all) = sound.met(control, data);
+            let stretch = met.last().unwrap().stretch.clone().unwrap();
+            assert!(is_all && met[0].is_bound && met[1].is_last && !met[1].is_bound);
+            assert_eq!(
+                sound.works(control, false, data),
+                !sound.is_lost_over(control, data)
+            );
+            (stretch, sound.span_over(control, data))
+        };
+        assert_eq!(met(&draft, b"40030"), (4..5, Some(4..5)));
+        assert_eq!(met(&draft, b"00030"), (0..1, Some(0..1)));
+        draft.fields[1].zero = STRICT;
+        assert_eq!(met(&draft, b"40030"), (4..5, None));
+        assert_eq!(met(&draft, b"30030"), (3..4, Some(3..4)));
+        assert_eq!(met(&draft, b"10030"), (1..2, Some(1..2)));
+        assert_eq!(met(&draft, b"00030"), (0..1, None));
+        assert_eq!(met(&draft, b"y0030"), (-9..-8, None));
     }
 
     #[test]

@@ -1,5 +1,7 @@
 //! A unit in the making: its parts, not yet coded.
 
+use std::ops::Range;
+
 /// A field entry.
 #[derive(Clone, Copy, Debug)]
 pub struct Field {
@@ -14,6 +16,9 @@ pub const ALPHA: u8 = 0;
 pub const DECIMAL: u8 = 1;
 pub const RECORD: u8 = 2;
 
+/// Byte 1 of the entry of a strict field.
+pub const STRICT: u8 = 0x80;
+
 impl Field {
     pub fn new(kind: u8, offset: usize, size: usize, count: usize) -> Field {
         Field {
@@ -27,6 +32,15 @@ impl Field {
 
     pub fn is_decimal(&self) -> bool {
         self.kind == DECIMAL
+    }
+
+    pub fn is_strict(&self) -> bool {
+        self.zero == STRICT
+    }
+
+    /// Whether a stretch of the data lies inside the field's bytes.
+    pub fn holds(&self, span: &Range<usize>) -> bool {
+        self.start() <= span.start && span.end <= self.end()
     }
 
     pub fn start(&self) -> usize {

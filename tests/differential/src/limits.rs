@@ -5,6 +5,7 @@ use crate::draft::{code, Draft, Field, Statement, ALPHA, DECIMAL, RECORD};
 use crate::expressions::{Maker, GREATEST};
 use crate::loop_limits::{control_edges, entry_errors, far, many_open, moving};
 use crate::random::Random;
+use crate::strict_limits::strict_edges;
 use crate::units::random_unit;
 
 /// What makes a unit at one of the limits.
@@ -12,7 +13,7 @@ type Make = fn(&mut Random) -> Draft;
 
 /// A unit at some limit.
 pub fn limit_unit(random: &mut Random) -> Draft {
-    let makers: [(usize, Make); 18] = [
+    let makers: [(usize, Make); 19] = [
         (1, sizes),
         (12, held),
         (10, nesting),
@@ -31,6 +32,7 @@ pub fn limit_unit(random: &mut Random) -> Draft {
         (30, moving),
         (30, entry_errors),
         (2, far),
+        (60, strict_edges),
     ];
     random.weighed(&makers)(random)
 }

@@ -5,7 +5,7 @@
 //!
 //! The exit status is 0 when all answers are the same, 1 when some differ, and 2 when nothing was
 //! asked. With --reached it is also 1 when a stop, a statement, an item, a fence answer, a breach, or
-//! a way of a formatted move, of a blank-padded amount or of a loop was not reached.
+//! a way of a formatted move, of a blank-padded amount, of a loop or of a strict field was not reached.
 
 mod blanks;
 mod cases;
@@ -27,6 +27,8 @@ mod promises;
 mod random;
 mod reached;
 mod report;
+mod strict;
+mod strict_limits;
 mod threads;
 mod units;
 mod ways;

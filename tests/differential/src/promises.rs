@@ -24,6 +24,38 @@ pub fn error_changed_nothing(case: &Case, ran: &Ran) -> Result<(), Difference> {
     )
 }
 
+/// A unit that passes with its strict fields made loose, if it has some.
+fn loosened(unit: &[u8]) -> Option<Vec<u8>> {
+    let sound = Sound::of(unit);
+    let mut twin = unit.to_vec();
+    for i in 0..sound.field_count() {
+        twin[sound.image_len() + 8 * i + 1] = 0;
+    }
+    (twin != unit).then_some(twin)
+}
+
+/// What strict fields change: the fence answers as it does for loose ones, and a run that has not
+/// ended in 21 comes to the same with them.
+pub fn loose_twin(case: &Case, ran: &Ran, reached: &mut Reached) -> Result<(), Difference> {
+    let Some(twin) = loosened(&case.unit) else {
+        return Ok(());
+    };
+    let [fence, loose] = [&case.unit, &twin].map(|unit| library::fence(unit, case.room));
+    same(|| "fence, and with loose fields".to_string(), fence, loose)?;
+    let (mut data, mut state) = (Lent::bytes(&case.data), Lent::numbers(&case.state));
+    let allowance = case.allowances[0];
+    let given = library::run(&twin, &mut data, &mut state, allowance, case.room);
+    let (strict, loose) = ((&ran.given, &ran.data, &ran.state), (&given, &data, &state));
+    let is_same = strict == loose;
+    if ran.given.result != 21 {
+        same(|| "run, and with loose fields".to_string(), strict, loose)?;
+    }
+    if is_same != (ran.given.result == 21) {
+        reached.stricts.twin(is_same);
+    }
+    Ok(())
+}
+
 /// Demand 3: for a unit with a yes, valid data and a sound state, no byte outside the destinations
 /// has changed, every decimal element is valid, no 21 was given, and 22 only at a SET that moves
 /// alpha text to a decimal place.

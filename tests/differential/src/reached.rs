@@ -6,6 +6,7 @@ use crate::decode::Sound;
 use crate::formats::Formats;
 use crate::letters::Letters;
 use crate::loops::Loops;
+use crate::strict::Stricts;
 use std::fmt;
 
 /// The stops of document 01, and those of loops.
@@ -55,6 +56,8 @@ pub struct Reached {
     pub letters: Letters,
     /// What loops have reached.
     pub loops: Loops,
+    /// What references to strict fields have reached.
+    pub stricts: Stricts,
 }
 
 impl Reached {
@@ -125,6 +128,7 @@ impl Reached {
         self.blanks.add(&other.blanks);
         self.letters.add(&other.letters);
         self.loops.add(&other.loops);
+        self.stricts.add(&other.stricts);
     }
 
     /// What was never reached.
@@ -164,6 +168,8 @@ impl Reached {
         }
         let loops = self.loops.reached().filter(|(_, count)| *count == 0);
         missing.extend(loops.map(|(way, _)| format!("of a loop: {way}")));
+        let stricts = self.stricts.reached().filter(|(_, count)| *count == 0);
+        missing.extend(stricts.map(|(way, _)| format!("of a strict field: {way}")));
         missing
     }
 }
@@ -220,6 +226,10 @@ impl fmt::Display for Reached {
         }
         write!(f, "\nloops")?;
         for (way, count) in self.loops.reached() {
+            write!(f, "  {way}: {count}")?;
+        }
+        write!(f, "\nstrict fields")?;
+        for (way, count) in self.stricts.reached() {
             write!(f, "  {way}: {count}")?;
         }
         Ok(())

@@ -81,15 +81,17 @@ mod tests {
     use crate::blanks::Blanks;
     use crate::formats::Formats;
     use crate::loops::Loops;
+    use crate::strict::Stricts;
 
     #[test]
     fn each_way_is_listed_once() {
         let (blanks, formats) = (Blanks::default(), Formats::default());
-        let loops = Loops::default();
+        let (loops, stricts) = (Loops::default(), Stricts::default());
         let blanks: Vec<(&str, u64)> = blanks.reached().collect();
         let formats: Vec<(&str, u64)> = formats.reached().collect();
         let loops: Vec<(&str, u64)> = loops.reached().collect();
-        for ways in [blanks, formats, loops] {
+        let stricts: Vec<(&str, u64)> = stricts.reached().collect();
+        for ways in [blanks, formats, loops, stricts] {
             for (i, way) in ways.iter().enumerate() {
                 assert!(!ways[..i].contains(way), "{}", way.0);
             }
