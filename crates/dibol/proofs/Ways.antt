@@ -15,6 +15,8 @@ use Rattle.rules_unit.specs.Codes.{Code}
 use Rattle.rules_unit.specs.Decode.{Fills, SoundDialect, codeOf}
 use Rattle.rules_unit.specs.Checks.{refusalPlace, checkOf}
 use Rattle.rules_unit.proofs.Sound.{passed-fills, passed-by}
+use Rattle.rules_run.specs.declared.Caught.the-variants as caught
+use Rattle.rules_run.specs.declared.Handler.the-variants as handler
 use Rattle.rules_run.specs.declared.Loop.{Loop}
 use Rattle.rules_run.specs.declared.State.{State}
 use Rattle.rules_run.specs.declared.Stop.the-variants as stop
@@ -27,7 +29,7 @@ use Rattle.rules_run.proofs.Steps.{halted, ran}
 use Rattle.rules_run.proofs.Calls.{call-refused, call-wrong-size, call-unsound, call-runs}
 
 -- The state before the first statement, with what the code made of an empty slot.
-pub start-by : (x : Loop) (z : State) → x ≡ noLoop → z ≡ record { at = 0; depth = 0; returns = replicate 50 0; opened = 0; loops = replicate 16 x } → z ≡ started
+pub start-by : (x : Loop) (z : State) → x ≡ noLoop → z ≡ record { at = 0; depth = 0; returns = replicate 50 0; opened = 0; loops = replicate 16 x; trap = record { handler = handler.None; caught = caught.None } } → z ≡ started
 start-by x z e q = q ∙ rw e
 
 -- What `run_state::sound` asks of the unit.

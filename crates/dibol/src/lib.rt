@@ -1,9 +1,12 @@
 // The public face of Boxlever. A host lends a coded unit and a data buffer as slices of bytes; any bytes may be given, and every call answers.
 use rules_fence::Breach;
 use rules_fence::Verdict;
+use rules_run::Caught;
+use rules_run::Handler;
 use rules_run::Outcome;
 use rules_run::State;
 use rules_run::Stop;
+use rules_run::Trap;
 use rules_unit::Checked;
 use rules_unit::Refusal;
 use rules_unit::Stretch;
@@ -82,7 +85,7 @@ pub fn stretch(unit: &[u8], i: usize) -> Stretch
     unit_literal::stretch(unit, i)
 }
 
-// The resume state of a run that has not begun: the first statement, and no call and no loop open.
+// The resume state of a run that has not begun: the first statement, no call and no loop open, no handler and no last error.
 pub fn start() -> State
     ensures { λ r. ⌜ r ≡ started ⌝ }
 {
@@ -93,6 +96,10 @@ pub fn start() -> State
         returns: [0u16; 50],
         opened: 0,
         loops: [none; 16],
+        trap: Trap {
+            handler: Handler::None,
+            caught: Caught::None,
+        },
     }
 }
 
@@ -100,7 +107,7 @@ pub fn start() -> State
 // the buffer must have the unit's D bytes (6) and the state must be sound for the unit (7). Where a check fails, no byte and no state
 // is changed, and the count is 0. The outcome says why the call ended and at which place (`stop_number` gives the papers' number),
 // how many statements this call completed, and the state to go on from. A statement that ends in a run error has changed nothing: the
-// state stands at it. Where the allowance is spent before the end, a further call with the state handed back and the same buffer goes
+// state stands at it. An error that a handler traps ends no call: the state keeps its number and its statement. Where the allowance is spent before the end, a further call with the state handed back and the same buffer goes
 // on as if there had been no stop.
 pub fn run(unit: &[u8], bytes: &mut [u8], state: State, allowance: u64) -> Outcome
     ensures { λ r. ⌜ _≡_ {A = Ran} (record { outcome = r; bytes = now (bytes .exit) }) (runOf (now (unit .entry)) (now (bytes .entry)) state allowance) ⌝ }

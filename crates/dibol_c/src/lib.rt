@@ -138,18 +138,18 @@ pub extern "C" fn dibol_words(stop: u64, text: &mut [u8]) -> u64
     dibol::words(stop, text) as u64
 }
 
-// The version, ten thousand for its first number, a hundred for its second and one for its third: 200 is 0.2.0.
+// The version, ten thousand for its first number, a hundred for its second and one for its third: 300 is 0.3.0.
 #[no_mangle]
 pub extern "C" fn dibol_version() -> u64
-    ensures { λ r. ⌜ r ≡ 200 ⌝ }
+    ensures { λ r. ⌜ r ≡ 300 ⌝ }
 {
-    200
+    300
 }
 
 // How many numbers a resume state has.
 #[no_mangle]
 pub extern "C" fn dibol_state_len() -> u64
-    ensures { λ r. ⌜ r ≡ 101 ⌝ }
+    ensures { λ r. ⌜ r ≡ 104 ⌝ }
 {
-    101
+    104
 }

@@ -12,3 +12,4 @@ pub mod Charts
 pub mod Causes
 pub mod Blanks
 pub mod Masks
+pub mod Five

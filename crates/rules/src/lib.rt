@@ -1,6 +1,6 @@
 // The types that the written rules of document 01 speak of. The rules themselves stand in specs/.
 ghost use mathlib.Core.Path.{_≡_};
-ghost use Rattle.rules.specs.Stops.{faultNumber};
+ghost use Rattle.rules.specs.Stops.{faultNumber, trappedb};
 
 // Why a statement is not completed.
 pub enum Fault {
@@ -51,6 +51,19 @@ pub fn fault_number(f: Fault) -> u8
         Fault::LoopsFull => 28,
         Fault::NoLoop => 29,
     }
+}
+
+// Whether a number is that of an error that a handler traps.
+pub fn trapped(number: u8) -> bool
+    ensures { λ r. ⌜ r ≡ trappedb number ⌝ }
+{
+    if number == 26 {
+        return true;
+    }
+    if number < 20 {
+        return false;
+    }
+    number <= 23
 }
 
 // What a character of an edit mask is.

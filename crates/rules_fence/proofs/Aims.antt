@@ -76,6 +76,8 @@ only-a verb.For = record { codes = λ e. inr (inr refl); not-b = refl; not-c = r
 only-a verb.LoopEnd = record { codes = λ e. absurd (false≢true e); not-b = refl; not-c = refl }
 only-a verb.ExitLoop = record { codes = λ e. absurd (false≢true e); not-b = refl; not-c = refl }
 only-a verb.NextLoop = record { codes = λ e. absurd (false≢true e); not-b = refl; not-c = refl }
+only-a verb.OnError = record { codes = λ e. absurd (false≢true e); not-b = refl; not-c = refl }
+only-a verb.OffError = record { codes = λ e. absurd (false≢true e); not-b = refl; not-c = refl }
 only-a verb.Bad = record { codes = λ e. absurd (false≢true e); not-b = refl; not-c = refl }
 
 -- What follows in a row is read.

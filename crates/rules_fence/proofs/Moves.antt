@@ -47,6 +47,8 @@ MildFlow M flow.Return = Unit {0}
 MildFlow M flow.Stop = Unit {0}
 MildFlow M (flow.Enter limit step) = Unit {0}
 MildFlow M (flow.Leave i) = Unit {0}
+MildFlow M (flow.Arm i) = Unit {0}
+MildFlow M flow.Disarm = Unit {0}
 MildFlow M (flow.Bad e) = MildFault M e
 
 pub data Aimed (c : Code) (d : List ℕ) (span : Span) (w : Write) : Type 0 where

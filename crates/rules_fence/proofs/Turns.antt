@@ -146,6 +146,8 @@ module _ (c : Code) (s : SoundCode c) (letters : Letters (c .dialect .sign)) (d 
     by-verb o i t verb.LoopEnd q u r = again-ok o t
     by-verb o i t verb.ExitLoop q u r = inl (exits-ok c s letters d e v (BadText c d t) Outside l)
     by-verb o i t verb.NextLoop q u r = again-ok o t
+    by-verb o i t verb.OnError q u r = inl (goes-ok c d Outside (BadText c d t) (flow.Arm (t .c)) tt)
+    by-verb o i t verb.OffError q u r = inl (goes-ok c d Outside (BadText c d t) flow.Disarm tt)
     by-verb o i t verb.Bad q u r = inl (failed-ok c d Outside (BadText c d t) fault.Malformed tt)
 
     module _ (known : LookSound c l) (r : Fenced c) where

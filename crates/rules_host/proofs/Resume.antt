@@ -9,6 +9,8 @@ use mathlib.Core.Logic.{_↔_, inl, inr}
 use lib.Dec.{ltb, eqb}
 use lib.ListN.{length, getD, replicate, length-set}
 use borrow.Author.Tests.{le-leb, lt-leb, eqb-true, ltb-true, ltb-false}
+use Rattle.rules.specs.Stops.{Trappable}
+use Rattle.rules.specs.Tests.{_&&_}
 use Rattle.rules.specs.Values.{Val}
 use Rattle.rules.proofs.Tests.{both}
 use Rattle.rules.proofs.Walk.{cond-either}
@@ -20,13 +22,17 @@ use Rattle.rules_unit.specs.Codes.{Code}
 use Rattle.rules_unit.specs.Decode.{codeOf, decoded}
 use Rattle.rules_unit.specs.Checks.{refusalNumber, refusalPlace, checkOf}
 use Rattle.rules_unit.proofs.Sound.{passed-sound}
+use Rattle.rules_run.specs.declared.Caught.{Caught}
+use Rattle.rules_run.specs.declared.Caught.the-variants as caught
 use Rattle.rules_run.specs.declared.Flow.{Flow}
 use Rattle.rules_run.specs.declared.Flow.the-variants as flow
+use Rattle.rules_run.specs.declared.Handler.{Handler}
+use Rattle.rules_run.specs.declared.Handler.the-variants as handler
 use Rattle.rules_run.specs.declared.State.{State}
 use Rattle.rules_run.specs.declared.Stop.{Stop}
 use Rattle.rules_run.specs.declared.Stop.the-variants as stop
 use Rattle.rules_run.specs.Turns.{turnOf}
-use Rattle.rules_run.specs.States.{noLoop, Sound, started, lookOf}
+use Rattle.rules_run.specs.States.{noLoop, HandlerSound, CaughtSound, Sound, started, lookOf}
 use Rattle.rules_run.specs.Stops.{stopNumber}
 use Rattle.rules_run.specs.Answers.{RunNumber, Erred, StopNo, noOf, Given}
 use Rattle.rules_run.specs.Runs.{Moved, to, stuck, movedBy, Ran, runFrom, runOf}
@@ -35,12 +41,18 @@ use Rattle.rules_run.proofs.Steps.{every-run}
 use Rattle.rules_run.proofs.Answers.{call-exactly, does-exactly, refused-by-number, erred-by-number, given-exactly}
 use Rattle.rules_run.proofs.Lengths.{passed-dialect}
 use Rattle.rules_run.proofs.SoundRuns.{passed-in, run-sound}
+use Rattle.rules_run.proofs.Traps.{error-case}
 use Rattle.rules_host.proofs.Laid.{laid-same}
 use Rattle.rules_host.proofs.Listed.{length-listed, read-written}
-use Rattle.rules_host.specs.Numbers.{listed, numberAt, numbersOf, Fits, goodb, goodFrom, stateb, noState, returnAt, stateOf}
+use Rattle.rules_host.specs.Numbers.{listed, numberAt, numbersOf, HandlerFits, CaughtFits, Fits, goodb, goodFrom, pairb, stateb, noState, returnAt, stateOf}
 use Rattle.rules_host.specs.Calls.{Handed, refusedb, handedOf, untouched, HostReads}
 
 -- ---- a sound state
+
+-- An error that is trapped has a number from 1 to 255.
+five-range : (n : ℕ) → Trappable n → (0 < n) × (n ≤ 255)
+five-range n (inl h) = (omega (arith, h .0), omega (arith, h .1))
+five-range n (inr e) = (omega (arith, e), omega (arith, e))
 
 -- It fits the numbers.
 sound-fits : (u : List ℕ) (p : Parts) (s : State) → checkOf u ≡ checked.Passed p → Sound (codeOf u p) s → length (s .returns) ≡ 50 → Fits s
@@ -55,6 +67,8 @@ sound-fits u p s e t l =
       entries = λ k h. entries k h (ltb k (s .opened)) refl;
       limits = λ k h. limits k h (ltb k (s .opened)) refl;
       steps = λ k h. steps k h (ltb k (s .opened)) refl;
+      handled = handled (s .trap .handler) (t .handled);
+      told = told (s .trap .caught) (t .told);
     }
   where
     most : p .n ≤ 2048
@@ -74,6 +88,14 @@ sound-fits u p s e t l =
     limits : (k : ℕ) → k < 16 → (b : Bool) → ltb k (s .opened) ≡ b → Val (10 ^ 18) (getD (s .loops) k noLoop .limit)
     limits k h true f = record { small = omega (arith, t .running k (ltb-true k (s .opened) f) .limit .small, top) }
     limits k h false f = rw (t .vacant k (ltb-false k (s .opened) f) h) (record { small = omega arith })
+
+    handled : (h : Handler) → HandlerSound (p .n) h → HandlerFits h
+    handled handler.None x = tt
+    handled (handler.At i) x = omega (arith, x, most)
+
+    told : (z : Caught) → CaughtSound (p .n) z → CaughtFits z
+    told caught.None x = tt
+    told (caught.Error n i) x = let m = five-range n (x .0) in (m .0, m .1, omega (arith, x .1, most))
 
     steps : (k : ℕ) → k < 16 → (b : Bool) → ltb k (s .opened) ≡ b → Val (10 ^ 18) (getD (s .loops) k noLoop .step)
     steps k h true f = record { small = omega (arith, t .running k (ltb-true k (s .opened) f) .step .small, top) }
@@ -96,9 +118,9 @@ sound-state u w p e t = by (stateb w) refl
     by true f = f
     by false f = absurd (none-unsound u p e (subst (Sound (codeOf u p)) (none-state w f) t))
 
-state-101 : (w : List ℕ) → stateb w ≡ true → length w ≡ 101
+state-104 : (w : List ℕ) → stateb w ≡ true → length w ≡ 104
 unfolding stateb
-state-101 w e = eqb-true (length w) 101 (both (eqb (length w) 101) (goodFrom 0 w) .0 e .0)
+state-104 w e = eqb-true (length w) 104 (both (eqb (length w) 104) (goodFrom 0 w && pairb (getD w 102 0) (getD w 103 0)) .0 e .0)
 
 state-returns : (w : List ℕ) → stateb w ≡ true → length (stateOf w .returns) ≡ 50
 unfolding stateOf
@@ -119,7 +141,9 @@ moved-kept n s flow.Return = cond-either (Kept (length (s .returns))) (eqb (s .d
 moved-kept n s flow.Stop = refl
 moved-kept n s (flow.Enter limit step) = refl
 moved-kept n s (flow.Leave i) = refl
-moved-kept n s (flow.Bad e) = tt
+moved-kept n s (flow.Arm i) = refl
+moved-kept n s flow.Disarm = refl
+moved-kept n s (flow.Bad e) = error-case (Kept (length (s .returns))) s e (λ z. tt) (λ i q r. refl)
 
 run-kept : (c : Code) (m : ℕ) (s : State) (d : List ℕ) (k : ℕ) → length (runFrom c m s d k .outcome .state .returns) ≡ length (s .returns)
 run-kept c =
@@ -163,14 +187,14 @@ module _ (u d w : List ℕ) (m : ℕ) (a : List ℕ) where
     left-none l n = left-unsound l (λ t. none-unsound u p e (subst (Sound (codeOf u p)) (none-state w n) t))
 
   -- Any other stop: the numbers are a state's, and so are those of the next state.
-  ran-fits : refusedb (stopNumber (runOf u d (stateOf w) m .outcome .stop)) ≡ false → (length w ≡ 101) × Fits (runOf u d (stateOf w) m .outcome .state)
+  ran-fits : refusedb (stopNumber (runOf u d (stateOf w) m .outcome .stop)) ≡ false → (length w ≡ 104) × Fits (runOf u d (stateOf w) m .outcome .state)
   ran-fits =
-      every-call (λ r. refusedb (stopNumber (r .outcome .stop)) ≡ false → (length w ≡ 101) × Fits (r .outcome .state)) u d (stateOf w) m
+      every-call (λ r. refusedb (stopNumber (r .outcome .stop)) ≡ false → (length w ≡ 104) × Fits (r .outcome .state)) u d (stateOf w) m
       (λ e b f. absurd (false≢true (sym f ∙ before-refuses e b)))
       (λ p e l t f.
       let s : stateb w ≡ true = sound-state u w p e t in
       let c = codeOf u p in (
-        state-101 w s,
+        state-104 w s,
         sound-fits u p (runFrom c m (stateOf w) d 0 .outcome .state) e (run-sound c (passed-in u p e) (passed-sound u p e .code) m (stateOf w) d 0 t)
             (run-kept c m (stateOf w) d 0 ∙ state-returns w s),
       ))
@@ -179,7 +203,7 @@ module _ (u d w : List ℕ) (m : ℕ) (a : List ℕ) where
   unfolding handedOf
   left-state f =
       let h = ran-fits f in
-      let l : length (numbersOf (runOf u d (stateOf w) m .outcome .state)) ≡ length w = length-listed 101 (numberAt (runOf u d (stateOf w) m .outcome .state)) ∙ sym (h .0) in
+      let l : length (numbersOf (runOf u d (stateOf w) m .outcome .state)) ≡ length w = length-listed 104 (numberAt (runOf u d (stateOf w) m .outcome .state)) ∙ sym (h .0) in
       rw (f, laid-same (numbersOf (runOf u d (stateOf w) m .outcome .state)) w l)
 
   pub goes-on : refusedb (handedOf u d w m a .stop) ≡ false → stateOf (handedOf u d w m a .state) ≡ runOf u d (stateOf w) m .outcome .state
@@ -235,6 +259,6 @@ module _ (u d w : List ℕ) (m : ℕ) (a : List ℕ) (h : Handed) (r : HostReads
       let p : r .ran .outcome .place ≡ runOf u d (stateOf w) m .outcome .place = ap (λ (y : Ran). y .outcome .place) host-ran in
       (λ e. g .0 (sym n ∙ e .0, sym p ∙ e .1), λ e. (n ∙ g .1 e .0, p ∙ g .1 e .1))
 
-pub zeros-start : stateOf (replicate 101 0) ≡ started
+pub zeros-start : stateOf (replicate 104 0) ≡ started
 unfolding stateOf stateb goodFrom goodb listed
 zeros-start = refl

@@ -78,7 +78,8 @@ work-may c l d v s fault.NoLoop m = absurd (false≢true m)
 abbrev pub Near : ℕ → Row → Statement → ℕ → Type 0
 Near i r s t = ((r .c ≡ role.Target) × (t ≡ s .c)) ⊎ (((r .a ≡ role.Table) × (t ≤ i + s .a + 1)) ⊎ ((r .c ≡ role.End) × (t ≡ s .c + 1)))
 
--- A call is opened by CALL alone, and closed by RETURN alone; a loop is opened by FOR alone, and closed by what acts on it.
+-- A call is opened by CALL alone, and closed by RETURN alone; a loop is opened by FOR alone, and closed by what acts on it; a handler is set by ONERROR alone,
+-- and taken away by OFFERROR alone.
 abbrev pub MayGo : Code → Look → ℕ → List ℕ → Verb → Statement → Flow → Type 0
 MayGo c l i d v s flow.Next = Unit {0}
 MayGo c l i d v s (flow.Goto t) = Near i (rowOf v) s t ⊎ (ActsOnLoop v × (0 < l .opened) × (t ≡ l .last .entry + 1))
@@ -87,6 +88,8 @@ MayGo c l i d v s flow.Return = v ≡ verb.Return
 MayGo c l i d v s flow.Stop = Unit {0}
 MayGo c l i d v s (flow.Enter limit step) = (v ≡ verb.For) × (l .opened < 16) × (0 < natAbs step) × (e : Entry c d s) × (e .limit ≡ limit) × (e .step ≡ step)
 MayGo c l i d v s (flow.Leave t) = ActsOnLoop v × (0 < l .opened) × (t ≡ entryOf c l .c + 1)
+MayGo c l i d v s (flow.Arm t) = (v ≡ verb.OnError) × (t ≡ s .c)
+MayGo c l i d v s flow.Disarm = v ≡ verb.OffError
 MayGo c l i d v s (flow.Bad e) = ⊥
 
 choose-may : (c : Code) (l : Look) (i : ℕ) (d : List ℕ) (s : Statement) (v : ℤ) → MayGo c l i d verb.Computed s (choose i (s .a) v)
@@ -256,4 +259,6 @@ module _ (P : Turn → Type 0) (c : Code) (l : Look) (i : ℕ) (d : List ℕ) wh
   turn-case verb.LoopEnd s fails on = repeats-case P c l i d verb.LoopEnd s fails on (inl refl)
   turn-case verb.ExitLoop s fails on = exits-case P c l i d verb.ExitLoop s fails on (inr (inl refl))
   turn-case verb.NextLoop s fails on = repeats-case P c l i d verb.NextLoop s fails on (inr (inr refl))
+  turn-case verb.OnError s fails on = on write.Nothing (flow.Arm (s .c)) (refl, refl)
+  turn-case verb.OffError s fails on = on write.Nothing flow.Disarm refl
   turn-case verb.Bad s fails on = fails fault.Malformed tt

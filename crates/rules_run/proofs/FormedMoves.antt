@@ -34,6 +34,8 @@ formedFlow flow.Return = true
 formedFlow flow.Stop = true
 formedFlow (flow.Enter limit step) = true
 formedFlow (flow.Leave i) = true
+formedFlow (flow.Arm i) = true
+formedFlow flow.Disarm = true
 formedFlow (flow.Bad e) = formedb e
 
 -- This is a named record, so that a search finds its argument.

@@ -178,6 +178,8 @@ module _ (c : Code) (d : List ℕ) where
   formed-by l o i verb.LoopEnd s f u = formed-repeats l o
   formed-by l o i verb.ExitLoop s f u = formed-exits l
   formed-by l o i verb.NextLoop s f u = formed-repeats l o
+  formed-by l o i verb.OnError s f u = record { formed = refl }
+  formed-by l o i verb.OffError s f u = record { formed = refl }
   formed-by l o i verb.Bad s f u = absurd (f .of-a)
 
   pub turn-formed : SoundCode c → (l : Look) → LookSound c l → (i : ℕ) → i < c .statements → formedFlow (turnOf c l i d .flow) ≡ true

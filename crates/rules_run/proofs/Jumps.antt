@@ -10,6 +10,7 @@ use mathlib.Core.List.{List}
 use lib.Dec.{leb, eqb}
 use lib.IntN.{ℤ, pos, negsuc, natAbs}
 use borrow.Author.Tests.{leb-true, le-leb, eq-eqb, ne-eqb}
+use Rattle.rules.specs.declared.Fault.{Fault}
 use Rattle.rules.specs.declared.Fault.the-variants as fault
 use Rattle.rules.specs.declared.Num.{Num}
 use Rattle.rules.specs.declared.Num.the-variants.{Value, Failed}
@@ -25,11 +26,13 @@ use Rattle.rules_run.specs.declared.Flow.{Flow}
 use Rattle.rules_run.specs.declared.Flow.the-variants as flow
 use Rattle.rules_run.specs.declared.Write.the-variants as write
 use Rattle.rules_run.specs.declared.State.{State}
-use Rattle.rules_run.specs.States.{gone, lookOf}
+use Rattle.rules_run.specs.States.{gone, unhandled, lookOf}
 use Rattle.rules_run.specs.Evaluation.{workedOf, numberOf}
 use Rattle.rules_run.specs.Turns.{applied, failed, onNumber, ifZero, choose, exits, turnBy, turnOf}
-use Rattle.rules_run.specs.Runs.{to, movedBy, nextOf, dataAfter}
+use Rattle.rules_run.specs.Runs.{to, stuck, movedBy, nextOf, dataAfter}
+use Rattle.rules_run.specs.Answers.{GivesHere}
 use Rattle.rules_run.proofs.Cases.{act-case}
+use Rattle.rules_run.proofs.Traps.{error-stops}
 
 choose-in : (i n k : ℕ) → 1 ≤ k → k ≤ n → choose i n (pos k) ≡ flow.Goto (i + k)
 choose-in i n zero l m = absurd (omega arith)
@@ -77,18 +80,23 @@ Onward flow.Return = ⊥
 Onward flow.Stop = ⊥
 Onward (flow.Enter limit step) = ⊥
 Onward (flow.Leave i) = ⊥
+Onward (flow.Arm i) = ⊥
+Onward flow.Disarm = ⊥
 Onward (flow.Bad e) = Unit {0}
 
-onward-to : (n : ℕ) (s t : State) (f : Flow) → Onward f → movedBy n s f ≡ to t → t ≡ gone s (s .at + 1)
+-- Where no error is given.
+onward-to : (n : ℕ) (s t : State) (f : Flow) → Onward f → ((x : Fault) → movedBy n (unhandled s) f ≡ stuck x → ⊥) → movedBy n s f ≡ to t → t ≡ gone s (s .at + 1)
 unfolding movedBy
-onward-to n s t flow.Next h e = cc
-onward-to n s t (flow.Goto i) h e = absurd h
-onward-to n s t (flow.Call i) h e = absurd h
-onward-to n s t flow.Return h e = absurd h
-onward-to n s t flow.Stop h e = absurd h
-onward-to n s t (flow.Enter limit step) h e = absurd h
-onward-to n s t (flow.Leave i) h e = absurd h
-onward-to n s t (flow.Bad x) h e = let z : _≡_ {A = ℕ} 0 1 = cc in absurd (omega arith)
+onward-to n s t flow.Next h g e = cc
+onward-to n s t (flow.Goto i) h g e = absurd h
+onward-to n s t (flow.Call i) h g e = absurd h
+onward-to n s t flow.Return h g e = absurd h
+onward-to n s t flow.Stop h g e = absurd h
+onward-to n s t (flow.Enter limit step) h g e = absurd h
+onward-to n s t (flow.Leave i) h g e = absurd h
+onward-to n s t (flow.Arm i) h g e = absurd h
+onward-to n s t flow.Disarm h g e = absurd h
+onward-to n s t (flow.Bad x) h g e = absurd (g x (error-stops s x))
 
 -- The verb of a code from 1 to 6.
 low-verb : (code : ℕ) → 1 ≤ code → code ≤ 6 → (x : Act) × (verbOf code ≡ verb.At x)
@@ -131,13 +139,14 @@ number-nothing (Value v) k = refl
 number-nothing (Failed e) k = refl
 
 module _ (c : Code) (s : State) (d : List ℕ) where
-  pub stores-next : WritesA (c .statement (s .at) .code) → (c .statement (s .at) .code ≡ 14 → ⊥) → (t : State) → nextOf c s d ≡ to t → t ≡ gone s (s .at + 1)
+  pub stores-next : WritesA (c .statement (s .at) .code) → (c .statement (s .at) .code ≡ 14 → ⊥) → ((x : Fault) → GivesHere c s d x → ⊥) → (t : State) → nextOf c s d ≡ to t
+      → t ≡ gone s (s .at + 1)
   unfolding turnOf
-  stores-next a n t e =
+  stores-next a n g t e =
       let x = store-verb (c .statement (s .at) .code) a n in
       onward-to (c .statements) s t (turnOf c (lookOf s) (s .at) d .flow)
       (subst (λ (v : Verb). Onward (turnBy c (lookOf s) (s .at) d v (c .statement (s .at)) .flow)) (sym (x .1))
-      (act-case (λ u. Onward (u .flow)) (λ f w. tt) (λ w. tt) c d (lookOf s) (s .at) (x .0) (c .statement (s .at)))) e
+      (act-case (λ u. Onward (u .flow)) (λ f w. tt) (λ w. tt) c d (lookOf s) (s .at) (x .0) (c .statement (s .at)))) g e
 
   -- What is stored by a statement of another code: nothing.
   nothing-by : (v : Verb) → (turnBy c (lookOf s) (s .at) d v (c .statement (s .at)) .write ≡ write.Nothing) ⊎ Stores (codeBack v)
@@ -153,6 +162,8 @@ module _ (c : Code) (s : State) (d : List ℕ) where
   nothing-by verb.LoopEnd = inr (inr (inl refl))
   nothing-by verb.ExitLoop = inl (cond-either (λ t. t .write ≡ write.Nothing) (eqb (s .opened) 0) (failed fault.NoLoop) _ refl refl)
   nothing-by verb.NextLoop = inr (inr (inr refl))
+  nothing-by verb.OnError = inl refl
+  nothing-by verb.OffError = inl refl
   nothing-by verb.Bad = inl refl
 
   pub jumps-keep-data : (WritesA (c .statement (s .at) .code) → ⊥) → (Repeats (c .statement (s .at) .code) → ⊥) → dataAfter c s d ≡ d

@@ -16,6 +16,7 @@ pub mod Outside
 pub mod Room
 pub mod States
 pub mod Steps
+pub mod Traps
 pub mod Runs
 pub mod Calls
 pub mod Lengths
@@ -24,6 +25,7 @@ pub mod Malformed
 pub mod Resumed
 pub mod Answers
 pub mod OpenCalls
+pub mod Handlers
 pub mod Jumps
 pub mod OpenLoops
 pub mod Controls

@@ -29,6 +29,7 @@ use Rattle.rules_run.proofs.FormedTurns.{turn-formed}
 use Rattle.rules_run.proofs.Runs.{StopSays, stop-says}
 use Rattle.rules_run.proofs.SoundRuns.{In, passed-in, run-sound}
 use Rattle.rules_run.proofs.States.{look-sound}
+use Rattle.rules_run.proofs.Traps.{error-case}
 use Rattle.rules_run.proofs.Calls.{beforeb, every-call}
 
 -- ---- one statement
@@ -46,7 +47,9 @@ moved-formed n s flow.Return h = cond-either MovedFormed (eqb (s .depth) 0) (stu
 moved-formed n s flow.Stop h = tt
 moved-formed n s (flow.Enter limit step) h = tt
 moved-formed n s (flow.Leave i) h = tt
-moved-formed n s (flow.Bad e) h = h
+moved-formed n s (flow.Arm i) h = tt
+moved-formed n s flow.Disarm h = tt
+moved-formed n s (flow.Bad e) h = error-case MovedFormed s e (λ z. h) (λ i q r. tt)
 
 module _ (c : Code) (u : SoundCode c) where
   pub turn-not-malformed : (l : Look) → LookSound c l → (i : ℕ) (d : List ℕ) → i < c .statements → turnOf c l i d .flow ≡ flow.Bad fault.Malformed → ⊥

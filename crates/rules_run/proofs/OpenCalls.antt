@@ -23,6 +23,7 @@ use Rattle.rules_run.specs.States.{lookOf}
 use Rattle.rules_run.specs.Turns.{turnBy, turnOf}
 use Rattle.rules_run.specs.Runs.{Moved, to, stuck, movedBy, nextOf}
 use Rattle.rules_run.proofs.Cases.{MayFail, MayGo, turn-case}
+use Rattle.rules_run.proofs.Traps.{error-case}
 
 module _ (c : Code) (s : State) (d : List ℕ) where
   abbrev code : ℕ
@@ -43,6 +44,8 @@ module _ (c : Code) (s : State) (d : List ℕ) where
   Keeps flow.Stop = Unit {0}
   Keeps (flow.Enter limit step) = Unit {0}
   Keeps (flow.Leave i) = Unit {0}
+  Keeps (flow.Arm i) = Unit {0}
+  Keeps flow.Disarm = Unit {0}
   Keeps (flow.Bad e) = Fails e
 
   abbrev MovedKeeps : Moved → Type 0
@@ -58,7 +61,9 @@ module _ (c : Code) (s : State) (d : List ℕ) where
   moved-keeps flow.Stop h = (refl, refl)
   moved-keeps (flow.Enter limit step) h = (refl, refl)
   moved-keeps (flow.Leave i) h = (refl, refl)
-  moved-keeps (flow.Bad e) h = h
+  moved-keeps (flow.Arm i) h = (refl, refl)
+  moved-keeps flow.Disarm h = (refl, refl)
+  moved-keeps (flow.Bad e) h = error-case MovedKeeps s e (λ z. h) (λ i q r. (refl, refl))
 
   may-keeps : (code ≡ 9 → ⊥) → (code ≡ 10 → ⊥) → (f : Flow) → MayGo c (lookOf s) (s .at) d (verbOf code) (c .statement (s .at)) f → Keeps f
   may-keeps x y flow.Next h = tt
@@ -68,6 +73,8 @@ module _ (c : Code) (s : State) (d : List ℕ) where
   may-keeps x y flow.Stop h = tt
   may-keeps x y (flow.Enter limit step) h = tt
   may-keeps x y (flow.Leave j) h = tt
+  may-keeps x y (flow.Arm j) h = tt
+  may-keeps x y flow.Disarm h = tt
   may-keeps x y (flow.Bad e) h = absurd h
 
   other-keeps : (code ≡ 9 → ⊥) → (code ≡ 10 → ⊥) → MovedKeeps (nextOf c s d)
@@ -79,7 +86,7 @@ module _ (c : Code) (s : State) (d : List ℕ) where
   -- ---- CALL, RETURN and STOP
 
   pub call-opens : code ≡ 9 → s .depth < 50
-      → nextOf c s d ≡ to (record { at = c .statement (s .at) .c; depth = s .depth + 1; returns = set (s .returns) (s .depth) (s .at + 1); opened = s .opened; loops = s .loops })
+      → nextOf c s d ≡ to (record { at = c .statement (s .at) .c; depth = s .depth + 1; returns = set (s .returns) (s .depth) (s .at + 1); opened = s .opened; loops = s .loops; trap = s .trap })
   unfolding turnOf turnBy verbOf movedBy
   call-opens e h = rw (e, lt-ltb (s .depth) 50 h)
 
@@ -88,17 +95,17 @@ module _ (c : Code) (s : State) (d : List ℕ) where
   call-full e h = rw (e, le-ltb (s .depth) 50 h)
 
   pub return-closes : code ≡ 10 → (k : ℕ) → s .depth ≡ k + 1
-      → nextOf c s d ≡ to (record { at = getD (s .returns) k 0; depth = k; returns = set (s .returns) k 0; opened = s .opened; loops = s .loops })
+      → nextOf c s d ≡ to (record { at = getD (s .returns) k 0; depth = k; returns = set (s .returns) k 0; opened = s .opened; loops = s .loops; trap = s .trap })
   unfolding turnOf turnBy verbOf movedBy
   return-closes e k h =
       let q : s .depth - 1 ≡ k = omega arith in
-      rw (e, ne-eqb (s .depth) 0 (λ z. omega arith)) (ap (λ (x : ℕ). to (record { at = getD (s .returns) x 0; depth = x; returns = set (s .returns) x 0; opened = s .opened; loops = s .loops })) q)
+      rw (e, ne-eqb (s .depth) 0 (λ z. omega arith)) (ap (λ (x : ℕ). to (record { at = getD (s .returns) x 0; depth = x; returns = set (s .returns) x 0; opened = s .opened; loops = s .loops; trap = s .trap })) q)
 
   pub return-none : code ≡ 10 → s .depth ≡ 0 → nextOf c s d ≡ stuck fault.NoCall
   unfolding turnOf turnBy verbOf movedBy
   return-none e h = rw (e, eq-eqb (s .depth) 0 h)
 
-  pub stop-keeps : code ≡ 11 → nextOf c s d ≡ to (record { at = c .statements; depth = s .depth; returns = s .returns; opened = s .opened; loops = s .loops })
+  pub stop-keeps : code ≡ 11 → nextOf c s d ≡ to (record { at = c .statements; depth = s .depth; returns = s .returns; opened = s .opened; loops = s .loops; trap = s .trap })
   unfolding turnOf turnBy verbOf movedBy
   stop-keeps e = rw e
 

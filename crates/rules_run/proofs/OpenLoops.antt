@@ -35,7 +35,9 @@ use Rattle.rules_run.specs.Evaluation.{readAt, workedOf, valueAt}
 use Rattle.rules_run.specs.States.{noLoop, gone, called, returned, lookOf}
 use Rattle.rules_run.specs.Turns.{stored, applied, turn, failed, goes, testb, enterFlow, enterBy, enters, Entry, entryOf, passFlow, repeats, Pass, exits, turnBy, turnOf}
 use Rattle.rules_run.specs.Runs.{Moved, to, stuck, movedBy, nextOf, dataAfter}
+use Rattle.rules_run.specs.Answers.{GivesHere}
 use Rattle.rules_run.proofs.Cases.{ActsOnLoop, MayFail, MayGo, turn-case}
+use Rattle.rules_run.proofs.Traps.{error-case, fails-here}
 
 -- The loop opened last, where k + 1 are open.
 pub last-loop : (s : State) (k : ℕ) → s .opened ≡ k + 1 → lookOf s .last ≡ getD (s .loops) k noLoop
@@ -92,24 +94,24 @@ module _ (c : Code) (s : State) (d : List ℕ) where
 
   -- "On entry the control place is found, then start, limit and step are worked out once, in that order.": the first that fails is reported.
   module _ (q : here .code ≡ 14) (o : s .opened < 16) (f : Fault) where
-    pub for-place-fails : workedOf c d (c .items (here .a)) ≡ worked.Failed f → nextOf c s d ≡ stuck f
-    unfolding turnOf turnBy verbOf movedBy enters
-    for-place-fails e = rw (q, lt-ltb (s .opened) 16 o, e)
+    pub for-place-fails : workedOf c d (c .items (here .a)) ≡ worked.Failed f → GivesHere c s d f
+    unfolding turnOf turnBy verbOf enters
+    for-place-fails e = fails-here c s d f (rw (q, lt-ltb (s .opened) 16 o, e))
 
     module _ (a n : ℕ) (found : workedOf c d (c .items (here .a)) ≡ worked.Place true a n) where
-      pub for-start-fails : valueAt c d (here .b) ≡ Failed f → nextOf c s d ≡ stuck f
-      unfolding turnOf turnBy verbOf movedBy enters
-      for-start-fails e = rw (q, lt-ltb (s .opened) 16 o, found, e)
+      pub for-start-fails : valueAt c d (here .b) ≡ Failed f → GivesHere c s d f
+      unfolding turnOf turnBy verbOf enters
+      for-start-fails e = fails-here c s d f (rw (q, lt-ltb (s .opened) 16 o, found, e))
 
-      pub for-limit-fails : (start : ℤ) → valueAt c d (here .b) ≡ Value start → valueAt c d (nextAt c (here .b)) ≡ Failed f → nextOf c s d ≡ stuck f
-      unfolding turnOf turnBy verbOf movedBy enters
-      for-limit-fails start x e = rw (q, lt-ltb (s .opened) 16 o, found, x, e)
+      pub for-limit-fails : (start : ℤ) → valueAt c d (here .b) ≡ Value start → valueAt c d (nextAt c (here .b)) ≡ Failed f → GivesHere c s d f
+      unfolding turnOf turnBy verbOf enters
+      for-limit-fails start x e = fails-here c s d f (rw (q, lt-ltb (s .opened) 16 o, found, x, e))
 
       pub for-step-fails : (start limit : ℤ) → valueAt c d (here .b) ≡ Value start → valueAt c d (nextAt c (here .b)) ≡ Value limit
           → valueAt c d (nextAt c (nextAt c (here .b))) ≡ Failed f
-          → nextOf c s d ≡ stuck f
-      unfolding turnOf turnBy verbOf movedBy enters
-      for-step-fails start limit x y e = rw (q, lt-ltb (s .opened) 16 o, found, x, y, e)
+          → GivesHere c s d f
+      unfolding turnOf turnBy verbOf enters
+      for-step-fails start limit x y e = fails-here c s d f (rw (q, lt-ltb (s .opened) 16 o, found, x, y, e))
 
   module _ (q : here .code ≡ 14) (o : s .opened < 16) (e : Entry c d here) where
     -- What it answers where the place is found, and start, limit and step are to be had.
@@ -122,9 +124,8 @@ module _ (c : Code) (s : State) (d : List ℕ) where
     for-zero z = rw (for-turn, eq-eqb (natAbs (e .step)) 0 z)
 
     module _ (moves : natAbs (e .step) ≡ 0 → ⊥) where
-      pub for-long : 10 ^ e .n ≤ natAbs (e .start) → nextOf c s d ≡ stuck fault.TooLong
-      unfolding movedBy
-      for-long h = rw (for-turn, ne-eqb (natAbs (e .step)) 0 moves, le-ltb (natAbs (e .start)) (10 ^ e .n) h)
+      pub for-long : 10 ^ e .n ≤ natAbs (e .start) → GivesHere c s d fault.TooLong
+      for-long h = fails-here c s d fault.TooLong (rw (for-turn, ne-eqb (natAbs (e .step)) 0 moves, le-ltb (natAbs (e .start)) (10 ^ e .n) h))
 
       module _ (fits : natAbs (e .start) < 10 ^ e .n) where
         for-fits : turnOf c (lookOf s) (s .at) d ≡ turn (write.Number (e .a) (e .n) (e .start)) (enterFlow (here .c) (e .start) (e .limit) (e .step))
@@ -136,7 +137,7 @@ module _ (c : Code) (s : State) (d : List ℕ) where
 
         pub for-opens : testb (e .start) (e .limit) (e .step) ≡ true
             → nextOf c s d
-            ≡ to (record { at = s .at + 1; depth = s .depth; returns = s .returns; opened = s .opened + 1; loops = set (s .loops) (s .opened) (record { entry = s .at; limit = e .limit; step = e .step }) })
+            ≡ to (record { at = s .at + 1; depth = s .depth; returns = s .returns; opened = s .opened + 1; loops = set (s .loops) (s .opened) (record { entry = s .at; limit = e .limit; step = e .step }); trap = s .trap })
         unfolding movedBy
         for-opens t = rw (for-fits, t)
 
@@ -161,23 +162,19 @@ module _ (c : Code) (s : State) (d : List ℕ) where
 
   -- The place is found, then read, then the step is added: the first that fails is reported.
   module _ (q : Repeats (here .code)) (o : s .opened ≡ 0 → ⊥) (f : Fault) where
-    pub pass-place-fails : workedOf c d (c .items (entryOf c (lookOf s) .a)) ≡ worked.Failed f → nextOf c s d ≡ stuck f
-    unfolding movedBy
-    pass-place-fails e = leads (failed f) (repeats-turn q ∙ repeats-place-fails c (lookOf s) d o f e)
+    pub pass-place-fails : workedOf c d (c .items (entryOf c (lookOf s) .a)) ≡ worked.Failed f → GivesHere c s d f
+    pass-place-fails e = fails-here c s d f (repeats-turn q ∙ repeats-place-fails c (lookOf s) d o f e)
 
     module _ (a n : ℕ) (found : workedOf c d (c .items (entryOf c (lookOf s) .a)) ≡ worked.Place true a n) where
-      pub pass-read-fails : readAt c d a n ≡ Failed f → nextOf c s d ≡ stuck f
-      unfolding movedBy
-      pass-read-fails e = leads (failed f) (repeats-turn q ∙ repeats-read-fails c (lookOf s) d o f a n found e)
+      pub pass-read-fails : readAt c d a n ≡ Failed f → GivesHere c s d f
+      pass-read-fails e = fails-here c s d f (repeats-turn q ∙ repeats-read-fails c (lookOf s) d o f a n found e)
 
-      pub pass-sum-fails : (x : ℤ) → readAt c d a n ≡ Value x → addOf (c .dialect .top) x (lookOf s .last .step) ≡ Failed f → nextOf c s d ≡ stuck f
-      unfolding movedBy
-      pass-sum-fails x r e = leads (failed f) (repeats-turn q ∙ repeats-sum-fails c (lookOf s) d o f a n found x r e)
+      pub pass-sum-fails : (x : ℤ) → readAt c d a n ≡ Value x → addOf (c .dialect .top) x (lookOf s .last .step) ≡ Failed f → GivesHere c s d f
+      pass-sum-fails x r e = fails-here c s d f (repeats-turn q ∙ repeats-sum-fails c (lookOf s) d o f a n found x r e)
 
   module _ (q : Repeats (here .code)) (o : s .opened ≡ 0 → ⊥) (p : Pass c (lookOf s) d) where
-    pub pass-long : 10 ^ p .n ≤ natAbs (p .v) → nextOf c s d ≡ stuck fault.TooLong
-    unfolding movedBy
-    pass-long h = leads (failed fault.TooLong) (repeats-turn q ∙ repeats-long c (lookOf s) d o p h)
+    pub pass-long : 10 ^ p .n ≤ natAbs (p .v) → GivesHere c s d fault.TooLong
+    pass-long h = fails-here c s d fault.TooLong (repeats-turn q ∙ repeats-long c (lookOf s) d o p h)
 
     module _ (fits : natAbs (p .v) < 10 ^ p .n) where
       pass-turn : turnOf c (lookOf s) (s .at) d ≡ turn (write.Number (p .a) (p .n) (p .v)) (passFlow c (lookOf s) (p .v))
@@ -193,13 +190,13 @@ module _ (c : Code) (s : State) (d : List ℕ) where
 
       pub pass-leaves : testb (p .v) (lookOf s .last .limit) (lookOf s .last .step) ≡ false
           → nextOf c s d
-          ≡ to (record { at = entryOf c (lookOf s) .c + 1; depth = s .depth; returns = s .returns; opened = s .opened - 1; loops = set (s .loops) (s .opened - 1) noLoop })
+          ≡ to (record { at = entryOf c (lookOf s) .c + 1; depth = s .depth; returns = s .returns; opened = s .opened - 1; loops = set (s .loops) (s .opened - 1) noLoop; trap = s .trap })
       unfolding movedBy
       pass-leaves t = rw (pass-turn, t)
 
   pub exit-leaves : here .code ≡ 16 → (s .opened ≡ 0 → ⊥)
       → nextOf c s d
-      ≡ to (record { at = entryOf c (lookOf s) .c + 1; depth = s .depth; returns = s .returns; opened = s .opened - 1; loops = set (s .loops) (s .opened - 1) noLoop })
+      ≡ to (record { at = entryOf c (lookOf s) .c + 1; depth = s .depth; returns = s .returns; opened = s .opened - 1; loops = set (s .loops) (s .opened - 1) noLoop; trap = s .trap })
   unfolding movedBy
   exit-leaves q o = leads (goes (flow.Leave (entryOf c (lookOf s) .c + 1))) (exits-turn q ∙ exits-open c (lookOf s) o)
 
@@ -231,12 +228,14 @@ module _ (c : Code) (s : State) (d : List ℕ) where
   may-fail flow.Stop m = tt
   may-fail (flow.Enter limit step) m = tt
   may-fail (flow.Leave t) m = tt
+  may-fail (flow.Arm t) m = tt
+  may-fail flow.Disarm m = tt
   may-fail (flow.Bad e) m = absurd m
 
   next-fails : MovedFails (nextOf c s d)
   unfolding turnOf movedBy
   next-fails =
-      turn-case (λ t. FlowFails (t .flow)) c (lookOf s) (s .at) d (verbOf (here .code)) here (λ e m. inr (inr m)) (λ w f m. may-fail f m)
+      turn-case (λ t. FlowFails (t .flow)) c (lookOf s) (s .at) d (verbOf (here .code)) here (λ e m. error-case MovedFails s e (λ z. inr (inr m)) (λ i q r. tt)) (λ w f m. may-fail f m)
 
   why : (f : Fault) → (faultNumber f ≡ 24 → ⊥) → (faultNumber f ≡ 25 → ⊥) → nextOf c s d ≡ stuck f → Fails f
   why f x y e = by (subst MovedFails e next-fails)
@@ -289,12 +288,14 @@ module _ (c : Code) (s : State) (d : List ℕ) where
     may-keep flow.Stop m = (refl, refl)
     may-keep (flow.Enter limit step) m = absurd (x (code-of (here .code) verb.For (omega arith) (m .0)))
     may-keep (flow.Leave t) m = absurd (y (on-code (m .0)))
+    may-keep (flow.Arm t) m = (refl, refl)
+    may-keep flow.Disarm m = (refl, refl)
     may-keep (flow.Bad e) m = absurd m
 
     others-keep : MovedKeeps (nextOf c s d)
     unfolding turnOf movedBy
     others-keep =
-        turn-case (λ t. MovedKeeps (movedBy (c .statements) s (t .flow))) c (lookOf s) (s .at) d (verbOf (here .code)) here (λ e m. tt) (λ w f m. may-keep f m)
+        turn-case (λ t. MovedKeeps (movedBy (c .statements) s (t .flow))) c (lookOf s) (s .at) d (verbOf (here .code)) here (λ e m. error-case MovedKeeps s e (λ z. tt) (λ i q r. (refl, refl))) (λ w f m. may-keep f m)
 
     -- A statement that is completed, and is none of a loop's, keeps the open loops.
     pub loops-kept : (t : State) → nextOf c s d ≡ to t → (t .opened ≡ s .opened) × (t .loops ≡ s .loops)

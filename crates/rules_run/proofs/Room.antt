@@ -182,6 +182,8 @@ module _ (c : Code) (d : List ℕ) (limit : Limit (c .dialect .limit)) (bound : 
   fit-by l i verb.LoopEnd s = fit-repeats l
   fit-by l i verb.ExitLoop s = fit-exits l
   fit-by l i verb.NextLoop s = fit-repeats l
+  fit-by l i verb.OnError s = record { room = tt }
+  fit-by l i verb.OffError s = record { room = tt }
   fit-by l i verb.Bad s = fit-failed fault.Malformed
 
   pub turn-room : (l : Look) (i : ℕ) → Room c (length d) (turnOf c l i d .write)

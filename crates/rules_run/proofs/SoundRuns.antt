@@ -1,4 +1,5 @@
--- A run of a sound unit from a sound state hands back a sound state (document 01, "Stops and their numbers"; request 4 of document 02, "FOR loops").
+-- A run of a sound unit from a sound state hands back a sound state (document 01, "Stops and their numbers"; requests 4 and 6 of document 02, "FOR loops", "ONERROR
+-- and OFFERROR").
 --   In c                 what is asked of the numbers of the unit's dialect
 --   FlowSound c l i f    f leads from i to a statement of the unit or to its end, and opens or closes a loop as a sound state may, where l is seen of it
 -- Assumes nothing.
@@ -35,13 +36,14 @@ use Rattle.rules_run.specs.declared.Look.{Look}
 use Rattle.rules_run.specs.declared.State.{State}
 use Rattle.rules_run.specs.Evaluation.{workedOf, valueAt}
 use Rattle.rules_run.specs.Turns.{turnOf}
-use Rattle.rules_run.specs.States.{LoopSound, Sound, called, returned, lookOf, LookSound}
+use Rattle.rules_run.specs.States.{LoopSound, HandlerSound, Sound, called, returned, lookOf, LookSound}
 use Rattle.rules_run.specs.Runs.{Moved, to, stuck, movedBy, nextOf, runFrom, runOf}
 use Rattle.rules_run.proofs.Bounded.{worked-bounded, number-bounded}
 use Rattle.rules_run.proofs.Cases.{Near, MayGo, turn-case}
 use Rattle.rules_run.proofs.Lengths.{passed-dialect}
-use Rattle.rules_run.proofs.States.{gone-sound, called-sound, returned-sound, entered-sound, closed-sound, look-sound}
+use Rattle.rules_run.proofs.States.{gone-sound, called-sound, returned-sound, entered-sound, closed-sound, armed-sound, caught-sound, look-sound}
 use Rattle.rules_run.proofs.Steps.{every-run}
+use Rattle.rules_run.proofs.Traps.{error-case}
 use Rattle.rules_run.proofs.Calls.{every-call}
 
 -- Two facts on a dialect: there is room for the two truths, and no more digits are read than it has.
@@ -57,6 +59,8 @@ FlowSound c l i flow.Return = Unit {0}
 FlowSound c l i flow.Stop = Unit {0}
 FlowSound c l i (flow.Enter limit step) = (l .opened < 16) × LoopSound c (record { entry = i; limit = limit; step = step })
 FlowSound c l i (flow.Leave j) = (0 < l .opened) × (j ≤ c .statements)
+FlowSound c l i (flow.Arm j) = j < c .statements
+FlowSound c l i flow.Disarm = Unit {0}
 FlowSound c l i (flow.Bad e) = Unit {0}
 
 -- ---- where a statement leads
@@ -72,6 +76,10 @@ pub end-inside : (c : Code) → SoundCode c → (e : ℕ) → e < c .statements 
 end-inside c u e h q =
     let row = subst (λ (v : Verb). RowSound c e (rowOf v) (c .statement e)) (verb-for (c .statement e .code) q) (u .statements e h .shape .parts) in
     row .of-c .low
+
+-- The handler of an ONERROR is a statement of the unit.
+on-error-inside : (c : Code) (i : ℕ) (s : Statement) → verbOf (s .code) ≡ verb.OnError → RowSound c i (rowOf (verbOf (s .code))) s → s .c < c .statements
+on-error-inside c i s q row = subst (λ (v : Verb). RowSound c i (rowOf v) s) q row .of-c
 
 module _ (c : Code) (o : In c) (u : SoundCode c) (l : Look) (known : LookSound c l) (i : ℕ) (low : i < c .statements) (d : List ℕ) where
   in-range : (e : ℕ) (z : ℤ) → valueAt c d e ≡ Value z → Val (c .dialect .top) z
@@ -98,6 +106,8 @@ module _ (c : Code) (o : In c) (u : SoundCode c) (l : Look) (known : LookSound c
     },
   )
   may-sound (flow.Leave t) (q, h, e) = (h, omega (arith, end-inside c u (l .last .entry) (known .last h .low) (known .last h .enters), e))
+  may-sound (flow.Arm t) (q, e) = omega (arith, on-error-inside c i (c .statement i) q (u .statements i low .shape .parts), e)
+  may-sound flow.Disarm m = tt
   may-sound (flow.Bad e) m = tt
 
   pub flow-sound : FlowSound c l i (turnOf c l i d .flow)
@@ -121,7 +131,9 @@ moved-sound {c} {s} t l flow.Return h =
 moved-sound t l flow.Stop h = gone-sound t (omega arith)
 moved-sound t l (flow.Enter limit step) h = entered-sound t (omega arith) (h .0) (h .1)
 moved-sound t l (flow.Leave i) h = closed-sound t (h .1) (h .0)
-moved-sound t l (flow.Bad e) h = tt
+moved-sound t l (flow.Arm i) h = armed-sound t (omega arith) h
+moved-sound t l flow.Disarm h = armed-sound t (omega arith) tt
+moved-sound {c} {s} t l (flow.Bad e) h = error-case (MovedSound c) s e (λ z. tt) (λ i q r. caught-sound t r l (subst (HandlerSound (c .statements)) q (t .handled)))
 
 -- ---- the run
 

@@ -1,5 +1,5 @@
--- Sound resume states (document 01, "Stops and their numbers"; request 4 of document 02, "FOR loops"): the test and the statement with quantifiers say
--- the same, and what a jump, a CALL, a RETURN and a loop make of a sound state is sound.
+-- Sound resume states (document 01, "Stops and their numbers"; requests 4 and 6 of document 02, "FOR loops", "ONERROR and OFFERROR"): the test and the
+-- statement with quantifiers say the same, and what a jump, a CALL, a RETURN, a loop, a handler and an error make of a sound state is sound.
 -- Assumes nothing.
 use Prim.Native.Nat.{ℕ, zero, suc, _+_, _-_, _<_, _≤_}
 use native.Mathlib.Nat.{add-zero}
@@ -12,12 +12,18 @@ use lib.IntN.{ℤ, pos, negsuc, natAbs}
 use lib.ListN.{length, getD, set, length-set, getD-replicate, List·getD-eq-default}
 use lib.Seq.{getD-set-same, getD-set-other}
 use borrow.Author.Tests.{ltb-true, ltb-false, lt-ltb, le-ltb, eqb-true, eqb-false, ne-eqb}
+use Rattle.rules.specs.Stops.{Trappable}
+use Rattle.rules.proofs.Five.{trapped-to, trapped-of}
 use Rattle.rules_unit.specs.Codes.{Code}
 use Rattle.rules_unit.proofs.Tells.{Tells, tells-lt, tells-le, tells-eq, tells-as, tells-and, tells-which}
+use Rattle.rules_run.specs.declared.Caught.{Caught}
+use Rattle.rules_run.specs.declared.Caught.the-variants as caught
+use Rattle.rules_run.specs.declared.Handler.{Handler}
+use Rattle.rules_run.specs.declared.Handler.the-variants as handler
 use Rattle.rules_run.specs.declared.Loop.{Loop}
 use Rattle.rules_run.specs.declared.Look.{Look}
 use Rattle.rules_run.specs.declared.State.{State}
-use Rattle.rules_run.specs.States.{returnb, returnsb, noLoop, loopb, emptyb, slotb, slotsb, LoopSound, soundb, Sound, started, gone, called, returned, entered, closed, lookOf, LookSound}
+use Rattle.rules_run.specs.States.{returnb, returnsb, noLoop, loopb, emptyb, slotb, slotsb, LoopSound, handlerb, caughtb, HandlerSound, CaughtSound, soundb, Sound, started, gone, called, returned, entered, closed, armed, caughtBy, lookOf, LookSound}
 
 -- ---- the test and the statement
 
@@ -101,14 +107,26 @@ slots-tell c opened i (l ∷ ls) = tells-as to of (tells-and (slot-tells c opene
     of : SlotsSound c opened i (l ∷ ls) → SlotSound c opened i l × SlotsSound c opened (i + 1) ls
     of f = (rw (add-zero i) at (f 0 (omega arith)), λ j h. let e : i + 1 + j ≡ i + suc j = omega arith in rw e (f (suc j) (omega arith)))
 
+-- ---- the handler and the last error
+
+handler-tells : (n : ℕ) (h : Handler) → Tells (handlerb n h) (HandlerSound n h)
+handler-tells n handler.None = record { to = λ e. tt; of = λ t. refl }
+handler-tells n (handler.At i) = tells-lt i n
+
+caught-tells : (n : ℕ) (e : Caught) → Tells (caughtb n e) (CaughtSound n e)
+caught-tells n caught.None = record { to = λ e. tt; of = λ t. refl }
+caught-tells n (caught.Error e i) = tells-and (record { to = trapped-to e; of = trapped-of e }) (tells-lt i n)
+
 -- ---- the state
 
 module _ (c : Code) (s : State) where
+  abbrev Rest : Type 0
+  Rest = SlotsSound c (s .opened) 0 (s .loops) × (HandlerSound (c .statements) (s .trap .handler) × CaughtSound (c .statements) (s .trap .caught))
+
   abbrev Parts : Type 0
   Parts =
       (s .at ≤ c .statements)
-      × ((s .depth ≤ 50)
-      × (ReturnsSound (c .statements) (s .depth) 0 (s .returns) × ((s .opened ≤ 16) × ((length (s .loops) ≡ 16) × SlotsSound c (s .opened) 0 (s .loops)))))
+      × ((s .depth ≤ 50) × (ReturnsSound (c .statements) (s .depth) 0 (s .returns) × ((s .opened ≤ 16) × ((length (s .loops) ≡ 16) × Rest))))
 
   pub sound-tells : Tells (soundb c s) (Sound c s)
   unfolding soundb
@@ -117,12 +135,15 @@ module _ (c : Code) (s : State) where
       (tells-and (tells-le (s .at) (c .statements))
       (tells-and (tells-le (s .depth) 50)
       (tells-and (returns-tell (c .statements) (s .depth) 0 (s .returns))
-      (tells-and (tells-le (s .opened) 16) (tells-and (tells-eq (length (s .loops)) 16) (slots-tell c (s .opened) 0 (s .loops)))))))
+      (tells-and (tells-le (s .opened) 16)
+      (tells-and (tells-eq (length (s .loops)) 16)
+      (tells-and (slots-tell c (s .opened) 0 (s .loops)) (tells-and (handler-tells (c .statements) (s .trap .handler)) (caught-tells (c .statements) (s .trap .caught)))))))))
     where
       to : Parts → Sound c s
       to r =
           let n = r .1 .1 .1 .0 in
           let l = r .1 .1 .1 .1 .0 in
+          let rest = r .1 .1 .1 .1 .1 in
           record {
             place = r .0;
             calls = r .1 .0;
@@ -130,8 +151,10 @@ module _ (c : Code) (s : State) where
             unused = λ i h k. r .1 .1 .0 i k .unused (omega arith);
             nested = n;
             slots = l;
-            running = λ i h. r .1 .1 .1 .1 .1 i (omega (arith, n, l)) .running (omega arith);
-            vacant = λ i h k. r .1 .1 .1 .1 .1 i (omega (arith, l)) .vacant (omega arith);
+            running = λ i h. rest .0 i (omega (arith, n, l)) .running (omega arith);
+            vacant = λ i h k. rest .0 i (omega (arith, l)) .vacant (omega arith);
+            handled = rest .1 .0;
+            told = rest .1 .1;
           }
 
       of : Sound c s → Parts
@@ -141,7 +164,7 @@ module _ (c : Code) (s : State) where
           t .calls,
           (
             λ j l. record { used = λ h. t .used j (omega arith) l; unused = λ h. t .unused j (omega arith) l },
-            (t .nested, (t .slots, λ j l. record { running = λ h. t .running j (omega arith); vacant = λ h. t .vacant j (omega arith) (omega (arith, t .slots)) })),
+            (t .nested, (t .slots, (λ j l. record { running = λ h. t .running j (omega arith); vacant = λ h. t .vacant j (omega arith) (omega (arith, t .slots)) }, (t .handled, t .told)))),
           ),
         ),
       )
@@ -165,6 +188,8 @@ started-sound c =
       slots = refl;
       running = λ i h. absurd (omega arith);
       vacant = λ i h l. getD-replicate {A = Loop} 16 i noLoop noLoop l;
+      handled = tt;
+      told = tt;
     }
 
 -- An element after a store at k.
@@ -177,9 +202,25 @@ module _ {A : Type 0} (P : A → Type 0) (l : List A) (k : ℕ) (v z : A) (i : �
       by false e = rw (getD-set-other l k i v z (eqb-false i k e)) (g (eqb-false i k e))
 
 module _ {c : Code} {s : State} (t : Sound c s) where
+  -- A sound state with another place, handler and last error.
+  with-handler : {x : ℕ} {h : Handler} {e : Caught} → x ≤ c .statements → HandlerSound (c .statements) h → CaughtSound (c .statements) e
+      → Sound c (record { at = x; depth = s .depth; returns = s .returns; opened = s .opened; loops = s .loops; trap = record { handler = h; caught = e } })
+  with-handler x h e =
+      record {
+        place = x;
+        calls = t .calls;
+        used = t .used;
+        unused = t .unused;
+        nested = t .nested;
+        slots = t .slots;
+        running = t .running;
+        vacant = t .vacant;
+        handled = h;
+        told = e;
+      }
+
   pub gone-sound : {to : ℕ} → to ≤ c .statements → Sound c (gone s to)
-  gone-sound h =
-      record { place = h; calls = t .calls; used = t .used; unused = t .unused; nested = t .nested; slots = t .slots; running = t .running; vacant = t .vacant }
+  gone-sound h = with-handler h (t .handled) (t .told)
 
   pub called-sound : {to : ℕ} → to ≤ c .statements → s .at + 1 ≤ c .statements → s .depth < 50 → Sound c (called s to)
   called-sound h g o =
@@ -196,6 +237,8 @@ module _ {c : Code} {s : State} (t : Sound c s) where
         slots = t .slots;
         running = t .running;
         vacant = t .vacant;
+        handled = t .handled;
+        told = t .told;
       }
 
   pub returned-sound : 0 < s .depth → Sound c (returned s)
@@ -213,6 +256,8 @@ module _ {c : Code} {s : State} (t : Sound c s) where
         slots = t .slots;
         running = t .running;
         vacant = t .vacant;
+        handled = t .handled;
+        told = t .told;
       }
     where
       -- A number that is not there reads 0.
@@ -234,6 +279,8 @@ module _ {c : Code} {s : State} (t : Sound c s) where
         slots = length-set (s .loops) (s .opened) y ∙ t .slots;
         running = λ i b. after-set (LoopSound c) (s .loops) (s .opened) y noLoop i (omega (arith, t .slots)) (λ q. x) (λ q. t .running i (omega arith));
         vacant = λ i b l. after-set (λ z. z ≡ noLoop) (s .loops) (s .opened) y noLoop i (omega (arith, t .slots)) (λ q. absurd (omega arith)) (λ q. t .vacant i (omega arith) l);
+        handled = t .handled;
+        told = t .told;
       }
     where
       y : Loop
@@ -251,7 +298,15 @@ module _ {c : Code} {s : State} (t : Sound c s) where
         running = λ i b.
             after-set (LoopSound c) (s .loops) _ noLoop noLoop i (omega (arith, t .nested, t .slots)) (λ q. absurd (omega arith)) (λ q. t .running i (omega arith));
         vacant = λ i b l. after-set (λ z. z ≡ noLoop) (s .loops) _ noLoop noLoop i (omega (arith, t .slots)) (λ q. refl) (λ q. t .vacant i (omega arith) l);
+        handled = t .handled;
+        told = t .told;
       }
+
+  pub armed-sound : {h : Handler} → s .at + 1 ≤ c .statements → HandlerSound (c .statements) h → Sound c (armed s h)
+  armed-sound x h = with-handler x h (t .told)
+
+  pub caught-sound : {n i : ℕ} → Trappable n → s .at < c .statements → i < c .statements → Sound c (caughtBy s n i)
+  caught-sound e l h = with-handler (omega arith) (t .handled) (e, l)
 
   -- The loop opened last is an open one.
   pub look-sound : LookSound c (lookOf s)

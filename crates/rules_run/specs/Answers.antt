@@ -1,5 +1,8 @@
--- What a call of the run says (document 01, "Stops and their numbers"): when it is refused, what a run does, and of each number when it is given.
+-- What a call of the run says (document 01, "Stops and their numbers"): when it is refused, what a run does, and of each number when it is given. Request 6 of
+-- document 02, "ONERROR and OFFERROR": an error is given also where it is trapped.
 --   Reaches c k s d s′ d′    k statements, one after the other, lead from the state s and the data d to s′ and d′
+--   GivesHere c s d f        the statement where the state s is gives the error f over the data d, trapped or not
+--   Gives c m s d f          within m statements from s and d one gives the error f, trapped or not
 --   StopsFor c left s d e    the run goes no further than s and d, by e, with left statements still allowed
 --   RunSays c m s d r        what a run r of at most m statements from s and d has done
 --   Unchanged d s r          nothing is changed
@@ -26,7 +29,7 @@ use Rattle.rules_unit.specs.Answers.{FirstField, FirstStatement, FirstExpressio
 use Rattle.rules_run.specs.declared.State.{State}
 use Rattle.rules_run.specs.declared.Stop.{Stop}
 use Rattle.rules_run.specs.declared.Stop.the-variants as stop
-use Rattle.rules_run.specs.States.{Sound}
+use Rattle.rules_run.specs.States.{Sound, unhandled}
 use Rattle.rules_run.specs.Stops.{stopNumber, stopPlace}
 use Rattle.rules_run.specs.Runs.{to, stuck, nextOf, dataAfter, Ran, runFrom}
 
@@ -36,6 +39,20 @@ use Rattle.rules_run.specs.Runs.{to, stuck, nextOf, dataAfter, Ran, runF
 abbrev pub Reaches : Code → ℕ → State → List ℕ → State → List ℕ → Type 0
 Reaches c zero s d s′ d′ = (s ≡ s′) × (d ≡ d′)
 Reaches c (suc k) s d s′ d′ = (s .at < c .statements) × ((t : State) × ((nextOf c s d ≡ to t) × Reaches c k t (dataAfter c s d) s′ d′))
+
+-- "given": without a handler the run would stop there with that error.
+abbrev pub GivesHere : Code → State → List ℕ → Fault → Type 0
+GivesHere c s d f = nextOf c (unhandled s) d ≡ stuck f
+
+-- "demand 3 says "given" also of a trapped error": fewer than m statements lead to a statement that gives it, in the state at, over the data seen.
+pub record Gives (c : Code) (m : ℕ) (s : State) (d : List ℕ) (f : Fault) : Type 0 where
+  pub done : ℕ
+  pub fewer : done < m
+  pub at : State
+  pub seen : List ℕ
+  pub reached : Reaches c done s d at seen
+  pub low : at .at < c .statements
+  pub here : GivesHere c at seen f
 
 -- "0 | end reached"; "30 | allowance spent before the end"; a run error is what the statement there gives, where one more is allowed. The other
 -- stops are given before a run.

@@ -1,4 +1,5 @@
--- The run (document 01, "Stops and their numbers"; request 4 of document 02, "FOR loops").
+-- The run (document 01, "Stops and their numbers"; requests 4 and 6 of document 02, "FOR loops", "ONERROR and OFFERROR").
+--   onError s e             where a statement that gives the error e leads from the state s: to the handler, or nowhere
 --   movedBy n s f           where a statement's flow leads from the state s, or the fault that stops it there
 --   nextOf c s d, dataAfter c s d    where the statement at s leads, and what it makes of the data
 --   runFrom c m s d k       at most m statements from the state s and the data d, after k completed ones
@@ -11,6 +12,7 @@ use lib.Dec.{ltb, eqb}
 use lib.ListN.{length}
 use Rattle.rules.specs.declared.Fault.{Fault}
 use Rattle.rules.specs.declared.Fault.the-variants as fault
+use Rattle.rules.specs.Stops.{faultNumber, trappedb}
 use Rattle.rules_unit.specs.declared.Parts.{Parts}
 use Rattle.rules_unit.specs.declared.Checked.{Checked}
 use Rattle.rules_unit.specs.declared.Checked.the-variants as checked
@@ -19,12 +21,14 @@ use Rattle.rules_unit.specs.Decode.{codeOf}
 use Rattle.rules_unit.specs.Checks.{checkOf}
 use Rattle.rules_run.specs.declared.Flow.{Flow}
 use Rattle.rules_run.specs.declared.Flow.the-variants as flow
+use Rattle.rules_run.specs.declared.Handler.{Handler}
+use Rattle.rules_run.specs.declared.Handler.the-variants as handler
 use Rattle.rules_run.specs.declared.State.{State}
 use Rattle.rules_run.specs.declared.Stop.{Stop}
 use Rattle.rules_run.specs.declared.Stop.the-variants as stop
 use Rattle.rules_run.specs.declared.Outcome.{Outcome}
 use Rattle.rules_run.specs.Turns.{applied, turnOf}
-use Rattle.rules_run.specs.States.{soundb, gone, called, returned, entered, closed, lookOf}
+use Rattle.rules_run.specs.States.{soundb, gone, called, returned, entered, closed, armed, caughtBy, lookOf}
 use Rattle.rules_run.specs.Stops.{stopPlace}
 
 -- ---- one step
@@ -32,6 +36,14 @@ use Rattle.rules_run.specs.Stops.{stopPlace}
 pub data Moved : Type 0 where
   to : State → Moved
   stuck : Fault → Moved
+
+-- "After ONERROR c, one of the errors 20, 21, 22, 23 or 26 .. goes on at c"
+abbrev pub trapBy : State → Fault → Handler → Moved
+trapBy s e handler.None = stuck e
+trapBy s e (handler.At i) = to (caughtBy s (faultNumber e) i)
+
+abbrev pub onError : State → Fault → Moved
+onError s e = cond (trappedb (faultNumber e)) (trapBy s e (s .trap .handler)) (stuck e)
 
 -- "24 | CALL with 50 calls open", "25 | RETURN with none open"; "STOP sets the statement number to N and keeps the open calls."
 unfoldable pub movedBy : ℕ → State → Flow → Moved
@@ -42,7 +54,9 @@ movedBy n s flow.Return = cond (eqb (s .depth) 0) (stuck fault.NoCall) (to (retu
 movedBy n s flow.Stop = to (gone s n)
 movedBy n s (flow.Enter limit step) = to (entered s limit step)
 movedBy n s (flow.Leave i) = to (closed s i)
-movedBy n s (flow.Bad e) = stuck e
+movedBy n s (flow.Arm i) = to (armed s (handler.At i))
+movedBy n s flow.Disarm = to (armed s handler.None)
+movedBy n s (flow.Bad e) = onError s e
 
 -- Where the statement at s leads over the data d, or the fault that stops it there; and what it makes of the data.
 abbrev pub nextOf : Code → State → List ℕ → Moved
@@ -72,7 +86,7 @@ onMoved (to s) k e = k s
 onMoved (stuck f) k e = e f
 
 -- "Reaching N is the end"; "An allowance of 0 gives 30, or 0 where the state is already at N."; "A run error leaves the state at its statement,
--- which isn't counted." The data changes with a completed statement alone.
+-- which isn't counted."; one that is trapped "counts the statement as completed". The data changes with a completed statement alone.
 unfoldable pub runFrom : Code → ℕ → State → List ℕ → ℕ → Ran
 runFrom c zero s d k = cond (ltb (s .at) (c .statements)) (ended (c .statements) stop.Spent s k d) (ended (c .statements) stop.End s k d)
 runFrom c (suc m) s d k =

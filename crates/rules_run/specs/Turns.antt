@@ -290,6 +290,8 @@ turnBy c l i d verb.For s = enters c l d s
 turnBy c l i d verb.LoopEnd s = repeats c l d
 turnBy c l i d verb.ExitLoop s = exits c l
 turnBy c l i d verb.NextLoop s = repeats c l d
+turnBy c l i d verb.OnError s = goes (flow.Arm (s .c))
+turnBy c l i d verb.OffError s = goes flow.Disarm
 turnBy c l i d verb.Bad s = failed fault.Malformed
 
 unfoldable pub turnOf : Code → Look → ℕ → List ℕ → Turn

@@ -4,7 +4,7 @@ use rules_unit::Refusal;
 ghost use mathlib.Core.Path.{_≡_};
 ghost use Prim.Native.Nat.{_+_, _<_, _≤_};
 ghost use Rattle.rules_run.specs.Turns.{failed, stores, goes};
-ghost use Rattle.rules_run.specs.States.{noLoop, gone, called, returned, entered, closed, lookOf};
+ghost use Rattle.rules_run.specs.States.{noLoop, gone, called, returned, entered, closed, armed, caughtBy, lookOf};
 ghost use Rattle.rules_run.specs.Stops.{stopNumber};
 
 // The bytes that a reference names.
@@ -99,6 +99,10 @@ pub enum Flow {
     Enter { limit: i64, step: i64 },
     // The loop opened last is closed.
     Leave(u16),
+    // The handler is this statement from here on.
+    Arm(u16),
+    // There is no handler from here on.
+    Disarm,
     Bad(Fault),
 }
 
@@ -162,13 +166,33 @@ pub struct Look {
     pub last: Loop,
 }
 
-// The resume state: the statement to go on at, the calls still open with the numbers that they return to, and the loops still open.
+// The handler: where the run goes on after an error that is trapped.
+pub enum Handler {
+    None,
+    At(u16),
+}
+
+// The last error that was trapped: its number and its statement.
+pub enum Caught {
+    None,
+    Error { number: u8, statement: u16 },
+}
+
+// What is known of errors: the handler, and the last error that was trapped.
+pub struct Trap {
+    pub handler: Handler,
+    pub caught: Caught,
+}
+
+// The resume state: the statement to go on at, the calls still open with the numbers that they return to, the loops still open, the handler and the last
+// error.
 pub struct State {
     pub at: u16,
     pub depth: u16,
     pub returns: [u16; 50],
     pub opened: u16,
     pub loops: [Loop; 16],
+    pub trap: Trap,
 }
 
 impl State {
@@ -225,6 +249,40 @@ impl State {
         let i = (self.opened - 1) as usize;
         self.loops[i] = no_loop();
         self.opened = self.opened - 1;
+        self.at = to;
+        self
+    }
+
+    // ONERROR and OFFERROR: the handler is h from here on, and the run goes on at the next statement.
+    pub fn arm(mut self, h: Handler) -> Self
+        requires { ⌜ self .at < 65535 ⌝ }
+        ensures { λ r. ⌜ r ≡ armed self h ⌝ }
+    {
+        let trap = self.trap;
+        let caught = trap.caught;
+        let next = Trap {
+            handler: h,
+            caught: caught,
+        };
+        self.trap = next;
+        self.at = self.at + 1;
+        self
+    }
+
+    // The error of this statement is trapped: it is the last one, and the run goes on at to.
+    pub fn trapped(mut self, number: u8, to: u16) -> Self
+        ensures { λ r. ⌜ r ≡ caughtBy self number to ⌝ }
+    {
+        let trap = self.trap;
+        let handler = trap.handler;
+        let next = Trap {
+            handler: handler,
+            caught: Caught::Error {
+                number: number,
+                statement: self.at,
+            },
+        };
+        self.trap = next;
         self.at = to;
         self
     }

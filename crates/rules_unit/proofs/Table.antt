@@ -20,7 +20,7 @@ use Rattle.rules.proofs.Charts.{same-at}
 use Rattle.rules_unit.specs.declared.Act.the-variants.{Set, Clear, Count, Case, Edit}
 use Rattle.rules_unit.specs.declared.Statement.{Statement}
 use Rattle.rules_unit.specs.declared.Verb.{Verb}
-use Rattle.rules_unit.specs.declared.Verb.the-variants.{At, Goto, IfZero, Call, Return, Stop, Computed, For, LoopEnd, ExitLoop, NextLoop, Bad}
+use Rattle.rules_unit.specs.declared.Verb.the-variants.{At, Goto, IfZero, Call, Return, Stop, Computed, For, LoopEnd, ExitLoop, NextLoop, OnError, OffError, Bad}
 use Rattle.rules_unit.specs.declared.Want.the-variants.{Place, DecimalPlace, AlphaPlace, Source, Number, AlphaSource}
 use Rattle.rules_unit.specs.declared.Role.{Role}
 use Rattle.rules_unit.specs.declared.Role.the-variants.{Unused, Written, Read, Target, Table, Numbers, End, Never}
@@ -64,6 +64,8 @@ codeBack For = 14
 codeBack LoopEnd = 15
 codeBack ExitLoop = 16
 codeBack NextLoop = 17
+codeBack OnError = 18
+codeBack OffError = 19
 codeBack Bad = 0
 
 pub verb-code : (code : ℕ) → (verbOf code ≡ Bad) ⊎ (codeBack (verbOf code) ≡ code)
@@ -73,7 +75,7 @@ verb-code code =
     (by 5 (At (Case true)) _ refl (by 6 (At (Case false)) _ refl (by 7 Goto _ refl (by 8 IfZero _ refl
     (by 9 Call _ refl (by 10 Return _ refl (by 11 Stop _ refl (by 12 Computed _ refl
     (by 13 (At Edit) _ refl (by 14 For _ refl (by 15 LoopEnd _ refl (by 16 ExitLoop _ refl
-    (by 17 NextLoop _ refl (inl refl)))))))))))))))))
+    (by 17 NextLoop _ refl (by 18 OnError _ refl (by 19 OffError _ refl (inl refl)))))))))))))))))))
   where
     Told : Verb → Type 0
     Told v = (v ≡ Bad) ⊎ (codeBack v ≡ code)
@@ -168,7 +170,7 @@ columnA code =
     (cond (leb code 12) Table
     (cond (leb code 13) (Written AlphaPlace)
     (cond (leb code 14) (Written DecimalPlace)
-    (cond (leb code 17) Unused
+    (cond (leb code 19) Unused
     Never))))))))
 
 -- A source at 1, a number at 8 and 12, an alpha source at 13, and three numbers at 14.
@@ -182,10 +184,10 @@ columnB code =
     (cond (leb code 12) (Read Number)
     (cond (leb code 13) (Read AlphaSource)
     (cond (leb code 14) Numbers
-    (cond (leb code 17) Unused
+    (cond (leb code 19) Unused
     Never))))))))
 
--- A target at 7, 8 and 9, a number at 13, and a loop end at 14.
+-- A target at 7, 8, 9 and 18, a number at 13, and a loop end at 14.
 abbrev columnC : ℕ → Role
 columnC code =
     cond (eqb code 0) Never
@@ -195,7 +197,9 @@ columnC code =
     (cond (leb code 13) (Read Number)
     (cond (leb code 14) End
     (cond (leb code 17) Unused
-    Never))))))
+    (cond (leb code 18) Target
+    (cond (leb code 19) Unused
+    Never))))))))
 
 -- For every byte.
 pub read-down : (code : ℕ) → code < 256 → rowOf (verbOf code) ≡ rowWith (columnA code) (columnB code) (columnC code)

@@ -15,7 +15,7 @@ use mathlib.Core.List.{List, [], _∷_}
 use lib.Dec.{eqb}
 use Rattle.rules_unit.specs.declared.Act.the-variants.{Set, Clear, Count, Case, Edit}
 use Rattle.rules_unit.specs.declared.Verb.{Verb}
-use Rattle.rules_unit.specs.declared.Verb.the-variants.{At, Goto, IfZero, Call, Return, Stop, Computed, For, LoopEnd, ExitLoop, NextLoop, Bad}
+use Rattle.rules_unit.specs.declared.Verb.the-variants.{At, Goto, IfZero, Call, Return, Stop, Computed, For, LoopEnd, ExitLoop, NextLoop, OnError, OffError, Bad}
 use Rattle.rules_unit.specs.declared.Want.the-variants.{Place, DecimalPlace, AlphaPlace, Source, Number, AlphaSource}
 use Rattle.rules_unit.specs.declared.Role.{Role}
 use Rattle.rules_unit.specs.declared.Role.the-variants.{Unused, Written, Read, Target, Table, Numbers, End, Never}
@@ -65,7 +65,11 @@ verbOf code =
     (cond (eqb code 16) ExitLoop
     -- "17 NEXTLOOP"
     (cond (eqb code 17) NextLoop
-    Bad))))))))))))))))
+    -- "18 ONERROR c"
+    (cond (eqb code 18) OnError
+    -- "19 OFFERROR"
+    (cond (eqb code 19) OffError
+    Bad))))))))))))))))))
 
 -- ---- the parts
 
@@ -89,6 +93,8 @@ rowOf For = rowWith (Written DecimalPlace) Numbers End
 rowOf LoopEnd = rowWith Unused Unused Unused
 rowOf ExitLoop = rowWith Unused Unused Unused
 rowOf NextLoop = rowWith Unused Unused Unused
+rowOf OnError = rowWith Unused Unused Target
+rowOf OffError = rowWith Unused Unused Unused
 rowOf Bad = rowWith Never Never Never
 
 -- "A destination is the span named by place a of codes 1 to 6", and of 13 and 14: "The control place is a destination".

@@ -117,7 +117,7 @@ pub enum Act {
     Edit,
 }
 
-// What a statement does, by its code: something at its place, where the run goes on, or something about a loop; Bad for a code that is none.
+// What a statement does, by its code: something at its place, where the run goes on, something about a loop or about the handler; Bad for a code that is none.
 pub enum Verb {
     At(Act),
     Goto,
@@ -131,6 +131,8 @@ pub enum Verb {
     LoopEnd,
     ExitLoop,
     NextLoop,
+    OnError,
+    OffError,
     Bad,
 }
 

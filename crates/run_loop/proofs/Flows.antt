@@ -5,7 +5,7 @@ use Prim.Native.Nat.{ℕ, _+_, _<_}
 use native.Mathlib.Omega.{arith}
 use mathlib.Core.Path.{_≡_, refl, sym, ap, _∙_}
 use mathlib.Core.Bool.{Bool, true, false, cond, not}
-use mathlib.Core.List.{[], _∷_}
+use mathlib.Core.List.{List, [], _∷_}
 use lib.Dec.{ltb, eqb}
 use lib.IntN.{ℤ}
 use mir.Syntax.{w64}
@@ -19,11 +19,12 @@ use Rattle.rules.proofs.Walk.{cond-either}
 use Rattle.rules.proofs.Signed.{back}
 use Rattle.rules_run.specs.declared.Flow.{Flow}
 use Rattle.rules_run.specs.declared.Flow.the-variants as flow
+use Rattle.rules_run.specs.declared.Handler.the-variants as handler
 use Rattle.rules_run.specs.declared.State.{State}
 use Rattle.rules_run.specs.declared.Turn.{Turn}
-use Rattle.rules_run.specs.States.{gone, called, returned, entered, closed}
+use Rattle.rules_run.specs.States.{gone, called, returned, entered, closed, armed}
 use Rattle.rules_run.specs.Turns.{failed}
-use Rattle.rules_run.specs.Runs.{Moved, to, stuck, movedBy}
+use Rattle.rules_run.specs.Runs.{Moved, to, stuck, onError, movedBy}
 use Rattle.rules_run.proofs.Flow.{the-type}
 use Rattle.run_loop.specs.Flows.{underBy, turnUnder}
 
@@ -37,7 +38,9 @@ led n s flow.Return = to (returned s)
 led n s flow.Stop = to (gone s n)
 led n s (flow.Enter limit step) = to (entered s limit step)
 led n s (flow.Leave i) = to (closed s i)
-led n s (flow.Bad e) = stuck e
+led n s (flow.Arm i) = to (armed s (handler.At i))
+led n s flow.Disarm = to (armed s handler.None)
+led n s (flow.Bad e) = onError s e
 
 module _ (n : ℕ) (s : State) (t : Turn) where
   -- The turn or the error, by the test of the open calls.
@@ -58,6 +61,8 @@ module _ (n : ℕ) (s : State) (t : Turn) where
   by-moves flow.Stop e = rw e
   by-moves (flow.Enter limit step) e = rw e
   by-moves (flow.Leave i) e = rw e
+  by-moves (flow.Arm i) e = rw e
+  by-moves flow.Disarm e = rw e
   by-moves (flow.Bad k) e = rw e
 
   -- A turn leads where the rule says.
@@ -65,22 +70,24 @@ module _ (n : ℕ) (s : State) (t : Turn) where
   unfolding turnUnder
   under-moves = by-moves (t .flow) refl
 
-  either-write : (s′ : State) (b : Bool) (e : Fault) → led n s (cond b t (failed e) .flow) ≡ to s′ → cond b t (failed e) .write ≡ t .write
-  either-write s′ true e h = refl
-  either-write s′ false e h = let z : _≡_ {A = ℕ} 0 1 = cc in absurd (omega arith)
+  call-write : (s′ : State) (b : Bool) → led n s (cond b t (failed fault.CallsFull) .flow) ≡ to s′ → cond b t (failed fault.CallsFull) .write ≡ t .write
+  call-write s′ true h = refl
+  call-write s′ false h = let z : _≡_ {A = ℕ} 0 1 = cc in absurd (omega arith)
 
-  other-write : (s′ : State) (b : Bool) (e : Fault) → led n s (cond b (failed e) t .flow) ≡ to s′ → cond b (failed e) t .write ≡ t .write
-  other-write s′ true e h = let z : _≡_ {A = ℕ} 0 1 = cc in absurd (omega arith)
-  other-write s′ false e h = refl
+  return-write : (s′ : State) (b : Bool) → led n s (cond b (failed fault.NoCall) t .flow) ≡ to s′ → cond b (failed fault.NoCall) t .write ≡ t .write
+  return-write s′ true h = let z : _≡_ {A = ℕ} 0 1 = cc in absurd (omega arith)
+  return-write s′ false h = refl
 
   by-write : (s′ : State) (f : Flow) → led n s (underBy (s .depth) t f .flow) ≡ to s′ → underBy (s .depth) t f .write ≡ t .write
   by-write s′ flow.Next h = refl
   by-write s′ (flow.Goto i) h = refl
-  by-write s′ (flow.Call i) h = either-write s′ (ltb (s .depth) 50) fault.CallsFull h
-  by-write s′ flow.Return h = other-write s′ (eqb (s .depth) 0) fault.NoCall h
+  by-write s′ (flow.Call i) h = call-write s′ (ltb (s .depth) 50) h
+  by-write s′ flow.Return h = return-write s′ (eqb (s .depth) 0) h
   by-write s′ flow.Stop h = refl
   by-write s′ (flow.Enter limit step) h = refl
   by-write s′ (flow.Leave i) h = refl
+  by-write s′ (flow.Arm i) h = refl
+  by-write s′ flow.Disarm h = refl
   by-write s′ (flow.Bad k) h = refl
 
   -- One that goes on stores what its statement stores.
@@ -98,6 +105,8 @@ module _ (P : Turn → Type 0) (depth : ℕ) (t : Turn) (fails : (e : Fault) →
   by-either flow.Stop = own
   by-either (flow.Enter limit step) = own
   by-either (flow.Leave i) = own
+  by-either (flow.Arm i) = own
+  by-either flow.Disarm = own
   by-either (flow.Bad k) = own
 
   pub under-either : P (turnUnder depth t)
@@ -124,8 +133,11 @@ pub entered-as : (s s′ : State) {limit step : ℤ} → SFits w64 limit → SFi
 entered-as s s′ f g e = rw (back f, back g) at e
 
 -- What the code's `if let Flow::Bad` leaves: the flow's tag is one of the others.
-pub never-bad : (f : Flow) (e : Fault) → OneOf (0 ∷ (1 ∷ (2 ∷ (3 ∷ (4 ∷ (5 ∷ (6 ∷ []))))))) (tagOf the-type f) → f ≡ flow.Bad e → ⊥
-never-bad f e o h = miss (0 ∷ (1 ∷ (2 ∷ (3 ∷ (4 ∷ (5 ∷ (6 ∷ []))))))) 7 tt (rw h at o)
+abbrev others : List ℕ
+others = 0 ∷ (1 ∷ (2 ∷ (3 ∷ (4 ∷ (5 ∷ (6 ∷ (7 ∷ (8 ∷ []))))))))
+
+pub never-bad : (f : Flow) (e : Fault) → OneOf others (tagOf the-type f) → f ≡ flow.Bad e → ⊥
+never-bad f e o h = miss others 9 tt (rw h at o)
 
 -- ---- the calls of a flow that is followed
 
@@ -138,6 +150,8 @@ freeb depth flow.Return = not (eqb depth 0)
 freeb depth flow.Stop = true
 freeb depth (flow.Enter limit step) = true
 freeb depth (flow.Leave i) = true
+freeb depth (flow.Arm i) = true
+freeb depth flow.Disarm = true
 freeb depth (flow.Bad e) = true
 
 module _ (depth : ℕ) (t : Turn) where
@@ -157,6 +171,8 @@ module _ (depth : ℕ) (t : Turn) where
   by-room flow.Stop e = rw e
   by-room (flow.Enter limit step) e = rw e
   by-room (flow.Leave i) e = rw e
+  by-room (flow.Arm i) e = rw e
+  by-room flow.Disarm e = rw e
   by-room (flow.Bad k) e = rw e
 
   under-room : freeb depth (turnUnder depth t .flow) ≡ true

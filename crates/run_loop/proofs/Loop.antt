@@ -1,10 +1,10 @@
--- The turns of a run, for its loop: one law for each way out of a turn and one for the way on, with what the code knows there as premises.
--- In each, z is what the whole run comes to: what is left from here is that, and a turn keeps it so.
+-- The turns of a stretch of a run, for its loop: one law for each way out of a turn and one for the way on, with what the code knows there as premises.
+-- What is left of the run from here comes to what the whole run comes to, and a turn keeps it so.
 -- Assumes nothing.
 use Prim.Native.Nat.{ℕ, suc, _+_, _-_, _<_, _≤_}
 use native.Mathlib.Numerals.{add-one}
 use native.Mathlib.Omega.{arith}
-use mathlib.Core.Path.{_≡_, sym, ap, _∙_, subst}
+use mathlib.Core.Path.{_≡_, refl, sym, ap, _∙_, subst}
 use mathlib.Core.List.{List}
 use lib.IntN.{ℤ}
 use lib.ListN.{length}
@@ -17,21 +17,27 @@ use Rattle.rules_unit.specs.Checks.{checkOf}
 use Rattle.rules_unit.specs.Sound.{SoundCode}
 use Rattle.rules_unit.proofs.Sound.{passed-sound, passed-fills}
 use Rattle.rules_run.specs.declared.Flow.the-variants as flow
+use Rattle.rules_run.specs.declared.Handler.{Handler}
 use Rattle.rules_run.specs.declared.Look.{Look}
 use Rattle.rules_run.specs.declared.State.{State}
 use Rattle.rules_run.specs.declared.Turn.{Turn}
+use Rattle.rules_run.specs.declared.Stop.{Stop}
 use Rattle.rules_run.specs.declared.Stop.the-variants as stop
 use Rattle.rules_run.specs.declared.Outcome.{Outcome}
-use Rattle.rules_run.specs.States.{Sound, gone, called, returned, entered, closed, lookOf, LookSound}
+use Rattle.rules_run.specs.States.{Sound, gone, called, returned, entered, closed, armed, unhandled, lookOf, LookSound}
 use Rattle.rules_run.specs.Turns.{Room, applied, turnOf}
-use Rattle.rules_run.specs.Runs.{Ran, Moved, movedBy, stuck, to, runFrom}
+use Rattle.rules_run.specs.Stops.{stopPlace}
+use Rattle.rules_run.specs.Runs.{Ran, Moved, movedBy, to, runFrom}
+use Rattle.rules_run.specs.Answers.{GivesHere}
 use Rattle.rules_run.proofs.Lengths.{passed-dialect}
 use Rattle.rules_run.proofs.Outside.{applied-length}
 use Rattle.rules_run.proofs.Room.{turn-room}
 use Rattle.rules_run.proofs.SoundRuns.{FlowSound, flow-sound, step-sound, passed-in}
 use Rattle.rules_run.proofs.States.{look-sound}
-use Rattle.rules_run.proofs.Steps.{halted, ran, run-ends, run-spent, run-fails, run-goes}
+use Rattle.rules_run.proofs.Steps.{halted, run-goes}
+use Rattle.rules_run.proofs.Traps.{error-stops}
 use Rattle.run_loop.specs.Flows.{turnUnder}
+use Rattle.run_loop.specs.Stretches.{EndsFor, Stretched}
 use Rattle.run_loop.proofs.Flows.{led, led-as, to-as, entered-as, under-moves, under-write, under-either, call-free, return-free}
 
 -- ---- a unit that passed its check
@@ -75,10 +81,6 @@ module _ (u : List ℕ) (p : Parts) (s : State) (l : Look) (seen : l ≡ lookOf 
     one-less : m ≡ suc (m - 1)
     one-less = omega arith
 
-    pub turn-fails : (r : Outcome) (f : Fault) → r ≡ halted (stop.Failed f) (s .at) k s → t .flow ≡ flow.Bad f → ran r d ≡ z
-    turn-fails r f o e =
-        ap (λ (x : Outcome). ran x d) o ∙ sym (run-fails (codeOf u p) s d k (m - 1) f low (moves (stuck f) (rw e))) ∙ (rw one-less at rest)
-
     pub turn-goes : (s′ : State) (d′ : List ℕ) → to s′ ≡ led (p .n) s (t .flow) → d′ ≡ applied (codeOf u p) d (t .write)
         → runFrom (codeOf u p) (m - 1) s′ d′ (k + 1) ≡ z
     turn-goes s′ d′ f g =
@@ -113,12 +115,30 @@ module _ (u : List ℕ) (p : Parts) (s : State) (l : Look) (seen : l ≡ lookOf 
     pub turn-sound : (s′ : State) → to s′ ≡ led (p .n) s (t .flow) → Sound (codeOf u p) s′
     turn-sound s′ f = step-sound (codeOf u p) (passed-in u p e) (passed-code u p e) d sound low (moves (to s′) f)
 
-module _ (u : List ℕ) (p : Parts) (s : State) (d : List ℕ) (m k : ℕ) (z : Ran) (rest : runFrom (codeOf u p) m s d k ≡ z) where
-  pub turn-ends : (r : Outcome) → r ≡ halted stop.End (p .n) k s → p .n ≤ s .at → ran r d ≡ z
-  turn-ends r e h = ap (λ (x : Outcome). ran x d) e ∙ sym (run-ends (codeOf u p) s d k m h) ∙ rest
+-- ---- the ways out: the whole began with j completed statements, in the state x, over the data y
 
-  pub turn-spent : (r : Outcome) → r ≡ halted stop.Spent (s .at) k s → s .at < p .n → m ≡ 0 → ran r d ≡ z
-  turn-spent r q h e = ap (λ (x : Outcome). ran x d) q ∙ sym (run-spent (codeOf u p) s d k h) ∙ (rw e at rest)
+module _ (u : List ℕ) (p : Parts) (s : State) (d : List ℕ) (m k a j : ℕ) (x : State) (y : List ℕ) (rest : runFrom (codeOf u p) m s d k ≡ runFrom (codeOf u p) a x y j)
+    (more : j ≤ k) (allowed : k + m ≡ j + a) (sound : Sound (codeOf u p) s) (size : length d ≡ length y) where
+  out : (e : Stop) (place : ℕ) (r : Outcome) → r ≡ halted e place k s → EndsFor (codeOf u p) m s d e → place ≡ stopPlace (p .n) (s .at) e → Stretched (codeOf u p) a j x y r d
+  out e place r q h w =
+      rw q (record { left = m; more = more; allowed = allowed; rest = rest; sound = sound; size = size; ends = h; place = w })
+
+  pub turn-ends : (r : Outcome) → r ≡ halted stop.End (p .n) k s → p .n ≤ s .at → Stretched (codeOf u p) a j x y r d
+  turn-ends r e h = out stop.End (p .n) r e h refl
+
+  pub turn-spent : (r : Outcome) → r ≡ halted stop.Spent (s .at) k s → s .at < p .n → m ≡ 0 → Stretched (codeOf u p) a j x y r d
+  turn-spent r q h e = out stop.Spent (s .at) r q (h, e) refl
+
+  pub turn-fails : (r : Outcome) (f : Fault) (l : Look) (t : Turn) → r ≡ halted (stop.Failed f) (s .at) k s → s .at < p .n → (m ≡ 0 → ⊥) → l ≡ lookOf s
+      → t ≡ turnUnder (s .depth) (turnOf (codeOf u p) l (s .at) d)
+      → t .flow ≡ flow.Bad f
+      → Stretched (codeOf u p) a j x y r d
+  turn-fails r f l t q h some seen worked e =
+      let v = turnOf (codeOf u p) (lookOf s) (s .at) d in
+      let o : t ≡ turnUnder (s .depth) v = rw (← seen) worked in
+      let w : turnUnder (s .depth) v .flow ≡ flow.Bad f = ap (λ (i : Turn). i .flow) (sym o) ∙ e in
+      let g : GivesHere (codeOf u p) s d f = under-moves (p .n) (unhandled s) v ∙ ap (led (p .n) (unhandled s)) w ∙ error-stops s f in
+      out (stop.Failed f) (s .at) r q (h, omega arith, g) refl
 
 -- The three ways out.
 pub ruleset turn-ways = (turn-ends, turn-spent, turn-fails)
@@ -141,7 +161,10 @@ module _ (s s′ : State) (l : Look) (seen : l ≡ lookOf s) where
   pub returned-seen : s′ ≡ returned s → l ≡ lookOf s′
   returned-seen e = rw e seen
 
-pub ruleset still-seen = (gone-seen, called-seen, returned-seen)
+  pub armed-seen : (h : Handler) → s′ ≡ armed s h → l ≡ lookOf s′
+  armed-seen h e = rw e seen
+
+pub ruleset still-seen = (gone-seen, called-seen, returned-seen, armed-seen)
 
 -- ---- a sound state
 

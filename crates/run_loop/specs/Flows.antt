@@ -20,6 +20,8 @@ underBy depth t flow.Return = cond (eqb depth 0) (failed fault.NoCall) t
 underBy depth t flow.Stop = t
 underBy depth t (flow.Enter limit step) = t
 underBy depth t (flow.Leave i) = t
+underBy depth t (flow.Arm i) = t
+underBy depth t flow.Disarm = t
 underBy depth t (flow.Bad e) = t
 
 unfoldable pub turnUnder : ℕ → Turn → Turn

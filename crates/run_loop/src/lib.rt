@@ -1,6 +1,7 @@
 // The run: statements one after the other within an allowance.
 use rules::Fault;
 use rules_run::Flow;
+use rules_run::Handler;
 use rules_run::Look;
 use rules_run::Outcome;
 use rules_run::State;
@@ -8,7 +9,7 @@ use rules_run::Stop;
 use rules_run::Turn;
 use rules_unit::Parts;
 ghost use mathlib.Core.Path.{_≡_};
-ghost use Prim.Native.Nat.{_<_};
+ghost use Prim.Native.Nat.{_+_, _-_, _<_, _≤_};
 ghost use lib.ListN.{length};
 ghost use Rattle.rules_unit.specs.declared.Checked.the-variants as checked;
 ghost use Rattle.rules_unit.specs.Decode.{Fills, SoundDialect, codeOf};
@@ -18,6 +19,7 @@ ghost use Rattle.rules_run.specs.States.{Sound, LookSound};
 ghost use Rattle.rules_run.specs.Turns.{turnOf};
 ghost use Rattle.rules_run.specs.Runs.{Ran, runFrom};
 ghost use Rattle.run_loop.specs.Flows.{turnUnder};
+ghost use Rattle.run_loop.specs.Stretches.{afterError, afterStop, Stretched};
 
 // ---- where a statement leads
 
@@ -44,11 +46,13 @@ fn turn_under(depth: u16, turn: Turn) -> Turn
         Flow::Stop => turn,
         Flow::Enter { limit: _, step: _ } => turn,
         Flow::Leave(_) => turn,
+        Flow::Arm(_) => turn,
+        Flow::Disarm => turn,
         Flow::Bad(_) => turn,
     }
 }
 
-// The turn of the statement at, where it sees look of the state and depth calls are open. The loop of `turns` is the one caller of this function, and this
+// The turn of the statement at, where it sees look of the state and depth calls are open. The loop of `stretch` is the one caller of this function, and this
 // function the one caller of `run_statement::work`: the compiler puts what is called at one place only right there. A second caller, of either, has cost
 // every run 6 to 10 % more instructions in trials.
 fn turn_at(unit: &[u8], parts: Parts, bytes: &[u8], at: u16, look: Look, depth: u16) -> Turn
@@ -61,6 +65,47 @@ fn turn_at(unit: &[u8], parts: Parts, bytes: &[u8], at: u16, look: Look, depth: 
     ensures { λ r. ⌜ r ≡ turnUnder depth (turnOf (codeOf (now (unit .entry)) parts) look at (now (bytes .entry))) ⌝ }
 {
     turn_under(depth, run_statement::work(unit, parts, bytes, at, look))
+}
+
+// ---- errors
+
+// What comes after a stretch of a run: it stops, or its error is trapped and it goes on.
+pub enum After {
+    Stops,
+    Goes { number: u8, to: u16 },
+}
+
+// What comes after an error.
+fn after_error(handler: Handler, e: Fault) -> After
+    ensures { λ r. ⌜ r ≡ afterError handler e ⌝ }
+{
+    match handler {
+        Handler::None => After::Stops,
+        Handler::At(i) => {
+            let number = rules::fault_number(e);
+            if rules::trapped(number) {
+                return After::Goes {
+                    number: number,
+                    to: i,
+                };
+            }
+            After::Stops
+        }
+    }
+}
+
+// What comes after a stop.
+fn after_stop(handler: Handler, stop: Stop) -> After
+    ensures { λ r. ⌜ r ≡ afterStop handler stop ⌝ }
+{
+    match stop {
+        Stop::End => After::Stops,
+        Stop::Refused(_) => After::Stops,
+        Stop::WrongSize => After::Stops,
+        Stop::Unsound => After::Stops,
+        Stop::Failed(e) => after_error(handler, e),
+        Stop::Spent => After::Stops,
+    }
 }
 
 // ---- the run
@@ -77,15 +122,23 @@ fn halt(stop: Stop, place: u16, count: u64, state: State) -> Outcome
     }
 }
 
-// Runs a unit that passed its check, from a sound state, over data of its length: statements one after the other until the end is
-// reached, a statement ends in an error or the allowance is spent. An error leaves the data and the state as they were before its
-// statement, which isn't counted. What a statement sees of the state is renewed only where a loop is opened or closed: taken anew at every
-// statement it has cost a copy of the state, 30 % more instructions.
-pub fn turns(unit: &[u8], parts: Parts, bytes: &mut [u8], state: State, allowance: u64) -> Outcome
+// A stretch of a run of a unit that passed its check, from a sound state, over data of its length, after done completed statements: statements one after the
+// other until the end is reached, a statement ends in an error or the allowance is spent. An error leaves the data and the state as they were before its
+// statement, which isn't counted; whether it is trapped is for `turns` and `go_on` to say, so that a statement that completes takes no longer for it. What a statement sees
+// of the state is renewed only where a loop is opened or closed: taken anew at every statement it has cost a copy of the state, 30 % more instructions.
+fn stretch(
+    unit: &[u8],
+    parts: Parts,
+    bytes: &mut [u8],
+    state: State,
+    allowance: u64,
+    done: u64,
+) -> Outcome
     requires { ⌜ checkOf (now unit) ≡ checked.Passed parts ⌝ }
     requires { ⌜ length (now bytes) ≡ parts .d ⌝ }
     requires { ⌜ Sound (codeOf (now unit) parts) state ⌝ }
-    ensures { λ r. ⌜ _≡_ {A = Ran} (record { outcome = r; bytes = now (bytes .exit) }) (runFrom (codeOf (now (unit .entry)) parts) allowance state (now (bytes .entry)) 0) ⌝ }
+    requires { ⌜ done + allowance < 18446744073709551616 ⌝ }
+    ensures { λ r. ⌜ Stretched (codeOf (now (unit .entry)) parts) allowance done state (now (bytes .entry)) r (now (bytes .exit)) ⌝ }
 {
     let uppers = alpha::upper_chart();
     let lowers = alpha::lower_chart();
@@ -93,7 +146,7 @@ pub fn turns(unit: &[u8], parts: Parts, bytes: &mut [u8], state: State, allowanc
     let mut s = state;
     let mut look = state.look();
     let mut left = allowance;
-    let mut count: u64 = 0;
+    let mut count = done;
     while s.at < n {
         let at = s.at;
         if left == 0 {
@@ -122,9 +175,70 @@ pub fn turns(unit: &[u8], parts: Parts, bytes: &mut [u8], state: State, allowanc
                 s = s.leave(i);
                 look = s.look();
             }
+            Flow::Arm(i) => s = s.arm(Handler::At(i)),
+            Flow::Disarm => s = s.arm(Handler::None),
             // Never: it is told above.
             Flow::Bad(_) => {}
         }
     }
     halt(Stop::End, n, count, s)
+}
+
+// Goes on with a run of which done statements are completed, the last by an error that was trapped: stretch after stretch, as long as what ends one is an error
+// that is trapped. Such an error counts its statement as completed, over the same data, and the run goes on at the handler.
+fn go_on(
+    unit: &[u8],
+    parts: Parts,
+    bytes: &mut [u8],
+    state: State,
+    allowance: u64,
+    done: u64,
+) -> Outcome
+    requires { ⌜ checkOf (now unit) ≡ checked.Passed parts ⌝ }
+    requires { ⌜ length (now bytes) ≡ parts .d ⌝ }
+    requires { ⌜ Sound (codeOf (now unit) parts) state ⌝ }
+    requires { ⌜ done ≤ allowance ⌝ }
+    ensures { λ r. ⌜ _≡_ {A = Ran} (record { outcome = r; bytes = now (bytes .exit) }) (runFrom (codeOf (now (unit .entry)) parts) (allowance - done) state (now (bytes .entry)) done) ⌝ }
+{
+    let mut s = state;
+    let mut count = done;
+    loop {
+        let out = stretch(unit, parts, bytes, s, allowance - count, count);
+        let stop = out.stop;
+        let next = out.state;
+        let trap = next.trap;
+        let handler = trap.handler;
+        let then = after_stop(handler, stop);
+        match then {
+            After::Stops => return out,
+            After::Goes { number, to } => {
+                s = next.trapped(number, to);
+                count = out.count + 1;
+            }
+        }
+    }
+}
+
+// Runs a unit that passed its check, from a sound state, over data of its length, within an allowance. Most runs are one stretch. That `stretch` has a second
+// caller here keeps the compiler from putting it into the loop of `go_on`, where it has taken 2 % more instructions.
+pub fn turns(unit: &[u8], parts: Parts, bytes: &mut [u8], state: State, allowance: u64) -> Outcome
+    requires { ⌜ checkOf (now unit) ≡ checked.Passed parts ⌝ }
+    requires { ⌜ length (now bytes) ≡ parts .d ⌝ }
+    requires { ⌜ Sound (codeOf (now unit) parts) state ⌝ }
+    ensures { λ r. ⌜ _≡_ {A = Ran} (record { outcome = r; bytes = now (bytes .exit) }) (runFrom (codeOf (now (unit .entry)) parts) allowance state (now (bytes .entry)) 0) ⌝ }
+{
+    let out = stretch(unit, parts, bytes, state, allowance, 0);
+    let stop = out.stop;
+    let next = out.state;
+    let trap = next.trap;
+    let handler = trap.handler;
+    let then = after_stop(handler, stop);
+    match then {
+        After::Stops => out,
+        After::Goes { number, to } => {
+            let s = next.trapped(number, to);
+            let count = out.count + 1;
+            go_on(unit, parts, bytes, s, allowance, count)
+        }
+    }
 }

@@ -41,4 +41,6 @@ loopTurn c l d verb.For s = enters c l d s
 loopTurn c l d verb.LoopEnd s = repeats c l d
 loopTurn c l d verb.ExitLoop s = exits c l
 loopTurn c l d verb.NextLoop s = repeats c l d
+loopTurn c l d verb.OnError s = failed fault.Malformed
+loopTurn c l d verb.OffError s = failed fault.Malformed
 loopTurn c l d verb.Bad s = failed fault.Malformed

@@ -355,6 +355,8 @@ pub fn loop_turn(
         Verb::LoopEnd => repeat(unit, parts, bytes, look),
         Verb::ExitLoop => exit(unit, parts, look),
         Verb::NextLoop => repeat(unit, parts, bytes, look),
+        Verb::OnError => rules_run::failed(Fault::Malformed),
+        Verb::OffError => rules_run::failed(Fault::Malformed),
         Verb::Bad => rules_run::failed(Fault::Malformed),
     }
 }

@@ -3,4 +3,5 @@ pub mod Loops
 pub mod Slots
 pub mod Answers
 pub mod Words
+pub mod Handled
 pub mod Reading

@@ -9,10 +9,11 @@ use mathlib.Core.List.{List}
 use lib.ListN.{length, getD, drop, drop-of-length-le}
 use lib.Seq.{drop-cons}
 use borrow.Author.Tests.{le-leb, lt-leb, eq-eqb, not-true, not-false}
+use Rattle.rules.specs.Tests.{_&&_}
 use Rattle.rules_unit.specs.declared.Parts.{Parts}
 use Rattle.rules_unit.specs.Decode.{codeOf}
 use Rattle.rules_run.specs.declared.State.{State}
-use Rattle.rules_run.specs.States.{returnb, returnsb, slotsb, soundb}
+use Rattle.rules_run.specs.States.{returnb, returnsb, slotsb, handlerb, caughtb, soundb}
 
 module _ (n depth i : ℕ) (l : List ℕ) (z : Bool) (rest : returnsb n depth i (drop i l) ≡ z) where
   -- A return number that is wrong.
@@ -54,9 +55,33 @@ module _ (u : List ℕ) (p : Parts) (s : State) where
       unfolding soundb
       sound-many m g q = rw (le-leb (s .at) (p .n) h, le-leb (s .depth) 50 k, ← e, not-false b f, lt-leb (s .opened) 16 (omega arith))
 
-      pub sound-slots : (r : Bool) → s .opened ≤ 16 → length (s .loops) ≡ 16 → r ≡ slotsb (codeOf u p) (s .opened) 0 (s .loops) → r ≡ soundb (codeOf u p) s
-      unfolding soundb
-      sound-slots r g l q =
-          rw (le-leb (s .at) (p .n) h, le-leb (s .depth) 50 k, ← e, not-false b f, le-leb (s .opened) 16 g, eq-eqb (length (s .loops)) 16 l) q
+      module _ (x : Bool) (g : s .opened ≤ 16) (l : length (s .loops) ≡ 16) (q : x ≡ slotsb (codeOf u p) (s .opened) 0 (s .loops)) where
+        pub sound-slots : not x ≡ true → false ≡ soundb (codeOf u p) s
+        unfolding soundb
+        sound-slots o =
+            rw (le-leb (s .at) (p .n) h, le-leb (s .depth) 50 k, ← e, not-false b f, le-leb (s .opened) 16 g, eq-eqb (length (s .loops)) 16 l, ← q, not-true x o)
 
-pub ruleset sound-laws = (sound-past, sound-deep, sound-returns, sound-many, sound-slots)
+        module _ (o : not x ≡ false) (y : Bool) (i : y ≡ handlerb (p .n) (s .trap .handler)) where
+          -- What is left is asked of the handler and of the last error.
+          rest : soundb (codeOf u p) s ≡ (y && caughtb (p .n) (s .trap .caught))
+          unfolding soundb
+          rest =
+              rw (
+                le-leb (s .at) (p .n) h,
+                le-leb (s .depth) 50 k,
+                ← e,
+                not-false b f,
+                le-leb (s .opened) 16 g,
+                eq-eqb (length (s .loops)) 16 l,
+                ← q,
+                not-false x o,
+                ← i,
+              )
+
+          pub sound-handler : not y ≡ true → false ≡ soundb (codeOf u p) s
+          sound-handler z = sym (rest ∙ rw (not-true y z))
+
+          pub sound-caught : not y ≡ false → (r : Bool) → r ≡ caughtb (p .n) (s .trap .caught) → r ≡ soundb (codeOf u p) s
+          sound-caught z r t = t ∙ sym (rest ∙ rw (not-false y z))
+
+pub ruleset sound-laws = (sound-past, sound-deep, sound-returns, sound-many, sound-slots, sound-handler, sound-caught)

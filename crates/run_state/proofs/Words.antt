@@ -13,13 +13,15 @@ use mir.Syntax.{w64}
 use mir.Val.{Fits, SFits, toZ, ofZ}
 use borrow.Author.Tests.{ltb-true, lt-ltb, le-ltb, ne-eqb}
 use Rattle.rules.proofs.Signed.{back, abs-neg, abs-fits}
+use Rattle.rules_run.specs.declared.Caught.{Caught}
+use Rattle.rules_run.specs.declared.Handler.{Handler}
 use Rattle.rules_run.specs.declared.Loop.{Loop}
 use Rattle.rules_run.specs.declared.State.{State}
 use Rattle.rules_run.specs.States.{noLoop}
 use Rattle.rules_host.specs.Laid.{laid}
 use Rattle.rules_host.proofs.Laid.{laid-next, laid-full, laid-all}
 use Rattle.rules_host.proofs.Listed.{length-listed, getD-listed}
-use Rattle.rules_host.specs.Numbers.{word, loopNumber, numberAt, numbersOf}
+use Rattle.rules_host.specs.Numbers.{word, loopNumber, handlerNumber, errorNumber, errorPlace, handledNumber, numberAt, numbersOf}
 
 -- ---- a value
 
@@ -111,19 +113,33 @@ module _ (s : State) (k n : ℕ) where
   unfolding numberAt
   number-opened e q = rw e q
 
-  pub number-loop : 52 ≤ k → (k ≡ 52 → ⊥) → n ≡ loopNumber (getD (s .loops) ((k - 53) / 3) noLoop) ((k - 53) % 3) → n ≡ numberAt s k
+  pub number-loop : 52 ≤ k → (k ≡ 52 → ⊥) → k < 101 → n ≡ loopNumber (getD (s .loops) ((k - 53) / 3) noLoop) ((k - 53) % 3) → n ≡ numberAt s k
   unfolding numberAt
-  number-loop h e q = rw (ne-eqb k 0 (λ x. omega arith), ne-eqb k 1 (λ x. omega arith), le-ltb k 52 h, ne-eqb k 52 e) q
+  number-loop h e b q = rw (ne-eqb k 0 (λ x. omega arith), ne-eqb k 1 (λ x. omega arith), le-ltb k 52 h, ne-eqb k 52 e, lt-ltb k 101 b) q
+
+  pub number-handled : 101 ≤ k → n ≡ handledNumber s k → n ≡ numberAt s k
+  unfolding numberAt
+  number-handled h q =
+      rw (ne-eqb k 0 (λ x. omega arith), ne-eqb k 1 (λ x. omega arith), le-ltb k 52 (omega arith), ne-eqb k 52 (λ x. omega arith), le-ltb k 101 h) q
+
+  pub handled-handler : (h : Handler) → k ≡ 101 → h ≡ s .trap .handler → n ≡ handlerNumber h → n ≡ handledNumber s k
+  handled-handler h e f q = rw e (q ∙ ap handlerNumber f)
+
+  pub handled-error : (x : Caught) → k ≡ 102 → x ≡ s .trap .caught → n ≡ errorNumber x → n ≡ handledNumber s k
+  handled-error x e f q = rw e (q ∙ ap errorNumber f)
+
+  pub handled-place : (x : Caught) → (k ≡ 101 → ⊥) → (k ≡ 102 → ⊥) → x ≡ s .trap .caught → n ≡ errorPlace x → n ≡ handledNumber s k
+  handled-place x e g f q = rw (ne-eqb k 101 e, ne-eqb k 102 g) (q ∙ ap errorPlace f)
 
 -- ---- the numbers, put one after the other
 
 module _ (s : State) (l m : List ℕ) (k : ℕ) (is : m ≡ laid (take k (numbersOf s)) l) where
-  pub write-next : (n : ℕ) → k < 101 → n ≡ numberAt s k → set m k n ≡ laid (take (k + 1) (numbersOf s)) l
+  pub write-next : (n : ℕ) → k < 104 → n ≡ numberAt s k → set m k n ≡ laid (take (k + 1) (numbersOf s)) l
   write-next n h e =
-      ap (set m k) (e ∙ sym (getD-listed 101 (numberAt s) k 0 h)) ∙ laid-next (numbersOf s) l m k (omega (arith, length-listed 101 (numberAt s))) is
+      ap (set m k) (e ∙ sym (getD-listed 104 (numberAt s) k 0 h)) ∙ laid-next (numbersOf s) l m k (omega (arith, length-listed 104 (numberAt s))) is
 
   pub write-full : length m ≤ k → m ≡ laid (numbersOf s) l
   write-full h = laid-full (numbersOf s) l m k h is
 
-  pub write-all : 101 ≤ k → m ≡ laid (numbersOf s) l
-  write-all h = laid-all (numbersOf s) l m k (omega (arith, length-listed 101 (numberAt s))) is
+  pub write-all : 104 ≤ k → m ≡ laid (numbersOf s) l
+  write-all h = laid-all (numbersOf s) l m k (omega (arith, length-listed 104 (numberAt s))) is

@@ -1,19 +1,22 @@
 // The resume state: whether it is sound for a unit, and the numbers that a host in C keeps it as.
+use rules_run::Caught;
+use rules_run::Handler;
 use rules_run::Loop;
 use rules_run::State;
+use rules_run::Trap;
 use rules_unit::Parts;
 ghost use mathlib.Core.Path.{_≡_};
 ghost use mathlib.Core.Bool.{true};
 ghost use mathlib.Core.List.{[], _∷_};
-ghost use Prim.Native.Nat.{_<_};
+ghost use Prim.Native.Nat.{_<_, _≤_};
 ghost use lib.Dec.{ltb, eqb};
 ghost use lib.IntN.{natAbs};
 ghost use lib.ListN.{length};
 ghost use Rattle.rules.specs.Values.{Top};
 ghost use Rattle.rules_unit.specs.Decode.{Fills, SoundDialect, codeOf};
-ghost use Rattle.rules_run.specs.States.{returnb, returnsb, loopb, emptyb, slotb, slotsb, soundb};
+ghost use Rattle.rules_run.specs.States.{returnb, returnsb, loopb, emptyb, slotb, slotsb, handlerb, caughtb, soundb};
 ghost use Rattle.rules_host.specs.Laid.{laid};
-ghost use Rattle.rules_host.specs.Numbers.{listed, word, valueb, valueOf, loopNumber, numberAt, numbersOf, signedb, goodb, goodFrom, noState, returnAt, loopAt, stateOf};
+ghost use Rattle.rules_host.specs.Numbers.{listed, word, valueb, valueOf, loopNumber, handlerNumber, errorNumber, errorPlace, handledNumber, numberAt, numbersOf, signedb, goodb, goodFrom, pairb, stateb, noState, returnAt, loopAt, handlerOf, caughtOf, stateOf};
 
 // ---- calls
 
@@ -133,6 +136,33 @@ fn slots_sound(unit: &[u8], parts: Parts, opened: u16, loops: [Loop; 16]) -> boo
     true
 }
 
+// ---- the handler and the last error
+
+// Whether a handler is one of n statements.
+fn handler_sound(n: u16, h: Handler) -> bool
+    ensures { λ r. ⌜ r ≡ handlerb n h ⌝ }
+{
+    match h {
+        Handler::None => true,
+        Handler::At(i) => i < n,
+    }
+}
+
+// Whether a last error is one that is trapped, of one of n statements.
+fn caught_sound(n: u16, e: Caught) -> bool
+    ensures { λ r. ⌜ r ≡ caughtb n e ⌝ }
+{
+    match e {
+        Caught::None => true,
+        Caught::Error { number, statement } => {
+            if !rules::trapped(number) {
+                return false;
+            }
+            statement < n
+        }
+    }
+}
+
 // ---- a sound state
 
 // Whether a resume state is sound for a unit.
@@ -155,7 +185,16 @@ pub fn sound(unit: &[u8], parts: Parts, s: State) -> bool
         return false;
     }
     let loops = s.loops;
-    slots_sound(unit, parts, s.opened, loops)
+    if !slots_sound(unit, parts, s.opened, loops) {
+        return false;
+    }
+    let trap = s.trap;
+    let handler = trap.handler;
+    if !handler_sound(parts.n, handler) {
+        return false;
+    }
+    let caught = trap.caught;
+    caught_sound(parts.n, caught)
 }
 
 // ---- from a state to its numbers
@@ -198,9 +237,61 @@ fn loop_number(l: Loop, r: usize) -> u64
     word(l.step)
 }
 
+// The handler and one more, 0 where there is none.
+fn handler_number(h: Handler) -> u64
+    ensures { λ r. ⌜ r ≡ handlerNumber h ⌝ }
+{
+    match h {
+        Handler::None => 0,
+        Handler::At(i) => i as u64 + 1,
+    }
+}
+
+// The number of the last error, 0 where there is none.
+fn error_number(e: Caught) -> u64
+    ensures { λ r. ⌜ r ≡ errorNumber e ⌝ }
+{
+    match e {
+        Caught::None => 0,
+        Caught::Error {
+            number,
+            statement: _,
+        } => number as u64,
+    }
+}
+
+// The statement of the last error, 0 where there is none.
+fn error_place(e: Caught) -> u64
+    ensures { λ r. ⌜ r ≡ errorPlace e ⌝ }
+{
+    match e {
+        Caught::None => 0,
+        Caught::Error {
+            number: _,
+            statement,
+        } => statement as u64,
+    }
+}
+
+// The number k of a state, behind those of the slots.
+fn handled_number(s: State, k: usize) -> u64
+    ensures { λ r. ⌜ r ≡ handledNumber s k ⌝ }
+{
+    let trap = s.trap;
+    if k == 101 {
+        let handler = trap.handler;
+        return handler_number(handler);
+    }
+    let caught = trap.caught;
+    if k == 102 {
+        return error_number(caught);
+    }
+    error_place(caught)
+}
+
 // The number k of a state.
 fn number_at(s: State, k: usize) -> u64
-    requires { ⌜ k < 101 ⌝ }
+    requires { ⌜ k < 104 ⌝ }
     ensures { λ r. ⌜ r ≡ numberAt s k ⌝ }
 {
     if k == 0 {
@@ -215,7 +306,10 @@ fn number_at(s: State, k: usize) -> u64
     if k == 52 {
         return s.opened as u64;
     }
-    loop_number(s.loops[(k - 53) / 3], (k - 53) % 3)
+    if k < 101 {
+        return loop_number(s.loops[(k - 53) / 3], (k - 53) % 3);
+    }
+    handled_number(s, k)
 }
 
 // Puts the numbers of a state in place of others, as many as fit.
@@ -223,7 +317,7 @@ pub fn write_state(numbers: &mut [u64], s: State)
     ensures { λ _. ⌜ now (numbers .exit) ≡ laid (numbersOf s) (now (numbers .entry)) ⌝ }
 {
     let mut k: usize = 0;
-    while k < 101 {
+    while k < 104 {
         if numbers.len() <= k {
             return;
         }
@@ -262,6 +356,9 @@ fn is_signed(k: usize) -> bool
     if k < 53 {
         return false;
     }
+    if 101 <= k {
+        return false;
+    }
     0 < (k - 53) % 3
 }
 
@@ -271,6 +368,9 @@ fn number_good(k: usize, x: u64) -> bool
 {
     if is_signed(k) {
         return value_good(x);
+    }
+    if k == 102 {
+        return x <= 255;
     }
     x <= 65535
 }
@@ -289,9 +389,32 @@ fn all_good(numbers: &[u64]) -> bool
     true
 }
 
+// Whether two numbers stand for a last error, or for none.
+fn pair_good(number: u64, statement: u64) -> bool
+    ensures { λ r. ⌜ r ≡ pairb number statement ⌝ }
+{
+    if number == 0 {
+        return statement == 0;
+    }
+    true
+}
+
+// Whether numbers are those of a state.
+fn is_state(numbers: &[u64]) -> bool
+    ensures { λ r. ⌜ r ≡ stateb (now (numbers .entry)) ⌝ }
+{
+    if numbers.len() != 104 {
+        return false;
+    }
+    if !all_good(numbers) {
+        return false;
+    }
+    pair_good(numbers[102], numbers[103])
+}
+
 // The return numbers.
 fn returns_of(numbers: &[u64]) -> [u16; 50]
-    requires { ⌜ length (now numbers) ≡ 101 ⌝ }
+    requires { ⌜ length (now numbers) ≡ 104 ⌝ }
     requires { ⌜ goodFrom 0 (now numbers) ≡ true ⌝ }
     ensures { λ r. ⌜ r ≡ listed 50 (returnAt (now (numbers .entry))) ⌝ }
 {
@@ -306,7 +429,7 @@ fn returns_of(numbers: &[u64]) -> [u16; 50]
 
 // The slot k.
 fn loop_at(numbers: &[u64], k: usize) -> Loop
-    requires { ⌜ length (now numbers) ≡ 101 ⌝ }
+    requires { ⌜ length (now numbers) ≡ 104 ⌝ }
     requires { ⌜ goodFrom 0 (now numbers) ≡ true ⌝ }
     requires { ⌜ k < 16 ⌝ }
     ensures { λ r. ⌜ r ≡ loopAt (now (numbers .entry)) k ⌝ }
@@ -323,7 +446,7 @@ fn loop_at(numbers: &[u64], k: usize) -> Loop
 
 // The slots.
 fn loops_of(numbers: &[u64]) -> [Loop; 16]
-    requires { ⌜ length (now numbers) ≡ 101 ⌝ }
+    requires { ⌜ length (now numbers) ≡ 104 ⌝ }
     requires { ⌜ goodFrom 0 (now numbers) ≡ true ⌝ }
     ensures { λ r. ⌜ r ≡ listed 16 (loopAt (now (numbers .entry))) ⌝ }
 {
@@ -337,6 +460,32 @@ fn loops_of(numbers: &[u64]) -> [Loop; 16]
     loops
 }
 
+// The handler.
+fn handler_of(x: u64) -> Handler
+    requires { ⌜ x ≤ 65535 ⌝ }
+    ensures { λ r. ⌜ r ≡ handlerOf x ⌝ }
+{
+    if x == 0 {
+        return Handler::None;
+    }
+    Handler::At((x - 1) as u16)
+}
+
+// The last error.
+fn caught_of(number: u64, statement: u64) -> Caught
+    requires { ⌜ number ≤ 255 ⌝ }
+    requires { ⌜ statement ≤ 65535 ⌝ }
+    ensures { λ r. ⌜ r ≡ caughtOf number statement ⌝ }
+{
+    if number == 0 {
+        return Caught::None;
+    }
+    Caught::Error {
+        number: number as u8,
+        statement: statement as u16,
+    }
+}
+
 // A state that is sound for no unit, since no unit has so many statements.
 fn no_state() -> State
     ensures { λ r. ⌜ r ≡ noState ⌝ }
@@ -348,30 +497,45 @@ fn no_state() -> State
         returns: [0u16; 50],
         opened: 0,
         loops: [none; 16],
+        trap: Trap {
+            handler: Handler::None,
+            caught: Caught::None,
+        },
     }
 }
 
-// The state that 101 numbers stand for: the statement, the open calls, the 50 return numbers, the open loops and the 16 slots. Another count
-// than 101, or a number that stands for nothing at its place, stands for no state.
-pub fn read_state(numbers: &[u64]) -> State
+// The state that the numbers of one stand for.
+fn state_of(numbers: &[u64]) -> State
+    requires { ⌜ stateb (now numbers) ≡ true ⌝ }
     ensures { λ r. ⌜ r ≡ stateOf (now (numbers .entry)) ⌝ }
 {
-    if numbers.len() != 101 {
-        return no_state();
-    }
-    if !all_good(numbers) {
-        return no_state();
-    }
     let at = numbers[0] as u16;
     let depth = numbers[1] as u16;
     let opened = numbers[52] as u16;
     let returns = returns_of(numbers);
     let loops = loops_of(numbers);
+    let handler = handler_of(numbers[101]);
+    let caught = caught_of(numbers[102], numbers[103]);
     State {
         at: at,
         depth: depth,
         returns: returns,
         opened: opened,
         loops: loops,
+        trap: Trap {
+            handler: handler,
+            caught: caught,
+        },
     }
+}
+
+// The state that 104 numbers stand for: the statement, the open calls, the 50 return numbers, the open loops, the 16 slots, the handler and the last error.
+// Another count than 104, or a number that stands for nothing at its place, stands for no state.
+pub fn read_state(numbers: &[u64]) -> State
+    ensures { λ r. ⌜ r ≡ stateOf (now (numbers .entry)) ⌝ }
+{
+    if is_state(numbers) {
+        return state_of(numbers);
+    }
+    no_state()
 }

@@ -267,6 +267,8 @@ pub fn work(unit: &[u8], parts: Parts, bytes: &[u8], at: u16, look: Look) -> Tur
         Verb::LoopEnd => run_passes::loop_turn(unit, parts, bytes, look, verb, s),
         Verb::ExitLoop => run_passes::loop_turn(unit, parts, bytes, look, verb, s),
         Verb::NextLoop => run_passes::loop_turn(unit, parts, bytes, look, verb, s),
+        Verb::OnError => rules_run::goes(Flow::Arm(s.c)),
+        Verb::OffError => rules_run::goes(Flow::Disarm),
         Verb::Bad => rules_run::failed(Fault::Malformed),
     }
 }

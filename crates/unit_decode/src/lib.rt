@@ -489,6 +489,8 @@ pub fn verb_of(code: u8) -> Verb
         15 => Verb::LoopEnd,
         16 => Verb::ExitLoop,
         17 => Verb::NextLoop,
+        18 => Verb::OnError,
+        19 => Verb::OffError,
         _ => Verb::Bad,
     }
 }
@@ -545,6 +547,8 @@ pub fn row_of(verb: Verb) -> Row
         Verb::LoopEnd => row_with(Role::Unused, Role::Unused, Role::Unused),
         Verb::ExitLoop => row_with(Role::Unused, Role::Unused, Role::Unused),
         Verb::NextLoop => row_with(Role::Unused, Role::Unused, Role::Unused),
+        Verb::OnError => row_with(Role::Unused, Role::Unused, Role::Target),
+        Verb::OffError => row_with(Role::Unused, Role::Unused, Role::Unused),
         Verb::Bad => row_with(Role::Never, Role::Never, Role::Never),
     }
 }

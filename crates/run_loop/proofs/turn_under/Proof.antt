@@ -42,6 +42,12 @@ enum-told-7 c = search needs
 enum-told-8 : tie.Need-enum-told-8
 enum-told-8 c = search needs
 
+enum-told-9 : tie.Need-enum-told-9
+enum-told-9 c = search needs
+
+enum-told-10 : tie.Need-enum-told-10
+enum-told-10 c = search needs
+
 returns-3 : tie.Need-returns-3
 returns-3 c = search (under-as, walk) depth 5
 
@@ -66,6 +72,12 @@ returns-9 c = search (under-as, walk) depth 5
 returns-10 : tie.Need-returns-10
 returns-10 c = search (under-as, walk) depth 5
 
+returns-11 : tie.Need-returns-11
+returns-11 c = search (under-as, walk) depth 5
+
+returns-12 : tie.Need-returns-12
+returns-12 c = search (under-as, walk) depth 5
+
 pub turn-under-spec : {M : Type 1} → statement M
 turn-under-spec =
     tie.close
@@ -82,6 +94,8 @@ turn-under-spec =
     enum-told-6
     enum-told-7
     enum-told-8
+    enum-told-9
+    enum-told-10
     returns-3
     returns-4
     returns-5
@@ -89,4 +103,6 @@ turn-under-spec =
     returns-7
     returns-8
     returns-9
-    returns-10)
+    returns-10
+    returns-11
+    returns-12)

@@ -78,6 +78,18 @@ enum-told-12 c = search needs
 failed-requires-8 : tie.Need-failed-requires-8
 failed-requires-8 c κs = search needs
 
+enum-told-13 : tie.Need-enum-told-13
+enum-told-13 c = search needs
+
+failed-requires-9 : tie.Need-failed-requires-9
+failed-requires-9 c κs = search needs
+
+enum-told-14 : tie.Need-enum-told-14
+enum-told-14 c = search needs
+
+failed-requires-10 : tie.Need-failed-requires-10
+failed-requires-10 c κs = search needs
+
 returns : tie.Need-returns
 unfolding loopTurn
 returns c = search loop-as depth 3
@@ -126,6 +138,14 @@ returns-12 : tie.Need-returns-12
 unfolding loopTurn
 returns-12 c = search loop-as depth 3
 
+returns-13 : tie.Need-returns-13
+unfolding loopTurn
+returns-13 c = search loop-as depth 3
+
+returns-14 : tie.Need-returns-14
+unfolding loopTurn
+returns-14 c = search loop-as depth 3
+
 pub loop-turn-spec : {M : Type 1} → statement M
 loop-turn-spec =
     tie.close
@@ -154,6 +174,10 @@ loop-turn-spec =
     repeat-requires-2
     enum-told-12
     failed-requires-8
+    enum-told-13
+    failed-requires-9
+    enum-told-14
+    failed-requires-10
     returns
     returns-2
     returns-3
@@ -165,4 +189,6 @@ loop-turn-spec =
     returns-9
     returns-10
     returns-11
-    returns-12)
+    returns-12
+    returns-13
+    returns-14)

@@ -12,7 +12,7 @@ use Rattle.run_state.proofs.loops_of.Statement.{statement}
 use Rattle.run_state.proofs.loops_of.Tie as tie
 
 abbrev Inv-loop : tie.InvT-loop
-Inv-loop numbers loops₀ k₀ loops k = (k ≤ 16) × (length numbers ≡ 101) × (goodFrom 0 numbers ≡ true) × (length loops ≡ 16) × (take k loops ≡ take k (listed 16 (loopAt numbers)))
+Inv-loop numbers loops₀ k₀ loops k = (k ≤ 16) × (length numbers ≡ 104) × (goodFrom 0 numbers ≡ true) × (length loops ≡ 16) × (take k loops ≡ take k (listed 16 (loopAt numbers)))
 
 abbrev μ-loop : tie.MeasureT-loop
 μ-loop numbers loops₀ k₀ loops k = 16 - k

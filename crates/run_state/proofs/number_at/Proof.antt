@@ -1,7 +1,7 @@
 -- `run_state::number_at` meets its contract: the tests are the rule's own.
 -- Assumes nothing.
 use borrow.Author.Needs.{needs}
-use Rattle.run_state.proofs.Words.{number-at, number-depth, number-return, number-opened, number-loop}
+use Rattle.run_state.proofs.Words.{number-at, number-depth, number-return, number-opened, number-loop, number-handled}
 use Rattle.run_state.proofs.number_at.Statement.{statement}
 use Rattle.run_state.proofs.number_at.Tie as tie
 
@@ -56,6 +56,12 @@ loop-number-requires c κs = search needs
 returns-5 : tie.Need-returns-5
 returns-5 c = search (number-loop, needs) depth 3
 
+handled-number-requires : tie.Need-handled-number-requires
+handled-number-requires c κs = search needs
+
+returns-6 : tie.Need-returns-6
+returns-6 c = search number-handled depth 3
+
 pub number-at-spec : {M : Type 1} → statement M
 number-at-spec =
     tie.close
@@ -76,4 +82,6 @@ number-at-spec =
     element-copy-out-loop-number
     sub-loop-number-2
     loop-number-requires
-    returns-5)
+    returns-5
+    handled-number-requires
+    returns-6)

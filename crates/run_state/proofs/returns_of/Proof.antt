@@ -13,7 +13,7 @@ use Rattle.run_state.proofs.returns_of.Statement.{statement}
 use Rattle.run_state.proofs.returns_of.Tie as tie
 
 abbrev Inv-loop : tie.InvT-loop
-Inv-loop numbers returns₀ i₀ returns i = (i ≤ 50) × (length numbers ≡ 101) × (goodFrom 0 numbers ≡ true) × (length returns ≡ 50) × (take i returns ≡ take i (listed 50 (returnAt numbers)))
+Inv-loop numbers returns₀ i₀ returns i = (i ≤ 50) × (length numbers ≡ 104) × (goodFrom 0 numbers ≡ true) × (length returns ≡ 50) × (take i returns ≡ take i (listed 50 (returnAt numbers)))
 
 abbrev μ-loop : tie.MeasureT-loop
 μ-loop numbers returns₀ i₀ returns i = 50 - i

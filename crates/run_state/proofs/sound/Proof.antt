@@ -1,5 +1,5 @@
--- `run_state::sound` meets its contract: the statement number, the open calls, the return numbers, the open loops and the slots are tested in the order of
--- `soundb`.
+-- `run_state::sound` meets its contract: the statement number, the open calls, the return numbers, the open loops, the slots, the handler and the last error
+-- are tested in the order of `soundb`.
 -- Assumes nothing.
 use borrow.Author.Needs.{needs}
 use Rattle.run_state.proofs.Returns.{sound-laws}
@@ -27,6 +27,18 @@ slots-sound-requires c κs = search needs
 returns-5 : tie.Need-returns-5
 returns-5 c = search sound-laws depth 3
 
+handler-sound-requires : tie.Need-handler-sound-requires
+handler-sound-requires c κs = search needs
+
+returns-6 : tie.Need-returns-6
+returns-6 c = search sound-laws depth 3
+
+caught-sound-requires : tie.Need-caught-sound-requires
+caught-sound-requires c κs = search needs
+
+returns-7 : tie.Need-returns-7
+returns-7 c = search sound-laws depth 3
+
 pub sound-spec : {M : Type 1} → statement M
 sound-spec =
     tie.close
@@ -37,4 +49,8 @@ sound-spec =
     returns-3
     returns-4
     slots-sound-requires
-    returns-5)
+    returns-5
+    handler-sound-requires
+    returns-6
+    caught-sound-requires
+    returns-7)

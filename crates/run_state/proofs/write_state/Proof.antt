@@ -13,10 +13,10 @@ use Rattle.run_state.proofs.write_state.Statement.{statement}
 use Rattle.run_state.proofs.write_state.Tie as tie
 
 abbrev Inv-loop : tie.InvT-loop
-Inv-loop numbers₀ s k₀ numbers k = (k ≤ 101) × (length numbers ≡ length numbers₀) × (numbers ≡ laid (take k (numbersOf s)) numbers₀)
+Inv-loop numbers₀ s k₀ numbers k = (k ≤ 104) × (length numbers ≡ length numbers₀) × (numbers ≡ laid (take k (numbersOf s)) numbers₀)
 
 abbrev μ-loop : tie.MeasureT-loop
-μ-loop numbers₀ s k₀ numbers k = 101 - k
+μ-loop numbers₀ s k₀ numbers k = 104 - k
 
 loop-holds : tie.Need-loop-holds Inv-loop μ-loop
 loop-holds c = (search needs, search needs, search laid-none)

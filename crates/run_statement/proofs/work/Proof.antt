@@ -82,6 +82,18 @@ loop-turn-requires-4 c κs = (search needs, (search needs, (search needs, (searc
 enum-told-11 : tie.Need-enum-told-11
 enum-told-11 c = search needs
 
+goes-requires-5 : tie.Need-goes-requires-5
+goes-requires-5 c κs = search needs
+
+enum-told-12 : tie.Need-enum-told-12
+enum-told-12 c = search needs
+
+goes-requires-6 : tie.Need-goes-requires-6
+goes-requires-6 c κs = search needs
+
+enum-told-13 : tie.Need-enum-told-13
+enum-told-13 c = search needs
+
 failed-requires : tie.Need-failed-requires
 failed-requires c κs = search needs
 
@@ -133,6 +145,14 @@ returns-12 : tie.Need-returns-12
 unfolding turnBy
 returns-12 c = search turn-as depth 3
 
+returns-13 : tie.Need-returns-13
+unfolding turnBy
+returns-13 c = search turn-as depth 3
+
+returns-14 : tie.Need-returns-14
+unfolding turnBy
+returns-14 c = search turn-as depth 3
+
 pub work-spec : {M : Type 1} → statement M
 work-spec =
     tie.close
@@ -162,6 +182,10 @@ work-spec =
     enum-told-10
     loop-turn-requires-4
     enum-told-11
+    goes-requires-5
+    enum-told-12
+    goes-requires-6
+    enum-told-13
     failed-requires
     returns
     returns-2
@@ -174,4 +198,6 @@ work-spec =
     returns-9
     returns-10
     returns-11
-    returns-12)
+    returns-12
+    returns-13
+    returns-14)

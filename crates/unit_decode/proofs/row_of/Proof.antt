@@ -77,6 +77,18 @@ enum-told-11 c = search needs
 row-with-requires-11 : tie.Need-row-with-requires-11
 row-with-requires-11 c κs = search needs
 
+enum-told-12 : tie.Need-enum-told-12
+enum-told-12 c = search needs
+
+row-with-requires-12 : tie.Need-row-with-requires-12
+row-with-requires-12 c κs = search needs
+
+enum-told-13 : tie.Need-enum-told-13
+enum-told-13 c = search needs
+
+row-with-requires-13 : tie.Need-row-with-requires-13
+row-with-requires-13 c κs = search needs
+
 returns : tie.Need-returns
 returns c = search row-as depth 3
 
@@ -113,6 +125,12 @@ returns-11 c = search row-as depth 3
 returns-12 : tie.Need-returns-12
 returns-12 c = search row-as depth 3
 
+returns-13 : tie.Need-returns-13
+returns-13 c = search row-as depth 3
+
+returns-14 : tie.Need-returns-14
+returns-14 c = search row-as depth 3
+
 pub row-of-spec : {M : Type 1} → statement M
 row-of-spec =
     tie.close
@@ -141,6 +159,10 @@ row-of-spec =
     row-with-requires-10
     enum-told-11
     row-with-requires-11
+    enum-told-12
+    row-with-requires-12
+    enum-told-13
+    row-with-requires-13
     returns
     returns-2
     returns-3
@@ -152,4 +174,6 @@ row-of-spec =
     returns-9
     returns-10
     returns-11
-    returns-12)
+    returns-12
+    returns-13
+    returns-14)

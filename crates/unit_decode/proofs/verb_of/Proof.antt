@@ -75,7 +75,15 @@ returns-17 c = rw (c .match .keys17)
 
 returns-18 : tie.Need-returns-18
 unfolding verbOf
-returns-18 c = search walk-match depth 36
+returns-18 c = rw (c .match .keys18)
+
+returns-19 : tie.Need-returns-19
+unfolding verbOf
+returns-19 c = rw (c .match .keys19)
+
+returns-20 : tie.Need-returns-20
+unfolding verbOf
+returns-20 c = search walk-match depth 40
 
 pub verb-of-spec : {M : Type 1} → statement M
 verb-of-spec =
@@ -98,4 +106,6 @@ verb-of-spec =
     returns-15
     returns-16
     returns-17
-    returns-18)
+    returns-18
+    returns-19
+    returns-20)
