@@ -6,13 +6,15 @@
 --   references    bounds, by the fields of the bench values
 --   items         how an item is read from its bytes, and what is cut off at their end
 --   literals      the alpha literal of a statement
---   states, open-loops    which resume states are sound
+--   states, open-loops, handlers    which resume states are sound
+--   numbers       which numbers are a resume state's
 --   lengths       the ranges of a unit's parts, and that the longest unit has 57,353 bytes
 -- Assumes nothing.
 use mathlib.Core.Path.{_≡_, refl}
 use mathlib.Core.Bool.{true, false}
 use mathlib.Core.List.{List, [], _∷_, _++_}
 use lib.IntN.{pos}
+use Prim.Native.Nat.{ℕ}
 use lib.ListN.{replicate}
 use Rattle.rules.specs.declared.Num.the-variants.{Value}
 use Rattle.rules.specs.Values.{readFrom, paddedRead, readOf}
@@ -26,12 +28,15 @@ use Rattle.rules_unit.specs.Table.{verbOf}
 use Rattle.rules_unit.specs.Expressions.{digitsb, numberb, textb, sortFrom, sortAt, usesb}
 use Rattle.rules_unit.specs.Checks.{filledb, rangesb, choiceb, entryb, goodFields, rowb, shapeb, foundOf, statementsFrom, partsCheck, checkOf}
 use Rattle.rules_unit.specs.Literals.{stretchOf, literalOf}
+use Rattle.rules_run.specs.declared.Caught.the-variants as caught
+use Rattle.rules_run.specs.declared.Handler.the-variants as handler
 use Rattle.rules_run.specs.Spans.{within, subscriptSpan, startEndSpan, posLengthSpan, spanOf}
 use Rattle.rules_run.specs.Evaluation.{digitsFrom, literalNumber, reference, stepBy, placeBy, place, lastOf, workedFrom, workedOf, calc}
-use Rattle.rules_run.specs.States.{noLoop, returnsb, loopb, emptyb, slotsb, soundb}
+use Rattle.rules_run.specs.States.{noLoop, returnsb, loopb, emptyb, slotsb, soundb, started}
 use Rattle.rules_run.specs.Turns as turns
+use Rattle.rules_host.specs.Numbers.{listed, goodb, goodFrom, stateb, stateOf}
 use Rattle.promises.specs.Rows.{number, text, stop, Row, _is_, AllHold, limit, top, sign, bytes, minus, answer, into, AM, NZ, NUM, expression, element, range, forth, back}
-use Rattle.promises.specs.Samples.{named, cleared, read, of-one, of-two, of-forty, nine, sound, opens, slot, parts}
+use Rattle.promises.specs.Samples.{named, cleared, read, of-one, of-two, of-forty, nine, sound, opens, told, tells, slot, parts}
 
 -- ---- values, moves and arithmetic
 
@@ -254,7 +259,7 @@ pub record States : Type 0 where
   pub one-more : sound 3 51 9 0 ≡ false
   pub returns-past : sound 3 2 10 48 ≡ false
   pub returns-zero : sound 3 2 0 48 ≡ true
-  pub unused-not-zero : soundb nine (record { at = 3; depth = 1; returns = 4 ∷ 5 ∷ replicate 48 0; opened = 0; loops = replicate 16 noLoop }) ≡ false
+  pub unused-not-zero : soundb nine (record { at = 3; depth = 1; returns = 4 ∷ 5 ∷ replicate 48 0; opened = 0; loops = replicate 16 noLoop; trap = started .trap }) ≡ false
 
 pub states : States
 unfolding returnsb loopb emptyb slotsb soundb
@@ -304,6 +309,88 @@ open-loops =
       unused-entry = refl;
       unused-limit = refl;
       unused-step = refl;
+    }
+
+-- "7 for a handler or error statement not below N, or an error not of the five; having none is sound"
+pub record Handlers : Type 0 where
+  pub none-of-either : tells handler.None caught.None ≡ true
+  pub first-statement : tells (handler.At 0) caught.None ≡ true
+  pub last-statement : tells (handler.At 8) caught.None ≡ true
+  pub past-the-last : tells (handler.At 9) caught.None ≡ false
+  pub of-the-five :
+      (tells handler.None (caught.Error 20 0) ≡ true)
+      × (tells handler.None (caught.Error 21 0) ≡ true)
+      × (tells handler.None (caught.Error 22 0) ≡ true)
+      × (tells handler.None (caught.Error 23 0) ≡ true)
+      × (tells handler.None (caught.Error 26 0) ≡ true)
+  -- "Errors 24, 25, 27, 28 and 29 are not trapped."
+  pub not-of-the-five :
+      (tells handler.None (caught.Error 24 0) ≡ false)
+      × (tells handler.None (caught.Error 25 0) ≡ false)
+      × (tells handler.None (caught.Error 27 0) ≡ false)
+      × (tells handler.None (caught.Error 28 0) ≡ false)
+      × (tells handler.None (caught.Error 29 0) ≡ false)
+  pub no-error :
+      (tells handler.None (caught.Error 0 0) ≡ false)
+      × (tells handler.None (caught.Error 4 0) ≡ false)
+      × (tells handler.None (caught.Error 19 0) ≡ false)
+      × (tells handler.None (caught.Error 30 0) ≡ false)
+  pub last-place : tells handler.None (caught.Error 22 8) ≡ true
+  pub place-past : tells handler.None (caught.Error 22 9) ≡ false
+  pub both : tells (handler.At 8) (caught.Error 26 8) ≡ true
+  pub wrong-beside-right : (tells (handler.At 9) (caught.Error 26 8) ≡ false) × (tells (handler.At 8) (caught.Error 26 9) ≡ false)
+
+pub handlers : Handlers
+unfolding returnsb loopb emptyb slotsb soundb
+handlers =
+    record {
+      none-of-either = refl;
+      first-statement = refl;
+      last-statement = refl;
+      past-the-last = refl;
+      of-the-five = (refl, refl, refl, refl, refl);
+      not-of-the-five = (refl, refl, refl, refl, refl);
+      no-error = (refl, refl, refl, refl);
+      last-place = refl;
+      place-past = refl;
+      both = refl;
+      wrong-beside-right = (refl, refl);
+    }
+
+-- ---- numbers
+
+-- 104 numbers: at 101 the handler and one more, at 102 the last error and at 103 its statement, and zeros elsewhere.
+abbrev last-three : ℕ → ℕ → ℕ → List ℕ
+last-three h n i = replicate 101 0 ++ (h ∷ n ∷ i ∷ [])
+
+pub record Numbers : Type 0 where
+  pub none : stateOf (last-three 0 0 0) ≡ started
+  pub one-short : stateb (replicate 103 0) ≡ false
+  pub one-more : stateb (replicate 105 0) ≡ false
+  pub a-handler : stateOf (last-three 6 0 0) ≡ told (handler.At 5) caught.None
+  pub first-statement : stateOf (last-three 1 0 0) ≡ told (handler.At 0) caught.None
+  pub an-error : stateOf (last-three 0 22 7) ≡ told handler.None (caught.Error 22 7)
+  pub both : stateOf (last-three 6 22 7) ≡ told (handler.At 5) (caught.Error 22 7)
+  -- a number stands for something, also where no unit has such a statement or error
+  pub greatest : (stateb (last-three 65535 0 0) ≡ true) × (stateb (last-three 0 255 65535) ≡ true)
+  pub too-great : (stateb (last-three 65536 0 0) ≡ false) × (stateb (last-three 0 256 0) ≡ false) × (stateb (last-three 0 22 65536) ≡ false)
+  -- a statement of an error, and no error
+  pub no-number : stateb (last-three 0 0 1) ≡ false
+
+pub numbers : Numbers
+unfolding listed goodb goodFrom stateb stateOf
+numbers =
+    record {
+      none = refl;
+      one-short = refl;
+      one-more = refl;
+      a-handler = refl;
+      first-statement = refl;
+      an-error = refl;
+      both = refl;
+      greatest = (refl, refl);
+      too-great = (refl, refl, refl);
+      no-number = refl;
     }
 
 -- ---- lengths

@@ -5,6 +5,9 @@
 -- destinations written in the unit has changed, every decimal element is valid, no subscript error was given, and a bad digit can come only from
 -- moving alpha text to a decimal place."
 --
+-- Request 6 of document 02, "ONERROR and OFFERROR": "demand 3 says "given" also of a trapped error". `Gives` says that a statement within the allowance gives an error,
+-- trapped or not, in the state at and over the data seen.
+--
 -- `fenceOf u` is what the fence check answers for the unit u. A call of `dibol::run` on the unit u, the data d, the state s and the allowance m answers and
 -- leaves `runOf u d s m`: that is its contract. `partsOf u` are the lengths that the unit's trailer names, `decoded u` is the unit, decoded by them.
 --
@@ -13,16 +16,21 @@
 --   breach-exactly                              a breach is named exactly when that rule is the one that the statement breaks first
 --   destination-exactly                         a byte lies in a destination exactly when the place a of a statement of code 1 to 6, 13 or 14 names it
 --   cannot-slip                                 what holds of every run of a unit with a yes, and its five parts in the letter's words
+--   errors-safe                                 what holds of every error that is given in such a run, and its two parts in the letter's words, never-21 and
+--                                               bad-digit-only-text
+--   last-error-never-21                         so that 21 never becomes the last error
 --   says-exactly, names-exactly, keeps-exactly, run-cannot-slip   the same of the contracts themselves: of whatever `dibol::fence`, `dibol::breach` and `dibol::run` are
 --                                               permitted to answer and leave
 -- Assumes nothing.
 use Prim.Native.Nat.{ℕ, _<_}
-use mathlib.Core.Path.{_≡_}
-use mathlib.Core.Logic.{_↔_}
+use mathlib.Core.Path.{_≡_, sym, _∙_}
+use mathlib.Core.Logic.{_↔_, _⊎_, inl, inr}
 use mathlib.Core.List.{List}
 use lib.ListN.{length, getD}
 use denote.Ref.{now}
 use contract.Lifetimes
+use Rattle.rules.specs.declared.Fault.{Fault}
+use Rattle.rules.specs.Stops.{faultNumber}
 use Rattle.rules_unit.specs.declared.Refusal.{Refusal}
 use Rattle.rules_unit.specs.declared.Checked.the-variants as checked
 use Rattle.rules_unit.specs.Codes.{Code}
@@ -30,11 +38,13 @@ use Rattle.rules_unit.specs.Decode.{partsOf, decoded}
 use Rattle.rules_unit.specs.Answers.{Says}
 use Rattle.rules_unit.specs.Sound.{SoundUnit}
 use Rattle.rules_unit.proofs.Sound.{sound-passed}
+use Rattle.rules_run.specs.declared.Caught.the-variants as caught
 use Rattle.rules_run.specs.declared.State.{State}
 use Rattle.rules_run.specs.declared.Outcome.{Outcome}
 use Rattle.rules_run.specs.States.{Sound}
 use Rattle.rules_run.specs.Stops.{stopNumber}
 use Rattle.rules_run.specs.Runs.{runOf}
+use Rattle.rules_run.specs.Answers.{Gives}
 use Rattle.rules_fence.specs.declared.Breach.{Breach}
 use Rattle.rules_fence.specs.declared.Breach.the-variants as breach
 use Rattle.rules_fence.specs.declared.Verdict.{Verdict}
@@ -44,14 +54,15 @@ use Rattle.rules_fence.specs.Breaches.{fenceOf, breachIn}
 use Rattle.rules_fence.specs.Reasons.{StatementBreaks}
 use Rattle.rules_fence.specs.Answers.{FenceSays}
 use Rattle.rules_fence.specs.Destinations.{Destination, InPlaceA, AllValid, BadText}
-use Rattle.rules_fence.specs.Safety.{Safe}
+use Rattle.rules_fence.specs.Safety.{Safe, ErrorsSafe}
 use Rattle.rules_fence.proofs.Verdicts.{fence-exactly, breach-in, reason-exactly, breach-named}
 use Rattle.rules_fence.proofs.Verdicts as verdicts
 use Rattle.rules_fence.proofs.Aims as aims
-use Rattle.rules_fence.proofs.Demand.{call-safe}
+use Rattle.rules_fence.proofs.Demand.{call-safe, call-errors}
 use Rattle.dibol.proofs.breach.Reads as said
 use Rattle.dibol.proofs.fence.Reads as fence
 use Rattle.dibol.proofs.run.Reads as run
+use Rattle.promises.specs.Demand2.{last-error-given}
 
 -- ---- the fence check
 
@@ -114,6 +125,19 @@ module _ (u : List ℕ) (yes : fenceOf u ≡ Yes) (d : List ℕ) (size : length 
       → (runOf u d s m .outcome .place < partsOf u .n) × BadText (decoded u) (runOf u d s m .bytes) (decoded u .statement (runOf u d s m .outcome .place))
   bad-digit-only = cannot-slip .only-22
 
+  -- "demand 3 says "given" also of a trapped error": wherever in the run one is given
+  pub errors-safe : ErrorsSafe (decoded u) m s d
+  errors-safe = call-errors u yes d size valid s sound m
+
+  -- "no subscript error was given"
+  pub never-21 : (f : Fault) → faultNumber f ≡ 21 → Gives (decoded u) m s d f → ⊥
+  never-21 = errors-safe .never-21
+
+  -- "a bad digit can come only from moving alpha text to a decimal place": the statement that gives it is such a SET, and over the data that it sees it is that text
+  -- which is no number
+  pub bad-digit-only-text : (f : Fault) → faultNumber f ≡ 22 → (g : Gives (decoded u) m s d f) → BadText (decoded u) (g .seen) (decoded u .statement (g .at .at))
+  bad-digit-only-text = errors-safe .always-text
+
 -- ---- the functions themselves
 
 -- `Post` is what a function's `ensures` says of its arguments a, its result r and what it leaves, s. The argument of `fence` is the unit; those of `breach` are
@@ -142,3 +166,24 @@ pub run-cannot-slip : (κs : Lifetimes.Lfts 2) (a : _) (r : Outcome) (s : _) →
     → Sound (decoded (now (a .0))) (a .1 .1 .0)
     → Safe (decoded (now (a .0))) (now (a .1 .0)) (record { outcome = r; bytes = now (s .1 .0) })
 run-cannot-slip κs a r s p fenced size valid sound = rw p (cannot-slip (now (a .0)) fenced (now (a .1 .0)) size valid (a .1 .1 .0) sound (a .1 .1 .1 .0))
+
+-- A last error of 21 is one that the state given had.
+pub last-error-never-21 : (κs : Lifetimes.Lfts 2) (a : _) (r : Outcome) (s : _) → run.Post κs a r s
+    → fenceOf (now (a .0)) ≡ Yes
+    → length (now (a .1 .0)) ≡ partsOf (now (a .0)) .d
+    → AllValid (decoded (now (a .0))) (now (a .1 .0))
+    → Sound (decoded (now (a .0))) (a .1 .1 .0)
+    → (i : ℕ)
+    → r .state .trap .caught ≡ caught.Error 21 i
+    → a .1 .1 .0 .trap .caught ≡ caught.Error 21 i
+last-error-never-21 κs a r s p fenced size valid sound i e = by (last-error-given κs a r s p)
+  where
+    same-number : (n j : ℕ) → caught.Error n j ≡ caught.Error 21 i → n ≡ 21
+    same-number n j q = cc
+
+    by : (r .state .trap .caught ≡ a .1 .1 .0 .trap .caught)
+        ⊎ ((f : Fault) × (g : Gives (decoded (now (a .0))) (a .1 .1 .1 .0) (a .1 .1 .0) (now (a .1 .0)) f) × (r .state .trap .caught ≡ caught.Error (faultNumber f) (g .at .at)))
+        → a .1 .1 .0 .trap .caught ≡ caught.Error 21 i
+    by (inl q) = sym q ∙ e
+    by (inr (f, g, q)) =
+        absurd (never-21 (now (a .0)) fenced (now (a .1 .0)) size valid (a .1 .1 .0) sound (a .1 .1 .1 .0) f (same-number (faultNumber f) (g .at .at) (sym q ∙ e)) g)

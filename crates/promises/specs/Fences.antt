@@ -22,7 +22,7 @@ use Rattle.rules_unit.specs.Decode.{decoded}
 use Rattle.rules_fence.specs.Destinations.{PlaceNames, Covers, Destination}
 use Rattle.rules_fence.proofs.PlaceSpans.{spanFrom, placeSpan, names-span}
 use Rattle.rules_fence.proofs.Aims.{destination-exactly, aim-destination}
-use Rattle.promises.specs.Samples.{smear, chosen, named, cleared, read, copied, backward, figure, I, P, numbers, forAt}
+use Rattle.promises.specs.Samples.{smear, chosen, named, cleared, read, copied, backward, figure, I, P, numbers, coded, plain, forAt, on-error, erring}
 
 -- Of FOR I, where I is D2: I(1,1); I(P), whose bound is no literal; I(0,1), whose bounds give 21.
 abbrev part : List ℕ
@@ -64,6 +64,10 @@ pub record Fences : Type 0 where
   pub start-next : breachNumber (breachIn (forAt (numbers wrong-bounds chosen-bound (figure 2)) I) 0) ≡ 2
   pub limit-next : breachNumber (breachIn (forAt (numbers (figure 1) wrong-bounds chosen-bound) I) 0) ≡ 2
   pub step-last : breachNumber (breachIn (forAt (numbers (figure 1) chosen-bound wrong-bounds) I) 0) ≡ 1
+  -- ONERROR and OFFERROR have no reference, and a handler makes no breach right.
+  pub handlers-fenced : fenceOf (erring "000" I (on-error 1 ∷ plain 19 ∷ [])) ≡ Yes
+  pub breach-handled : fenceOf (erring "000" part (on-error 0 ∷ coded 3 4 0 0 ∷ plain 19 ∷ [])) ≡ No 1
+  pub breach-handled-rule : breachNumber (breachIn (erring "000" part (on-error 0 ∷ coded 3 4 0 0 ∷ plain 19 ∷ [])) 1) ≡ 5
 
 pub fences : Fences
 unfolding markOf partsOf kindOf fieldAt referenceAt numberAt textAt itemBy itemAt itemsIn itemsAt verbOf statementAt digitsb numberb textb sortFrom sortAt extentOf usesb filledb rangesb choiceb entryb goodFields endb rowb shapeb foundOf statementsFrom partsCheck checkOf within subscriptSpan startEndSpan posLengthSpan spanOf digitsFrom literalNumber fixedSpan elementBreach apartFrom alphaBreach referenceBreach breachFrom usesBreach breachOf verdictFrom fenceOf breachIn
@@ -92,6 +96,9 @@ fences =
       start-next = refl;
       limit-next = refl;
       step-last = refl;
+      handlers-fenced = refl;
+      breach-handled = refl;
+      breach-handled-rule = refl;
     }
 
 -- ---- destinations: in `smear`, AM(2,6) from AM(1,5), byte 0 is only read and byte 1 is written

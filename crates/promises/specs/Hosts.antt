@@ -10,31 +10,38 @@
 --   refused-by-the-check     1 to 5: nothing is changed
 --   refused-for-its-size     6: nothing is changed
 --   refused-for-its-state    7, after 1 to 6: nothing is changed, where the state is unsound
---   refused-for-its-numbers  .. and where the numbers are no state's: there are not 101, or one is outside its range
+--   refused-for-its-numbers  .. and where the numbers are no state's: there are not 104, one is outside its range, or the last two are no error's
 --   read-after-write         the numbers of a state are read as that state
 --   first-is-the-place, then-the-calls, then-the-returns, then-the-loops    which number of a state stands where
 --   slot-entry, slot-limit, slot-step    .. of an open loop
+--   no-handler, handler-plus-one, no-error, error-and-statement    .. of the handler and the last error
 --   not-below-zero, below-zero    how a limit or a step is held
+--   error-without-number     a statement of an error without the error's number makes the numbers no state's
 --   left-with-the-next       after any other stop the numbers are those of the next state
 --   goes-on-from-there       so that a further call goes on from that state
---   begins-at-zeros          101 zeros are the state before the first statement
+--   begins-at-zeros          104 zeros are the state before the first statement
 --   goes-on-as-one           a run that is paused and gone on with comes to what one run comes to
 --   words-fit                63 bytes have room for the words of every stop
 -- Assumes nothing.
 use Prim.Native.Nat.{ℕ, suc, _+_, _*_, _^_, _<_, _≤_}
-use mathlib.Core.Path.{_≡_, refl, sym, subst}
+use mathlib.Core.Path.{_≡_, refl, sym, ap, _∙_, subst}
 use mathlib.Core.Logic.{_↔_}
-use mathlib.Core.Bool.{false}
+use mathlib.Core.Bool.{Bool, true, false}
 use mathlib.Core.List.{List}
 use lib.IntN.{pos, negsuc}
 use lib.ListN.{length, getD, replicate}
+use lib.Dec.{eqb}
+use borrow.Author.Tests.{eq-eqb, ne-eqb}
 use denote.Ref.{now}
 use contract.Lifetimes
+use Rattle.rules.specs.Tests.{_&&_}
 use Rattle.rules_unit.specs.declared.Parts.{Parts}
 use Rattle.rules_unit.specs.declared.Refusal.{Refusal}
 use Rattle.rules_unit.specs.declared.Checked.the-variants as checked
 use Rattle.rules_unit.specs.Decode.{decoded, codeOf}
 use Rattle.rules_unit.specs.Checks.{refusalNumber, refusalPlace, checkOf}
+use Rattle.rules_run.specs.declared.Caught.the-variants as caught
+use Rattle.rules_run.specs.declared.Handler.the-variants as handler
 use Rattle.rules_run.specs.declared.State.{State}
 use Rattle.rules_run.specs.States.{noLoop, Sound, started}
 use Rattle.rules_run.specs.declared.Stop.the-variants as stop
@@ -43,7 +50,7 @@ use Rattle.rules_run.specs.Answers.{Erred, StopNo, noOf, Given}
 use Rattle.rules_run.proofs.Resumed.{call-resumed}
 use Rattle.rules_host.specs.Words as words
 use Rattle.rules_host.proofs.Short.{words-short}
-use Rattle.rules_host.specs.Numbers.{word, numberAt, numbersOf, Fits, stateb, stateOf}
+use Rattle.rules_host.specs.Numbers.{word, handlerNumber, errorNumber, errorPlace, numberAt, numbersOf, Fits, goodFrom, stateb, stateOf}
 use Rattle.rules_host.specs.Calls.{Handed, refusedb, handedOf, untouched, HostReads}
 use Rattle.rules_host.proofs.Listed as listed
 use Rattle.rules_host.proofs.Resume as resume
@@ -119,15 +126,30 @@ module _ (s : State) where
   pub then-the-loops : numberAt s 52 ≡ s .opened
   then-the-loops = listed.loops-number s
 
-  module _ (k : ℕ) where
+  -- The slots are 16.
+  module _ (k : ℕ) (low : k < 16) where
     pub slot-entry : numberAt s (k * 3 + 53) ≡ getD (s .loops) k noLoop .entry
-    slot-entry = listed.entry-number s k
+    slot-entry = listed.entry-number s k low
 
     pub slot-limit : numberAt s (k * 3 + 54) ≡ word (getD (s .loops) k noLoop .limit)
-    slot-limit = listed.limit-number s k
+    slot-limit = listed.limit-number s k low
 
     pub slot-step : numberAt s (k * 3 + 55) ≡ word (getD (s .loops) k noLoop .step)
-    slot-step = listed.step-number s k
+    slot-step = listed.step-number s k low
+
+  -- "The state keeps the handler": its statement and one more, and 0 for none.
+  pub no-handler : s .trap .handler ≡ handler.None → numberAt s 101 ≡ 0
+  no-handler e = listed.handler-number s ∙ ap handlerNumber e
+
+  pub handler-plus-one : (i : ℕ) → s .trap .handler ≡ handler.At i → numberAt s 101 ≡ i + 1
+  handler-plus-one i e = listed.handler-number s ∙ ap handlerNumber e
+
+  -- "and the last error's number and statement", and 0 and 0 for none.
+  pub no-error : s .trap .caught ≡ caught.None → (numberAt s 102 ≡ 0) × (numberAt s 103 ≡ 0)
+  no-error e = (listed.error-number s ∙ ap errorNumber e, listed.place-number s ∙ ap errorPlace e)
+
+  pub error-and-statement : (n i : ℕ) → s .trap .caught ≡ caught.Error n i → (numberAt s 102 ≡ n) × (numberAt s 103 ≡ i)
+  error-and-statement n i e = (listed.error-number s ∙ ap errorNumber e, listed.place-number s ∙ ap errorPlace e)
 
 -- A value that is not below 0 is held as itself.
 pub not-below-zero : (n : ℕ) → word (pos n) ≡ n
@@ -137,6 +159,16 @@ not-below-zero n = refl
 pub below-zero : (n : ℕ) → n < 2 ^ 64 → word (negsuc n) + suc n ≡ 2 ^ 64
 below-zero = listed.word-below
 
+-- Where there is no error, there is no statement of one.
+pub error-without-number : (w : List ℕ) → getD w 102 0 ≡ 0 → (getD w 103 0 ≡ 0 → ⊥) → stateb w ≡ false
+unfolding stateb
+error-without-number w e n = rw (eq-eqb (getD w 102 0) 0 e, ne-eqb (getD w 103 0) 0 n) (by (eqb (length w) 104) (goodFrom 0 w))
+  where
+    by : (x y : Bool) → x && (y && false) ≡ false
+    by true true = refl
+    by true false = refl
+    by false y = refl
+
 module _ (u d w : List ℕ) (m : ℕ) (a : List ℕ) where
   pub left-with-the-next : refusedb (handedOf u d w m a .stop) ≡ false → handedOf u d w m a .state ≡ numbersOf (runOf u d (stateOf w) m .outcome .state)
   left-with-the-next = resume.left-state u d w m a
@@ -144,7 +176,7 @@ module _ (u d w : List ℕ) (m : ℕ) (a : List ℕ) where
   pub goes-on-from-there : refusedb (handedOf u d w m a .stop) ≡ false → stateOf (handedOf u d w m a .state) ≡ runOf u d (stateOf w) m .outcome .state
   goes-on-from-there = resume.goes-on u d w m a
 
-pub begins-at-zeros : stateOf (replicate 101 0) ≡ started
+pub begins-at-zeros : stateOf (replicate 104 0) ≡ started
 begins-at-zeros = resume.zeros-start
 
 -- ---- the words

@@ -8,6 +8,7 @@ pub mod Refusals
 pub mod BenchValues
 pub mod Manual
 pub mod Passes
+pub mod Handlers
 pub mod Units
 pub mod Settled
 pub mod Hosts

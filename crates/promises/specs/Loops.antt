@@ -1,15 +1,16 @@
 -- FOR loops (request 4 of document 02), in the owner's words: what the four statements do to the data, to the open loops and to the place reached.
 --
 -- The statement where the state s is, over the data d, is one of the unit c. `nextOf` says where it leads, or the fault that stops it there, and `dataAfter` what it
--- makes of the data; a statement that is stopped has changed nothing (Demand1). `lookOf s .last` is the loop opened last, `entryOf c (lookOf s)` its entry
--- statement. `Entry` is what a FOR works out where nothing fails, and `Pass` what a loop end or NEXTLOOP does: each names the n characters at a of the control place.
+-- makes of the data; `GivesHere` says that it gives an error, which a handler may trap (Demand2). A statement that gives one changes no byte, and opens and closes
+-- no loop (Demand1). `lookOf s .last` is the loop opened last, `entryOf c (lookOf s)` its entry statement. `Entry` is what a FOR
+-- works out where nothing fails, and `Pass` what a loop end or NEXTLOOP does: each names the n characters at a of the control place.
 --
 --   full-first, place-fails, start-fails, limit-fails, step-fails, step-zero, start-too-long    the errors of a FOR, in their order
 --   entry-stores, entry-opens, entry-passes-over    what a FOR without an error leaves: the data, the open loops and the place
 --   found-no-more, unreadable, sum-too-great, value-too-long    the errors of a pass, in their order
 --   pass-stores, pass-goes-on, pass-closes          what a pass without an error leaves
 --   exit-closes, exit-keeps-data                    EXITLOOP
---   zero-exactly, loops-full-exactly, no-loop-exactly    27, 28 and 29 are given by a statement exactly when the request says so
+--   zero-exactly, loops-full-exactly, no-loop-exactly    27, 28 and 29 stop a statement exactly when the request says so, with a handler and without
 --   zero-step, loops-full, no-loop                  .. and are their numbers
 --   others-keep-loops                               every other statement keeps the open loops
 --   opened-last                                     the loop opened last is the one in the last slot that is used
@@ -47,6 +48,7 @@ use Rattle.rules_run.specs.Evaluation.{readAt, workedOf, valueAt}
 use Rattle.rules_run.specs.States.{noLoop, LoopSound, Sound, gone, lookOf}
 use Rattle.rules_run.specs.Turns.{stored, testb, Entry, entryOf, Pass}
 use Rattle.rules_run.specs.Runs.{to, stuck, nextOf, dataAfter}
+use Rattle.rules_run.specs.Answers.{GivesHere}
 use Rattle.rules_run.proofs.Controls as controls
 use Rattle.rules_run.proofs.Jumps.{jumps-keep-data}
 use Rattle.rules_run.proofs.Lengths.{parts-dialect}
@@ -66,19 +68,19 @@ module _ (c : Code) (s : State) (d : List ℕ) where
 
   -- "On entry the control place is found, then start, limit and step are worked out once, in that order.": the first error is given.
   module _ (for : here .code ≡ 14) (room : s .opened < 16) (f : Fault) where
-    pub place-fails : workedOf c d (c .items (here .a)) ≡ worked.Failed f → nextOf c s d ≡ stuck f
+    pub place-fails : workedOf c d (c .items (here .a)) ≡ worked.Failed f → GivesHere c s d f
     place-fails = loops.for-place-fails c s d for room f
 
     module _ (a n : ℕ) (found : workedOf c d (c .items (here .a)) ≡ worked.Place true a n) where
-      pub start-fails : valueAt c d (here .b) ≡ Failed f → nextOf c s d ≡ stuck f
+      pub start-fails : valueAt c d (here .b) ≡ Failed f → GivesHere c s d f
       start-fails = loops.for-start-fails c s d for room f a n found
 
-      pub limit-fails : (start : ℤ) → valueAt c d (here .b) ≡ Value start → valueAt c d (nextAt c (here .b)) ≡ Failed f → nextOf c s d ≡ stuck f
+      pub limit-fails : (start : ℤ) → valueAt c d (here .b) ≡ Value start → valueAt c d (nextAt c (here .b)) ≡ Failed f → GivesHere c s d f
       limit-fails = loops.for-limit-fails c s d for room f a n found
 
       pub step-fails : (start limit : ℤ) → valueAt c d (here .b) ≡ Value start → valueAt c d (nextAt c (here .b)) ≡ Value limit
           → valueAt c d (nextAt c (nextAt c (here .b))) ≡ Failed f
-          → nextOf c s d ≡ stuck f
+          → GivesHere c s d f
       step-fails = loops.for-step-fails c s d for room f a n found
 
   -- Where the place is found, and start, limit and step are to be had.
@@ -89,7 +91,7 @@ module _ (c : Code) (s : State) (d : List ℕ) where
 
     module _ (moves : natAbs (e .step) ≡ 0 → ⊥) where
       -- "20 for a control value that doesn't fit"
-      pub start-too-long : 10 ^ e .n ≤ natAbs (e .start) → nextOf c s d ≡ stuck fault.TooLong
+      pub start-too-long : 10 ^ e .n ≤ natAbs (e .start) → GivesHere c s d fault.TooLong
       start-too-long = loops.for-long c s d for room e moves
 
       module _ (fits : natAbs (e .start) < 10 ^ e .n) where
@@ -100,7 +102,7 @@ module _ (c : Code) (s : State) (d : List ℕ) where
         -- "The test comes before each pass": it is passed, the loop is open, and the run goes on at the next statement.
         pub entry-opens : testb (e .start) (e .limit) (e .step) ≡ true
             → nextOf c s d
-            ≡ to (record { at = s .at + 1; depth = s .depth; returns = s .returns; opened = s .opened + 1; loops = set (s .loops) (s .opened) (record { entry = s .at; limit = e .limit; step = e .step }) })
+            ≡ to (record { at = s .at + 1; depth = s .depth; returns = s .returns; opened = s .opened + 1; loops = set (s .loops) (s .opened) (record { entry = s .at; limit = e .limit; step = e .step }); trap = s .trap })
         entry-opens = loops.for-opens c s d for room e moves fits
 
         -- It is not passed: no loop is opened, and the run goes on behind the loop end.
@@ -116,20 +118,20 @@ module _ (c : Code) (s : State) (d : List ℕ) where
 
   -- "the control place is found again from that statement at each pass": then it is read, and the step is added. The first error is given.
   module _ (pass : Repeats (here .code)) (some-open : s .opened ≡ 0 → ⊥) (f : Fault) where
-    pub found-no-more : workedOf c d (c .items (entryOf c (lookOf s) .a)) ≡ worked.Failed f → nextOf c s d ≡ stuck f
+    pub found-no-more : workedOf c d (c .items (entryOf c (lookOf s) .a)) ≡ worked.Failed f → GivesHere c s d f
     found-no-more = loops.pass-place-fails c s d pass some-open f
 
     module _ (a n : ℕ) (found : workedOf c d (c .items (entryOf c (lookOf s) .a)) ≡ worked.Place true a n) where
-      pub unreadable : readAt c d a n ≡ Failed f → nextOf c s d ≡ stuck f
+      pub unreadable : readAt c d a n ≡ Failed f → GivesHere c s d f
       unreadable = loops.pass-read-fails c s d pass some-open f a n found
 
-      pub sum-too-great : (x : ℤ) → readAt c d a n ≡ Value x → addOf (c .dialect .top) x (lookOf s .last .step) ≡ Failed f → nextOf c s d ≡ stuck f
+      pub sum-too-great : (x : ℤ) → readAt c d a n ≡ Value x → addOf (c .dialect .top) x (lookOf s .last .step) ≡ Failed f → GivesHere c s d f
       sum-too-great = loops.pass-sum-fails c s d pass some-open f a n found
 
   -- Where the sum is to be had.
   module _ (pass : Repeats (here .code)) (some-open : s .opened ≡ 0 → ⊥) (p : Pass c (lookOf s) d) where
     -- "A value that doesn't fit the control field is reported before it is stored."
-    pub value-too-long : 10 ^ p .n ≤ natAbs (p .v) → nextOf c s d ≡ stuck fault.TooLong
+    pub value-too-long : 10 ^ p .n ≤ natAbs (p .v) → GivesHere c s d fault.TooLong
     value-too-long = loops.pass-long c s d pass some-open p
 
     module _ (fits : natAbs (p .v) < 10 ^ p .n) where
@@ -143,7 +145,7 @@ module _ (c : Code) (s : State) (d : List ℕ) where
       -- The loop is closed, its slot becomes zero, and the run goes on behind the loop end that its entry names.
       pub pass-closes : testb (p .v) (lookOf s .last .limit) (lookOf s .last .step) ≡ false
           → nextOf c s d
-          ≡ to (record { at = entryOf c (lookOf s) .c + 1; depth = s .depth; returns = s .returns; opened = s .opened - 1; loops = set (s .loops) (s .opened - 1) noLoop })
+          ≡ to (record { at = entryOf c (lookOf s) .c + 1; depth = s .depth; returns = s .returns; opened = s .opened - 1; loops = set (s .loops) (s .opened - 1) noLoop; trap = s .trap })
       pass-closes = loops.pass-leaves c s d pass some-open p fits
 
       -- "At exit the control field holds the first value that failed the test"
@@ -156,7 +158,7 @@ module _ (c : Code) (s : State) (d : List ℕ) where
 
   pub exit-closes : here .code ≡ 16 → (s .opened ≡ 0 → ⊥)
       → nextOf c s d
-      ≡ to (record { at = entryOf c (lookOf s) .c + 1; depth = s .depth; returns = s .returns; opened = s .opened - 1; loops = set (s .loops) (s .opened - 1) noLoop })
+      ≡ to (record { at = entryOf c (lookOf s) .c + 1; depth = s .depth; returns = s .returns; opened = s .opened - 1; loops = set (s .loops) (s .opened - 1) noLoop; trap = s .trap })
   exit-closes = loops.exit-leaves c s d
 
   pub exit-keeps-data : here .code ≡ 16 → dataAfter c s d ≡ d

@@ -8,6 +8,7 @@
 --   with-fields       the same with two
 --   refusals, fields, orders, expressions    the tables
 --   loops, numbers-of-loops    FOR and its loop end; the sorts of its four expressions
+--   handlers          ONERROR and OFFERROR
 --   end-outside       the loop end of a FOR at the end of the unit
 --   too-long, not-too-long, too-many, table-outside    lengths and tables of GOTOs, at their ends
 --   sixteen           sixteen values may be held, and seventeen not
@@ -31,7 +32,7 @@ use Rattle.rules_unit.specs.Table.{verbOf}
 use Rattle.rules_unit.specs.Expressions.{digitsb, numberb, textb, sortFrom, sortAt, extentOf, usesb}
 use Rattle.rules_unit.specs.Checks.{filledb, rangesb, choiceb, entryb, goodFields, gotosb, tableb, endb, rowb, shapeb, foundOf, statementsFrom, partsCheck, checkOf}
 use Rattle.promises.specs.Rows.{Answer, number, refusal, Row, _is_, AllHold}
-use Rattle.promises.specs.Samples.{tour, seats, answered, changed, with-field, with-fields, entry, with-parts, of-set, A, N, X, last-of-all, last-for, sums, figure, I, P, numbers, coded, plain, with-loop, with-alpha}
+use Rattle.promises.specs.Samples.{tour, seats, answered, changed, with-field, with-fields, entry, with-parts, of-set, A, N, X, last-of-all, last-for, sums, figure, I, P, numbers, coded, plain, with-loop, with-alpha, on-error}
 
 abbrev pub refusals : List Row
 refusals =
@@ -76,6 +77,9 @@ refusals =
     ∷ changed 193 15 is number (pos 10)
     ∷ changed 193 16 is number (pos 10)
     ∷ changed 193 17 is number (pos 10)
+    ∷ changed 193 18 is number (pos 10)
+    ∷ changed 193 19 is number (pos 10)
+    ∷ changed 193 20 is refusal 5 10
     ∷ changed 194 1 is refusal 5 10
     ∷ changed 196 1 is refusal 5 10
     ∷ changed 198 1 is refusal 5 10
@@ -249,6 +253,45 @@ numbers-of-loops =
 pub numbers-of-loops-hold : AllHold numbers-of-loops
 unfolding markOf partsOf kindOf fieldAt referenceAt numberAt textAt itemBy itemAt itemsIn itemsAt statementAt verbOf digitsb numberb textb sortFrom sortAt extentOf usesb filledb rangesb choiceb entryb goodFields endb rowb shapeb foundOf statementsFrom partsCheck checkOf
 numbers-of-loops-hold = refl
+
+-- ---- ONERROR and OFFERROR
+
+-- A statement with a 1 in its byte k, before a STOP.
+abbrev one-in : List ℕ → ℕ → Answer
+one-in statement k = with-loop three I (set statement k 1 ∷ plain 11 ∷ [])
+
+abbrev pub handlers : List Row
+handlers =
+    -- "5 for a target not below N": there are two statements
+    with-loop three I (on-error 1 ∷ plain 11 ∷ []) is number (pos 3)
+    ∷ with-loop three I (on-error 0 ∷ plain 11 ∷ []) is number (pos 3)
+    ∷ with-loop three I (on-error 2 ∷ plain 11 ∷ []) is refusal 5 0
+    ∷ with-loop three I (plain 11 ∷ on-error 2 ∷ []) is refusal 5 1
+    ∷ one-in (on-error 0) 7 is number (pos 3)
+    ∷ one-in (on-error 0) 6 is refusal 5 0
+    ∷ with-loop three I (plain 19 ∷ []) is number (pos 3)
+    -- "Unused parts are zero."
+    ∷ one-in (on-error 1) 1 is refusal 5 0
+    ∷ one-in (on-error 1) 2 is refusal 5 0
+    ∷ one-in (on-error 1) 3 is refusal 5 0
+    ∷ one-in (on-error 1) 4 is refusal 5 0
+    ∷ one-in (on-error 1) 5 is refusal 5 0
+    ∷ one-in (plain 19) 1 is refusal 5 0
+    ∷ one-in (plain 19) 2 is refusal 5 0
+    ∷ one-in (plain 19) 3 is refusal 5 0
+    ∷ one-in (plain 19) 4 is refusal 5 0
+    ∷ one-in (plain 19) 5 is refusal 5 0
+    ∷ one-in (plain 19) 6 is refusal 5 0
+    ∷ one-in (plain 19) 7 is refusal 5 0
+    -- "Code 12 at statement i needs n GOTO statements right after it"
+    ∷ with-loop three I (coded 12 1 4 0 ∷ coded 7 0 0 0 ∷ []) is number (pos 3)
+    ∷ with-loop three I (coded 12 1 4 0 ∷ on-error 0 ∷ []) is refusal 5 0
+    ∷ with-loop three I (coded 12 1 4 0 ∷ plain 19 ∷ []) is refusal 5 0
+    ∷ []
+
+pub handlers-hold : AllHold handlers
+unfolding markOf partsOf kindOf fieldAt referenceAt numberAt itemBy itemAt itemsIn itemsAt statementAt verbOf digitsb numberb sortFrom sortAt extentOf usesb filledb rangesb choiceb entryb goodFields gotosb tableb endb rowb shapeb foundOf statementsFrom partsCheck checkOf
+handlers-hold = refl
 
 -- ---- lengths and tables
 

@@ -26,6 +26,8 @@ use Rattle.rules_unit.specs.declared.Op.the-variants as op
 use Rattle.rules_unit.specs.declared.Item.{Item}
 use Rattle.rules_unit.specs.declared.Item.the-variants as item
 use Rattle.rules_unit.specs.Codes.{Code}
+use Rattle.rules_run.specs.declared.Caught.{Caught}
+use Rattle.rules_run.specs.declared.Handler.{Handler}
 use Rattle.rules_run.specs.declared.Worked.{Worked}
 use Rattle.rules_run.specs.declared.Worked.the-variants as worked
 use Rattle.rules_run.specs.declared.Flow.{Flow}
@@ -41,6 +43,8 @@ pub data Answer : Type 0 where
   stop : ℕ → Answer
   -- the stop, the place, the statements completed, the loops still open, and the data
   run : ℕ → ℕ → ℕ → ℕ → List ℕ → Answer
+  -- the stop, the place, the statements completed, the handler, the last error, the calls and the loops still open, and the data
+  left : ℕ → ℕ → ℕ → Handler → Caught → ℕ → ℕ → List ℕ → Answer
 
 pub record Row : Type 0 where
   pub rules : Answer
@@ -190,3 +194,5 @@ after a n t = goneOn (t .flow)
     goneOn flow.Stop = stop 0
     goneOn (flow.Enter limit step) = stop 0
     goneOn (flow.Leave i) = stop 0
+    goneOn (flow.Arm i) = stop 0
+    goneOn flow.Disarm = stop 0

@@ -1,4 +1,5 @@
--- The units of the examples, in their bytes, and how an example is asked: what the tables of Slips, Fences, Tour, Refusals, Corners, Moves, Blanks, Passes and Strict are made of.
+-- The units of the examples, in their bytes, and how an example is asked: what the tables of Slips, Fences, Tour, Refusals, Corners, Moves, Blanks, Passes,
+-- Strict and Handlers are made of.
 -- Assumes nothing.
 use mathlib.Core.Bool.{Bool, cond, _||_}
 use mathlib.Core.List.{List, [], _∷_, _++_}
@@ -27,12 +28,15 @@ use Rattle.rules_unit.specs.Checks.{refusalNumber, refusalPlace, checkOf}
 use Rattle.rules_run.specs.declared.Flow.{Flow}
 use Rattle.rules_run.specs.declared.Flow.the-variants as flow
 use Rattle.rules_run.specs.declared.Turn.{Turn}
+use Rattle.rules_run.specs.declared.Caught.{Caught}
+use Rattle.rules_run.specs.declared.Handler.{Handler}
 use Rattle.rules_run.specs.declared.Loop.{Loop}
+use Rattle.rules_run.specs.declared.State.{State}
 use Rattle.rules_run.specs.States.{noLoop, soundb, started, lookOf}
 use Rattle.rules_run.specs.Stops.{stopNumber}
 use Rattle.rules_run.specs.Turns.{applied, turnBy}
 use Rattle.rules_run.specs.Runs.{Ran, runOf}
-use Rattle.promises.specs.Rows.{Answer, number, text, refusal, stop, run, dialect, bytes, figures, alone, unitOver, accessed, unit}
+use Rattle.promises.specs.Rows.{Answer, number, text, refusal, stop, run, left, dialect, bytes, figures, alone, unitOver, accessed, unit}
 
 -- ---- the slips
 
@@ -287,12 +291,20 @@ nine = record {
 -- Of that unit: a state at the statement given, with the calls given, all to the number given, and zeros behind them.
 abbrev pub sound : ℕ → ℕ → ℕ → ℕ → Bool
 sound at depth to zeros =
-    soundb nine (record { at = at; depth = depth; returns = replicate depth to ++ replicate zeros 0; opened = 0; loops = replicate 16 noLoop })
+    soundb nine (record { at = at; depth = depth; returns = replicate depth to ++ replicate zeros 0; opened = 0; loops = replicate 16 noLoop; trap = started .trap })
 
 -- A state before its first statement, with as many loops open as are given, in the slots given and empty ones behind them.
 abbrev pub opens : ℕ → List Loop → ℕ → Bool
 opens opened slots empty =
-    soundb nine (record { at = 0; depth = 0; returns = replicate 50 0; opened = opened; loops = slots ++ replicate empty noLoop })
+    soundb nine (record { at = 0; depth = 0; returns = replicate 50 0; opened = opened; loops = slots ++ replicate empty noLoop; trap = started .trap })
+
+-- A state before its first statement, with the handler and the last error given.
+abbrev pub told : Handler → Caught → State
+told h e =
+    record { at = 0; depth = 0; returns = replicate 50 0; opened = 0; loops = replicate 16 noLoop; trap = record { handler = h; caught = e } }
+
+abbrev pub tells : Handler → Caught → Bool
+tells h e = soundb nine (told h e)
 
 -- A loop of the FOR at a statement, with its limit and its step.
 abbrev pub slot : ℕ → ℤ → ℤ → Loop
@@ -330,6 +342,8 @@ leftBy c d t = gone (t .flow)
     gone flow.Stop = stop 0
     gone (flow.Enter limit step) = stop 0
     gone (flow.Leave i) = number (pos i)
+    gone (flow.Arm i) = stop 0
+    gone flow.Disarm = stop 0
 
 -- A statement of the code given, with the place a and the source or number b.
 abbrev pub moved : ℕ → List Item → List Item → Answer
@@ -380,7 +394,7 @@ numbers start limit step = start ++ (0 ∷ limit ++ (0 ∷ step ++ (0 ∷ [])))
 abbrev pub coded : ℕ → ℕ → ℕ → ℕ → List ℕ
 coded code a b c = code ∷ 0 ∷ 0 ∷ a ∷ 0 ∷ b ∷ 0 ∷ c ∷ []
 
--- A statement whose parts are zero: 3 INCR P, 11 STOP, 15 loop end, 16 EXITLOOP, 17 NEXTLOOP.
+-- A statement whose parts are zero: 3 INCR P, 10 RETURN, 11 STOP, 15 loop end, 16 EXITLOOP, 17 NEXTLOOP, 19 OFFERROR.
 abbrev pub plain : ℕ → List ℕ
 plain code = coded code 0 0 0
 
@@ -429,3 +443,28 @@ looped held three end body = ends (ranOf (length (bytes held)) (loopOf held thre
 -- FOR I; INCR P; loop end.
 abbrev pub passes : string.String → List ℕ → Answer
 passes held three = looped held three 2 (plain 3 ∷ plain 15 ∷ [])
+
+-- ---- handlers
+
+abbrev pub on-error : ℕ → List ℕ
+on-error c = coded 18 0 0 c
+
+-- SET P from the expression that stands at 4, which is the one given where there are no three numbers.
+abbrev pub reads : List ℕ
+reads = coded 1 0 4 0
+
+abbrev pub erring : string.String → List ℕ → List (List ℕ) → List ℕ
+erring held source statements = looping held [] source statements
+
+-- What a run leaves, with its handler and its last error.
+abbrev pub told-of : Ran → Answer
+told-of r =
+    left (stopNumber (r .outcome .stop)) (r .outcome .place) (r .outcome .count) (r .outcome .state .trap .handler) (r .outcome .state .trap .caught) (r .outcome .state .depth)
+    (r .outcome .state .opened) (r .bytes)
+
+-- From the unit's image, n being the length of the data; from the state given, with the allowance given.
+abbrev pub left-of : ℕ → List ℕ → Answer
+left-of n u = told-of (ranOf n u)
+
+abbrev pub left-from : ℕ → List ℕ → State → ℕ → Answer
+left-from n u s m = told-of (runOf u (take n u) s m)
