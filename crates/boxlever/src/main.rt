@@ -239,7 +239,7 @@ fn help() -> u8 {
 
 // Writes the version.
 fn version() -> u8 {
-    say::say(b"boxlever 0.2.0\n");
+    say::say(b"boxlever 0.3.0\n");
     GOOD
 }
 

@@ -370,7 +370,9 @@ pub fn put_statement(l: Line, unit: &[u8], parts: Parts, i: u16) -> Line {
         FOR a = bc|\
         LOOP END|\
         EXITLOOP|\
-        NEXTLOOP|",
+        NEXTLOOP|\
+        ONERROR c|\
+        OFFERROR|",
         s.code,
     );
     let mut next = l;

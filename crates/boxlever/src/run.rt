@@ -1,5 +1,5 @@
-// `boxlever run FILE`: what the bench program writes of the unit, with the data as it is shown; then the stop in words, the loops that are still open, and what the fields
-// hold after the run.
+// `boxlever run FILE`: what the bench program writes of the unit, with the data as it is shown; then the stop in words, the loops that are still open, what the fields
+// hold after the run, and the last error that was trapped.
 use crate::fields::say_fields;
 use crate::phrase::put_statement;
 use crate::phrase::say_statement;
@@ -19,6 +19,7 @@ use crate::words::REFUSED;
 use crate::words::STOPPED;
 use crate::words::put_place;
 use crate::words::put_stop;
+use rules_run::Caught;
 use rules_run::Loop;
 use rules_run::Outcome;
 use rules_run::State;
@@ -89,6 +90,22 @@ fn say_loops(unit: &[u8], parts: Parts, state: State, show: Show) {
     }
 }
 
+// An error that was trapped, and its statement.
+fn say_error(unit: &[u8], parts: Parts, number: u8, statement: u16, show: Show) {
+    say(b"\n");
+    let l = put_form(new_line(), b"last trapped error #: ", number as u64, 0);
+    say_line(put_stop(l, number));
+    say_statement(unit, parts, statement, show);
+}
+
+// The last error, where one was trapped.
+fn say_caught(unit: &[u8], parts: Parts, caught: Caught, show: Show) {
+    match caught {
+        Caught::None => {}
+        Caught::Error { number, statement } => say_error(unit, parts, number, statement, show),
+    }
+}
+
 // The data: as it is shown, or as it is.
 fn say_data(data: &[u8], show: Show) {
     if !show.raw {
@@ -107,6 +124,10 @@ fn say_run(unit: &[u8], parts: Parts, data: &[u8], number: u8, out: Outcome, sho
     say_place(unit, parts, out.place, show);
     say_loops(unit, parts, out.state, show);
     say_fields(unit, parts, data, true, show);
+    let state = out.state;
+    let trap = state.trap;
+    let caught = trap.caught;
+    say_caught(unit, parts, caught, show);
 }
 
 // Runs a unit over its data, which starts as its image, the first bytes of the unit; and gives the stop.
