@@ -171,11 +171,11 @@ mod tests {
     }
 
     #[test]
-    fn a_state_has_101_numbers() {
+    fn a_state_has_104_numbers() {
         let zeros = |count: usize| vec!["0"; count].join(",");
         let line = |count| format!("run UNIT 3431 {} 1", zeros(count));
-        assert_eq!(answered(&line(101)).as_deref(), Ok("30 1 1 1 3432"));
-        assert!(answered(&line(102)).is_err());
+        assert_eq!(answered(&line(104)).as_deref(), Ok("30 1 1 1 3432"));
+        assert!(answered(&line(105)).is_err());
     }
 
     #[test]

@@ -88,13 +88,13 @@ fn statement_fits(parts: &Parts, i: usize, statement: &Statement) -> bool {
     let parts_fit = match statement.code {
         code::SET => c == 0,
         code::CLEAR..=code::LOCASE => b == 0 && c == 0,
-        code::GOTO | code::CALL => a == 0 && b == 0 && target_fits,
+        code::GOTO | code::CALL | code::ONERROR => a == 0 && b == 0 && target_fits,
         code::GOTO_IF_ZERO => a == 0 && target_fits,
         code::RETURN | code::STOP => a == 0 && b == 0 && c == 0,
         code::COMPUTED_GOTO => c == 0 && table_fits(parts, i, a),
         code::FORMAT => true,
         code::FOR => i < c && is_code(parts, c, code::LOOP_END),
-        code::LOOP_END..=code::NEXTLOOP => a == 0 && b == 0 && c == 0,
+        code::LOOP_END..=code::NEXTLOOP | code::OFFERROR => a == 0 && b == 0 && c == 0,
         _ => false,
     };
     statement.zero == 0 && parts_fit
@@ -336,6 +336,8 @@ mod tests {
             ((15, 0, 0, 0), [false, false, false]),
             ((16, 0, 0, 0), [false, false, false]),
             ((17, 0, 0, 0), [false, false, false]),
+            ((18, 0, 0, 0), [false, false, true]),
+            ((19, 0, 0, 0), [false, false, false]),
         ] {
             let goto = (7, 0, 0, 0);
             assert_eq!(answer_to(&[statement, goto]), PASSED, "{statement:?}");
@@ -351,12 +353,15 @@ mod tests {
 
     #[test]
     fn codes_and_targets() {
-        for code in (0..=255).filter(|code| !(1..=17).contains(code)) {
+        for code in (0..=255).filter(|code| !(1..=19).contains(code)) {
             assert_eq!(answer_to(&[(code, 0, 0, 0)]), (5, 0), "{code}");
         }
-        for code in [7, 9] {
+        for code in [7, 9, 18] {
             assert_eq!(answer_to(&[(11, 0, 0, 0), (code, 0, 0, 1)]), PASSED);
-            assert_eq!(answer_to(&[(11, 0, 0, 0), (code, 0, 0, 2)]), (5, 1));
+            for target in [2, 256, 257, 65_535] {
+                let statements = [(11, 0, 0, 0), (code, 0, 0, target)];
+                assert_eq!(answer_to(&statements), (5, 1), "{code} {target}");
+            }
         }
         assert_eq!(answer_to(&[(8, 0, 8, 1)]), (5, 0));
         assert_eq!(answer_to(&[(8, 0, 13, 1)]), (5, 0));
@@ -479,6 +484,27 @@ mod tests {
         for code in (0..=255).filter(|&code| code != 15) {
             let other = (code, 0, 0, 0);
             assert_eq!(answer_to_loops(&[entered(1), other]), (5, 0), "{code}");
+        }
+    }
+
+    #[test]
+    fn a_table_has_no_handlers() {
+        for code in [18, 19] {
+            assert_eq!(answer_to(&[(12, 1, 8, 0), (code, 0, 0, 0)]), (5, 0));
+            let behind = [(12, 1, 8, 0), (7, 0, 0, 0), (code, 0, 0, 0)];
+            assert_eq!(answer_to(&behind), PASSED);
+        }
+    }
+
+    #[test]
+    fn a_handler_has_a_zero_byte() {
+        for code in [18, 19] {
+            let sample = Sample::fields((code, 0, 0, 0), b"");
+            let mut unit = sample.unit();
+            assert_eq!(answer(&unit), PASSED);
+            let zero = unit.len() - 12 - 8 + 1;
+            unit[zero] = 1;
+            assert_eq!(answer(&unit), (5, 0));
         }
     }
 

@@ -33,6 +33,6 @@ pub use fence::{breach, fence, Breach, Fence};
 pub use literal::{literal, literal_range};
 pub use numbers::{run_numbers, STATE_LEN};
 pub use run::{run, Outcome};
-pub use state::{Loop, State, CALLS_MOST};
+pub use state::{LastError, Loop, State, CALLS_MOST};
 pub use stop::{words, Refusal};
 pub use unit::{Field, Parts, Statement, LONGEST};

@@ -5,7 +5,7 @@ mod table;
 mod timing;
 
 use second::{answer, bench, breach, image, literal_range, read_unit, run, words};
-use second::{Loop, State, BENCH_ALLOWANCE};
+use second::{LastError, Loop, State, BENCH_ALLOWANCE};
 use shown::{named, shown};
 use std::env::args_os;
 use std::ffi::{OsStr, OsString};
@@ -55,7 +55,8 @@ fn answer_to(args: &[&OsStr]) -> io::Result<()> {
     }
 }
 
-/// Prints how a run from the image stops, the calls and loops still open, and the data.
+/// Prints how a run from the image stops, the calls and loops still open, the last trapped error and
+/// the data.
 fn show_run(file: &OsStr, allowance: u64) -> io::Result<()> {
     let unit = read_file(file)?;
     let mut data = image(&unit);
@@ -75,6 +76,7 @@ fn show_run(file: &OsStr, allowance: u64) -> io::Result<()> {
         returns,
         opened,
         loops,
+        last_error,
         ..
     } = outcome.state;
     if depth > 0 {
@@ -82,6 +84,10 @@ fn show_run(file: &OsStr, allowance: u64) -> io::Result<()> {
     }
     for Loop { entry, limit, step } in &loops[..opened] {
         writeln!(out, "open loop of the FOR at {entry}, to {limit} by {step}")?;
+    }
+    if let Some(LastError { stop, statement }) = last_error {
+        let words = words(stop).unwrap_or_default();
+        writeln!(out, "last trapped error {stop} at {statement}: {words}")?;
     }
     if !data.is_empty() {
         writeln!(out, "{}", shown(&data))?;

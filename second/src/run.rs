@@ -52,7 +52,7 @@ fn sound<'a>(unit: &'a [u8], bytes: &[u8], state: &State) -> Result<Parts<'a>, R
 }
 
 /// The run itself. The end is tested before the allowance, so that a run which reaches it with
-/// its last statement gives 0.
+/// its last statement gives 0. A statement whose error is trapped counts as completed.
 fn run_checked(parts: &Parts, data: &mut [u8], mut state: State, allowance: u64) -> Outcome {
     let end = parts.statement_count();
     let mut count = 0;
@@ -64,7 +64,9 @@ fn run_checked(parts: &Parts, data: &mut [u8], mut state: State, allowance: u64)
             break ALLOWANCE_SPENT;
         }
         if let Err(fault) = step(parts, data, &mut state) {
-            break fault.stop();
+            if !state.trap(fault) {
+                break fault.stop();
+            }
         }
         count += 1;
     };
@@ -117,6 +119,8 @@ fn step(parts: &Parts, data: &mut [u8], state: &mut State) -> Result<(), Fault> 
         code::FOR => return loops::enter(parts, data, state),
         code::LOOP_END | code::NEXTLOOP => return loops::go_on(parts, data, state),
         code::EXITLOOP => return loops::leave(parts, state),
+        code::ONERROR => state.handler = Some(c),
+        code::OFFERROR => state.handler = None,
         _ => unreachable!("a sound unit has no statement {code}"),
     }
     state.advance();

@@ -1,7 +1,8 @@
-//! The resume state: where a run goes on, and the calls and loops still open.
+//! The resume state: where a run goes on, the calls and loops still open, the handler and the last
+//! error.
 
 use crate::arithmetic::is_value;
-use crate::stop::Fault;
+use crate::stop::{Fault, TRAPPED};
 use crate::unit::{code, Parts};
 
 /// The most calls that may be open.
@@ -13,7 +14,8 @@ pub const LOOPS_MOST: usize = 16;
 /// A resume state. It is sound for a unit of N statements when the statement number is 0 to N,
 /// the number of open calls is 0 to 50, the return numbers in use are 0 to N and the unused ones
 /// are zero; and when the number of open loops is 0 to 16, each of them is sound, and the unused
-/// slots are zero.
+/// slots are zero; and when the handler, if there is one, is below N, and the last error, if there is
+/// one, is sound.
 #[derive(Clone, Copy, Debug, PartialEq, Eq)]
 pub struct State {
     /// The number of the next statement.
@@ -26,6 +28,18 @@ pub struct State {
     pub opened: usize,
     /// The open loops, the one opened last at `opened - 1`.
     pub loops: [Loop; LOOPS_MOST],
+    /// The statement at which a run goes on after an error that is trapped.
+    pub handler: Option<usize>,
+    /// The error that was trapped last.
+    pub last_error: Option<LastError>,
+}
+
+/// An error that was trapped: its stop number, and the statement that gave it. It is sound when it
+/// is one of the five that are trapped, and the statement is below N.
+#[derive(Clone, Copy, Debug, PartialEq, Eq)]
+pub struct LastError {
+    pub stop: u8,
+    pub statement: usize,
 }
 
 /// An open loop: the number of its FOR, and the limit and the step that were worked out there. It
@@ -64,21 +78,33 @@ impl Loop {
     }
 }
 
+impl LastError {
+    fn is_sound(&self, count: usize) -> bool {
+        TRAPPED.contains(&self.stop) && self.statement < count
+    }
+}
+
 impl State {
-    /// The state from which a unit starts: statement 0, no open calls and no open loops.
+    /// The state from which a unit starts: statement 0, no open calls, no open loops, no handler and
+    /// no last error.
     pub const START: State = State {
         at: 0,
         depth: 0,
         returns: [0; CALLS_MOST],
         opened: 0,
         loops: [Loop::NONE; LOOPS_MOST],
+        handler: None,
+        last_error: None,
     };
 
     /// Check 7.
     pub fn is_sound(&self, parts: &Parts) -> bool {
-        self.at <= parts.statement_count()
-            && self.are_calls_sound(parts.statement_count())
+        let count = parts.statement_count();
+        self.at <= count
+            && self.are_calls_sound(count)
             && self.are_loops_sound(parts)
+            && self.handler.is_none_or(|handler| handler < count)
+            && self.last_error.is_none_or(|error| error.is_sound(count))
     }
 
     fn are_calls_sound(&self, count: usize) -> bool {
@@ -146,6 +172,21 @@ impl State {
     pub fn close_loop(&mut self) {
         self.opened -= 1;
         self.loops[self.opened] = Loop::NONE;
+    }
+
+    /// Goes on at the handler after an error of the statement at which the state stands, and keeps
+    /// that as the last error. The answer is whether the error is trapped; if it is not, the state
+    /// stays as it is.
+    pub fn trap(&mut self, fault: Fault) -> bool {
+        let Some(handler) = self.handler.filter(|_| fault.is_trapped()) else {
+            return false;
+        };
+        self.last_error = Some(LastError {
+            stop: fault.stop(),
+            statement: self.at,
+        });
+        self.at = handler;
+        true
     }
 }
 
@@ -284,6 +325,86 @@ mod tests {
                 state.loops[..2].fill(OPEN);
             }));
         }
+    }
+
+    #[test]
+    fn a_handler_is_below_n() {
+        for (handler, sound) in [(0, true), (2, true), (3, false), (usize::MAX, false)] {
+            let found = is_sound(|state| state.handler = Some(handler));
+            assert_eq!(found, sound, "{handler}");
+        }
+    }
+
+    #[test]
+    fn a_last_error_is_one_of_the_five_at_a_statement_below_n() {
+        for stop in 0..=255 {
+            for (statement, is_below) in [(0, true), (2, true), (3, false), (usize::MAX, false)] {
+                let found =
+                    is_sound(|state| state.last_error = Some(LastError { stop, statement }));
+                let wanted = is_below && [20, 21, 22, 23, 26].contains(&stop);
+                assert_eq!(found, wanted, "{stop} at {statement}");
+            }
+        }
+    }
+
+    #[test]
+    fn a_last_error_stands_without_a_handler_and_anywhere() {
+        for at in 0..=3 {
+            assert!(is_sound(|state| {
+                state.at = at;
+                state.last_error = Some(LastError {
+                    stop: 20,
+                    statement: 0,
+                });
+            }));
+        }
+    }
+
+    #[test]
+    fn five_errors_are_trapped_and_the_others_are_not() {
+        let traps = |fault: Fault| {
+            let mut state = State {
+                at: 7,
+                depth: 1,
+                handler: Some(4),
+                ..State::START
+            };
+            state.returns[0] = 3;
+            state.open_loop(OPEN);
+            let before = state;
+            if !state.trap(fault) {
+                assert_eq!(state, before);
+                return None;
+            }
+            let after = State {
+                at: 4,
+                last_error: state.last_error,
+                ..before
+            };
+            assert_eq!(state, after);
+            state.last_error.map(|error| (error.stop, error.statement))
+        };
+        assert_eq!(traps(Fault::Digits), Some((20, 7)));
+        assert_eq!(traps(Fault::Subscript), Some((21, 7)));
+        assert_eq!(traps(Fault::BadDigit), Some((22, 7)));
+        assert_eq!(traps(Fault::ZeroDivisor), Some((23, 7)));
+        assert_eq!(traps(Fault::Rounding), Some((26, 7)));
+        for fault in [
+            Fault::Call,
+            Fault::Return,
+            Fault::ZeroStep,
+            Fault::Loop,
+            Fault::NoLoop,
+        ] {
+            assert_eq!(traps(fault), None, "{fault:?}");
+        }
+    }
+
+    #[test]
+    fn without_a_handler_nothing_is_trapped() {
+        let mut state = State::START;
+        assert!(!state.trap(Fault::BadDigit));
+        assert_eq!(state, State::START);
     }
 
     #[test]

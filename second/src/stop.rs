@@ -6,6 +6,9 @@ pub const END: u8 = 0;
 /// The stop number of a run whose allowance was spent before the end.
 pub const ALLOWANCE_SPENT: u8 = 30;
 
+/// The stop numbers of the errors that a handler traps.
+pub const TRAPPED: [u8; 5] = [20, 21, 22, 23, 26];
+
 /// A refusal: its stop number, 1 to 7, and the place it names.
 #[derive(Clone, Copy, Debug, PartialEq, Eq)]
 pub struct Refusal {
@@ -32,6 +35,11 @@ impl Fault {
     /// The stop number of the run error.
     pub fn stop(self) -> u8 {
         self as u8
+    }
+
+    /// Whether the error is one that a handler traps.
+    pub fn is_trapped(self) -> bool {
+        TRAPPED.contains(&self.stop())
     }
 }
 

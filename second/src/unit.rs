@@ -41,6 +41,8 @@ pub mod code {
     pub const LOOP_END: u8 = 15;
     pub const EXITLOOP: u8 = 16;
     pub const NEXTLOOP: u8 = 17;
+    pub const ONERROR: u8 = 18;
+    pub const OFFERROR: u8 = 19;
 }
 
 /// The five parts of a unit, each a stretch of the unit itself.

@@ -120,6 +120,20 @@ open loop of the FOR at 1, to 1 by -9
     assert_eq!(String::from_utf8(found).unwrap(), told);
 }
 
+#[test]
+fn a_last_trapped_error_is_told() {
+    // ONERROR of the STOP, and an INCR of "?".
+    let unit = *b"?\x01\0\0\0\0\x01\0\x01\x02\0\0\0\x12\0\0\0\0\0\0\x02\
+        \x03\0\0\0\0\0\0\0\x0B\0\0\0\0\0\0\0\0\x01\0\x01\0\x04\0\0\0\x03DB";
+    fs::write(Path::new(TRIALS).join("trapped.unit"), unit).unwrap();
+    let found = program(&["run", "trapped.unit"].map(OsStr::new), b"");
+    let told = "stop 0 at 3 after 3 statements: the end is reached
+last trapped error 22 at 1: a bad digit
+?
+";
+    assert_eq!(String::from_utf8(found).unwrap(), told);
+}
+
 /// A run in two parts, of at most `first` statements and then of the rest of `allowance`.
 fn resumed(unit: &[u8], data: &mut [u8], first: u64, allowance: u64) -> Outcome {
     let before = run(unit, data, State::START, first);

@@ -257,7 +257,7 @@ fn a_bound_that_is_a_reference_keeps_the_rules_first() {
 fn statements_without_references_keep_the_rules() {
     for statement in [code::GOTO, code::CALL, code::RETURN, code::STOP]
         .into_iter()
-        .chain(code::LOOP_END..=code::NEXTLOOP)
+        .chain(code::LOOP_END..=code::OFFERROR)
     {
         assert_eq!(broken(sample().to(statement, 0)), 0);
     }

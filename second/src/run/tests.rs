@@ -3,6 +3,8 @@
 use super::*;
 use crate::sample::Sample;
 
+mod traps;
+
 /// A decimal D2 "07" (field 0), an alpha "aB1z" (1), a D2 array "1112" (2) and a record over
 /// everything (3).
 fn sample() -> Sample {
