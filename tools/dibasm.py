@@ -24,7 +24,8 @@ KINDS = ["alpha", "decimal", "record"]
 STRICT = 0x80
 
 WORDS = dict(enumerate(["set", "clear", "incr", "decr", "upcase", "locase", "goto", "ifzero",
-                        "call", "return", "stop", "computed", "using", "for", "loopend", "exitloop", "nextloop"], 1))
+                        "call", "return", "stop", "computed", "using", "for", "loopend", "exitloop", "nextloop",
+                        "onerror", "offerror"], 1))
 CODES = {word: code for code, word in WORDS.items()}
 
 # The words that begin the line of a statement: using stands inside that of a set.
@@ -37,7 +38,7 @@ REPEATS = ["repeat", "end"]
 # The parts of a statement that hold expressions, a target, and anything at all, by its word, and the word before the target. What b
 # holds of a for are three expressions in a row.
 PLACES = {"set": "ab", "ifzero": "b", "computed": "b", "using": "abc", "for": "ab"} | dict.fromkeys(list(CODES)[1:6], "a")
-TARGET = {"goto": "c", "ifzero": "c", "call": "c", "for": "c"}
+TARGET = {"goto": "c", "ifzero": "c", "call": "c", "for": "c", "onerror": "c"}
 BEFORE_TARGET = {"ifzero": "goto", "for": "end"}
 USED = {word: PLACES.get(word, "") + TARGET.get(word, "") for word in CODES} | {"computed": "ab"}
 
