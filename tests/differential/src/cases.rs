@@ -2,12 +2,13 @@
 
 use crate::damage::damaged;
 use crate::data::{fill, make_strict, Quality};
-use crate::decode::{LOOPS_MOST, OPENED};
+use crate::decode::{HANDLER, LOOPS_MOST, OPENED, TRAPPED};
 use crate::draft::Draft;
 use crate::expressions::GREATEST;
 use crate::library;
 use crate::limits::limit_unit;
 use crate::random::Random;
+use crate::trap_limits::arm;
 use crate::units::random_unit;
 
 /// How a case's unit was made.
@@ -79,6 +80,9 @@ fn draft(random: &mut Random, kind: Kind) -> Draft {
         Kind::Damaged => random_unit(random, fenced),
     };
     make_strict(random, &mut draft.fields);
+    if random.chance(20) {
+        arm(random, &mut draft);
+    }
     draft
 }
 
@@ -121,6 +125,10 @@ fn great(random: &mut Random) -> Option<u64> {
 fn state(random: &mut Random, draft: &Draft) -> Vec<u64> {
     let mut state = vec![0; library::state_len()];
     let roll = random.below(100);
+    if roll < 40 {
+        return state;
+    }
+    set_traps(random, draft, &mut state[HANDLER..]);
     if roll < 55 {
         return state;
     }
@@ -128,10 +136,10 @@ fn state(random: &mut Random, draft: &Draft) -> Vec<u64> {
     if roll < 85 {
         return state;
     }
-    match random.below(6) {
+    match random.below(8) {
         0 => {
             let whole = state.len();
-            let length = random.pick(&[0, 1, 2, OPENED, whole - 1, whole + 1, 104]);
+            let length = random.pick(&[0, 1, 2, OPENED, HANDLER, whole - 1, whole + 1]);
             state.resize(length, 0);
         }
         1 => {
@@ -140,7 +148,8 @@ fn state(random: &mut Random, draft: &Draft) -> Vec<u64> {
             state[at] = state[at].wrapping_add(wrap);
         }
         2 | 3 => unsound(random, draft, &mut state),
-        _ => unsound_loops(random, draft, &mut state[OPENED..]),
+        4 | 5 => unsound_loops(random, draft, &mut state[OPENED..HANDLER]),
+        _ => unsound_traps(random, draft, &mut state[HANDLER..]),
     }
     state
 }
@@ -160,12 +169,28 @@ fn sound_state(random: &mut Random, draft: &Draft, state: &mut [u64]) {
     }
 }
 
+/// Mostly sets a handler, and sometimes a last error, in the three numbers for them.
+fn set_traps(random: &mut Random, draft: &Draft, traps: &mut [u64]) {
+    let count = draft.statements.len().max(1);
+    let [handler, statement] = [(); 2].map(|()| {
+        let any = random.below(count);
+        random.pick(&[any, any, 0, count - 1]) as u64
+    });
+    if random.chance(60) {
+        traps[0] = handler + 1;
+    }
+    if random.chance(35) {
+        traps[1] = random.pick(&TRAPPED);
+        traps[2] = statement;
+    }
+}
+
 /// Opens loops of these entries, and mostly goes on in the body of the one opened last.
 fn open_loops(random: &mut Random, draft: &Draft, entries: &[usize], state: &mut [u64]) {
     let opened = random.weighed(&[(6, 0), (8, 1), (4, 2), (2, 15), (3, LOOPS_MOST)]);
     let mut last = random.pick(entries);
     let is_same = random.chance(30);
-    let (numbers, slots) = state.split_at_mut(OPENED + 1);
+    let (numbers, slots) = state[..HANDLER].split_at_mut(OPENED + 1);
     numbers[OPENED] = opened as u64;
     for slot in slots.chunks_exact_mut(3).take(opened) {
         last = if is_same { last } else { random.pick(entries) };
@@ -223,5 +248,30 @@ fn unsound_loops(random: &mut Random, draft: &Draft, loops: &mut [u64]) {
         1 | 2 => slot[0] = random.pick(&[past, other, 65_535, 65_536]),
         3 => slot[1] = random.pick(&[edge, edge, 1]) as u64,
         _ => slot[2] = random.pick(&[edge, 0, 1]) as u64,
+    }
+}
+
+/// Changes the handler, the last error or its statement to a wrong one or one at the edge.
+fn unsound_traps(random: &mut Random, draft: &Draft, traps: &mut [u64]) {
+    let count = draft.statements.len() as u64;
+    let any = random.below(draft.statements.len().max(1)) as u64;
+    let (last, wrapped) = (count.saturating_sub(1), 65_536 + any);
+    let trapped = random.pick(&TRAPPED);
+    let near = 256 + trapped;
+    match random.below(3) {
+        0 => {
+            // One more than the handler.
+            let [at, past] = [count + 1, count + 2];
+            traps[0] = random.pick(&[count, at, past, 65_535, 65_536, wrapped, 1 << 32]);
+        }
+        1 => {
+            let errors = [0, 1, 19, 24, 25, 27, 28, 29, 30, 34, 255, 256, near];
+            traps[1] = random.pick(&errors);
+            traps[2] = any;
+        }
+        _ => {
+            traps[1] = random.pick(&[trapped, trapped, trapped, 0]);
+            traps[2] = random.pick(&[last, count, count + 1, 65_535, 65_536, wrapped]);
+        }
     }
 }

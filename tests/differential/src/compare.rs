@@ -4,8 +4,9 @@ use crate::cases::Case;
 use crate::decode::Sound;
 use crate::library::{self, Given, Lent};
 use crate::loops::{Followed, Turn};
-use crate::promises;
+use crate::promises::{self, Trap};
 use crate::reached::Reached;
+use crate::traps::LOOKED_AT;
 use second::Fence;
 use std::fmt::Debug;
 
@@ -57,8 +58,13 @@ pub fn compare(case: &Case, reached: &mut Reached) -> Result<(), Difference> {
     }
     let (data, state) = (Lent::bytes(&case.data), Lent::numbers(&case.state));
     let ran = run(case, (data, state), case.allowances[0], reached)?;
+    let traps = match has_passed {
+        true => promises::trapped(case, &ran)?,
+        false => vec![],
+    };
     if has_passed {
         count_states(case, &ran, reached);
+        count_traps(case, &ran, &traps, reached);
     }
     let last = match ran.given.result {
         30 => &resume(case, &ran, reached)?,
@@ -71,26 +77,56 @@ pub fn compare(case: &Case, reached: &mut Reached) -> Result<(), Difference> {
         step(case, reached)?;
     }
     if has_passed {
-        promises::loose_twin(case, &ran, reached)?;
+        promises::loose_twin(case, &ran, &traps, reached)?;
     }
     promises::error_changed_nothing(case, &ran)?;
-    promises::demand_3(case, &ran, reached)
+    promises::demand_3(case, &ran, &traps, reached)
 }
 
-/// Counts what is open in the state of a case, and in the one that it was left in.
+/// Counts what is open and set in the state of a case, and in the one that it was left in.
 fn count_states(case: &Case, ran: &Ran, reached: &mut Reached) {
     let unit = Sound::of(&case.unit);
     match ran.given.result {
         6 => {}
-        7 => reached.loops.unsound(&unit, &case.state),
+        7 => {
+            reached.loops.unsound(&unit, &case.state);
+            reached.traps.unsound(&unit, &case.state);
+        }
         stop => {
             if ran.count > 0 {
                 reached.loops.begun(&unit, &case.state);
+                reached.traps.begun(&unit, &case.state);
             }
             if stop == 0 {
                 reached.loops.ended(ran.state.part());
+                reached.traps.ended(ran.state.part());
             }
         }
+    }
+}
+
+/// Counts the errors that a run of a unit that passes has trapped, the one that has stopped it, and
+/// where it has paused beside them.
+fn count_traps(case: &Case, ran: &Ran, traps: &[Trap], reached: &mut Reached) {
+    let (data, state) = (ran.data.part(), ran.state.part());
+    reached.traps.trapped(&case.unit, traps);
+    for trap in traps.iter().take(LOOKED_AT) {
+        let (unit, data) = (Sound::of(&case.unit), trap.data.part());
+        reached.blanks.failed(&unit, trap.at(), trap.stop, data);
+    }
+    match ran.given.result {
+        stop @ 20..=29 => reached.traps.stopped(&case.unit, stop, data, state),
+        30 => {
+            let last = traps.last().map(|trap| trap.count + 1);
+            let is_behind = last == Some(ran.count);
+            let next = promises::trapped_next(case, &ran.data, &ran.state);
+            let allowance = case.allowances[0];
+            reached.traps.paused(allowance, state, is_behind, next);
+            if is_behind && case.allowances[1] > 0 {
+                reached.traps.resumed();
+            }
+        }
+        _ => {}
     }
 }
 
@@ -109,6 +145,9 @@ fn check(case: &Case, reached: &mut Reached) -> Result<bool, Difference> {
             if let stop @ 4..=5 = refusal.stop {
                 reached.formats.refused(&case.unit, stop, refusal.place);
                 reached.loops.refused(&case.unit, stop, refusal.place);
+            }
+            if refusal.stop == 5 {
+                reached.traps.refused(&case.unit, refusal.place);
             }
             if refusal.stop == 3 {
                 reached.stricts.refused(&case.unit, refusal.place);
@@ -136,6 +175,7 @@ fn fence(case: &Case, reached: &mut Reached) -> Result<(), Difference> {
         reached.formats.fenced(&Sound::of(unit));
         reached.loops.fenced(&Sound::of(unit));
         reached.stricts.fenced(&Sound::of(unit));
+        reached.traps.inside(&Sound::of(unit));
     }
     same(|| "fence".to_string(), given, expected)
 }
@@ -265,15 +305,19 @@ fn step(case: &Case, reached: &mut Reached) -> Result<(), Difference> {
         let at = from.1.part().first().map_or(0, |&at| at as usize);
         let (before, state) = from.clone();
         let (before, state) = (before.part(), state.part());
+        let trapped = promises::trapped_next(case, &from.0, &from.1);
         let ran = run(case, from, 1, reached)?;
         let stop = ran.given.result;
-        if ran.count == 1 || (20..=29).contains(&stop) {
+        let error = Some(stop).filter(|stop| (20..=29).contains(stop));
+        // The error that the statement has given, trapped or not.
+        let error = error.or(trapped.filter(|_| ran.count == 1));
+        if ran.count == 1 || error.is_some() {
             if let Some(is_lost) = reached.stricts.worked(&unit, at, before, state) {
                 let what = || format!("whether a reference of statement {at} is 21");
-                same(what, stop == 21, is_lost)?;
+                same(what, error == Some(21), is_lost)?;
             }
         }
-        if ran.count == 1 {
+        if ran.count == 1 && error.is_none() {
             reached.statement(&unit, at);
             let after = ran.data.part();
             reached.formats.completed(&unit, at, before, after);
@@ -285,8 +329,9 @@ fn step(case: &Case, reached: &mut Reached) -> Result<(), Difference> {
                 after: (after, ran.state.part()),
             };
             reached.loops.completed(&unit, &turn, &mut followed);
+            reached.traps.completed(&unit, at, state);
         }
-        if (20..=29).contains(&stop) {
+        if error.is_some() {
             reached.formats.failed(&case.unit, at, before);
             reached.loops.failed(&case.unit, at, before, state);
         }

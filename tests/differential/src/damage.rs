@@ -1,21 +1,22 @@
 //! Damaged units: good ones with a part changed, cut or moved, and bytes that were never a unit.
 
 use crate::decode::Sound;
-use crate::draft::{code, Draft};
+use crate::draft::{code, Draft, Statement};
 use crate::random::Random;
 
 /// A damaged unit of a draft.
 pub fn damaged(random: &mut Random, mut draft: Draft) -> Vec<u8> {
-    match random.below(23) {
+    match random.below(24) {
         0..5 => edit_statement(random, &mut draft),
         5..8 => edit_field(random, &mut draft),
         8..13 => edit_bytes(random, &mut draft.expressions),
         13 => edit_bytes(random, &mut draft.literals),
         14..16 => edit_loop(random, &mut draft),
         16 => edit_table(random, &mut draft),
-        17..19 => return edit_trailer(random, draft.unit()),
-        19 => return cut(random, draft.unit()),
-        20..22 => return flip(random, draft.unit()),
+        17 => edit_handler(random, &mut draft),
+        18..20 => return edit_trailer(random, draft.unit()),
+        20 => return cut(random, draft.unit()),
+        21..23 => return flip(random, draft.unit()),
         _ => return noise(random),
     }
     draft.unit()
@@ -78,12 +79,30 @@ fn edit_loop(random: &mut Random, draft: &mut Draft) {
     }
 }
 
-/// Gives the first GOTO of a table the code of a loop's statement.
+/// Changes a part of an ONERROR or an OFFERROR, the target of the one to N or past it.
+fn edit_handler(random: &mut Random, draft: &mut Draft) {
+    let count = draft.statements.len() as u16;
+    let is_one = |code: u8| code == code::ONERROR || code == code::OFFERROR;
+    let statements = draft.statements.iter_mut();
+    let mut handlers: Vec<&mut Statement> = statements.filter(|one| is_one(one.code)).collect();
+    if handlers.is_empty() {
+        return edit_statement(random, draft);
+    }
+    let i = random.below(handlers.len());
+    match random.below(5) {
+        0 => handlers[i].zero = random.pick(&[1, 0x80, 0xFF]),
+        1 => handlers[i].a = random.pick(&[1, 256]),
+        2 => handlers[i].b = random.pick(&[1, 256]),
+        _ => handlers[i].c = random.pick(&[count, count, count + 1, 256, 65_535]),
+    }
+}
+
+/// Gives the first GOTO of a table the code of a loop's statement, or of a handler's.
 fn edit_table(random: &mut Random, draft: &mut Draft) {
     let mut codes = draft.statements.iter().map(|statement| statement.code);
     match codes.position(|code| code == code::COMPUTED_GOTO) {
         Some(i) if i + 1 < draft.statements.len() => {
-            let code = random.within(usize::from(code::FOR)..=usize::from(code::NEXTLOOP));
+            let code = random.within(usize::from(code::FOR)..=usize::from(code::OFFERROR));
             draft.statements[i + 1].code = code as u8;
         }
         _ => edit_statement(random, draft),
@@ -92,7 +111,7 @@ fn edit_table(random: &mut Random, draft: &mut Draft) {
 
 /// A code that a statement may have, the one behind them, or another that none has.
 fn any_code(random: &mut Random) -> u8 {
-    let near = random.below(19) as u8;
+    let near = random.below(21) as u8;
     random.weighed(&[(8, near), (1, 27), (1, 255)])
 }
 

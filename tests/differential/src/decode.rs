@@ -427,8 +427,9 @@ impl<'a> Sound<'a> {
 
     /// Whether a resume state is sound.
     pub fn is_sound_state(&self, state: &[u64]) -> bool {
-        let loops = state.get(OPENED..).unwrap_or_default();
-        self.are_calls_sound(state) && self.wrong_loops(loops) == Some(vec![])
+        self.are_calls_sound(state)
+            && self.wrong_loops(state) == Some(vec![])
+            && self.wrong_traps(state) == Some(vec![])
     }
 
     /// Whether the statement number and the open calls of a state are sound.
@@ -441,13 +442,10 @@ impl<'a> Sound<'a> {
         *at <= end && *depth <= 50 && returns.iter().enumerate().all(open)
     }
 
-    /// What is wrong with the open loops of a state, from the number of them on, each in words; or
-    /// nothing where there are more or fewer numbers.
-    pub fn wrong_loops(&self, loops: &[u64]) -> Option<Vec<&'static str>> {
-        let (&opened, slots) = loops.split_first()?;
-        if slots.len() != 3 * LOOPS_MOST {
-            return None;
-        }
+    /// What is wrong with the open loops of a state, each in words; or nothing where there are fewer
+    /// numbers.
+    pub fn wrong_loops(&self, state: &[u64]) -> Option<Vec<&'static str>> {
+        let (&opened, slots) = state.get(OPENED..HANDLER)?.split_first()?;
         let mut wrong = match opened {
             0..=16 => vec![],
             17 => vec!["17 open"],
@@ -495,6 +493,39 @@ impl<'a> Sound<'a> {
             .into_iter()
             .filter_map(|(is_so, word)| is_so.then_some(word))
             .collect()
+    }
+
+    /// What is wrong with the handler and the last error of a state, each in words; or nothing where
+    /// there are more or fewer numbers.
+    pub fn wrong_traps(&self, state: &[u64]) -> Option<Vec<&'static str>> {
+        let [handler, error, statement] = *state.get(HANDLER..)? else {
+            return None;
+        };
+        let end = self.statement_count() as u64;
+        let wrong_handler = match handler {
+            65_536.. => Some("a handler over 65,535"),
+            65_535 => Some("a handler of 65,534"),
+            _ if handler > end + 1 => Some("a handler past N"),
+            _ if handler > end => Some("a handler at N"),
+            _ => None,
+        };
+        let wrong_error = match error {
+            0 if statement != 0 => Some("a statement without an error"),
+            0 => None,
+            256.. => Some("an error over 255"),
+            _ if !TRAPPED.contains(&error) => Some("an error that is not trapped"),
+            _ => None,
+        };
+        let wrong_statement = match statement {
+            _ if error == 0 => None,
+            65_536.. => Some("a statement over 65,535"),
+            65_535 => Some("a statement of 65,535"),
+            _ if statement > end => Some("a statement past N"),
+            _ if statement == end => Some("a statement at N"),
+            _ => None,
+        };
+        let wrong = [wrong_handler, wrong_error, wrong_statement];
+        Some(wrong.into_iter().flatten().collect())
     }
 
     /// D.
@@ -571,6 +602,24 @@ pub fn is_written(code: u8) -> bool {
 pub const OPENED: usize = 52;
 pub const LOOPS_MOST: usize = 16;
 
+/// Where the handler stands in a state, as one more than its statement, with the last error's number
+/// and its statement behind it.
+pub const HANDLER: usize = 101;
+
+/// The errors that a handler traps.
+pub const TRAPPED: [u64; 5] = [20, 21, 22, 23, 26];
+
+/// The handler of a sound state, if there is one.
+pub fn handler(state: &[u64]) -> Option<usize> {
+    (state[HANDLER] as usize).checked_sub(1)
+}
+
+/// The last error of a sound state, by its number and its statement, if there is one.
+pub fn last_error(state: &[u64]) -> Option<(u64, usize)> {
+    let [number, statement] = [state[HANDLER + 1], state[HANDLER + 2]];
+    (number != 0).then_some((number, statement as usize))
+}
+
 /// An open loop of a state.
 #[derive(Clone, Copy, Debug, PartialEq, Eq)]
 pub struct Open {
@@ -582,7 +631,7 @@ pub struct Open {
 /// The open loops of a sound state, the one opened last at the end.
 pub fn open_loops(state: &[u64]) -> Vec<Open> {
     let opened = state[OPENED] as usize;
-    let slots = state[OPENED + 1..].chunks_exact(3).take(opened);
+    let slots = state[OPENED + 1..HANDLER].chunks_exact(3).take(opened);
     slots
         .map(|slot| Open {
             entry: slot[0] as usize,
@@ -633,7 +682,7 @@ pub fn bad_character(characters: &[u8]) -> Option<usize> {
 
 #[cfg(test)]
 mod tests {
-    use super::Sound;
+    use super::{Sound, HANDLER, TRAPPED};
     use crate::draft::{Draft, Field, Statement, ALPHA, DECIMAL, STRICT};
 
     /// SET A(2:-2) from `x`, CLEAR D(2), INCR D(1,3), LOCASE A, over A at 1 and D at 6.
@@ -736,11 +785,11 @@ mod tests {
         let unit = Draft::counting_loop().unit();
         let sound = Sound::of(&unit);
         let wrong = |numbers: &[(usize, u64)]| {
-            let mut state = vec![0; 101];
+            let mut state = vec![0; 104];
             for &(at, number) in numbers {
                 state[at] = number;
             }
-            let wrong = sound.wrong_loops(&state[52..]).unwrap();
+            let wrong = sound.wrong_loops(&state).unwrap();
             assert_eq!(sound.is_sound_state(&state), wrong.is_empty());
             wrong
         };
@@ -766,7 +815,48 @@ mod tests {
         assert_eq!(full(17), ["17 open"]);
         assert_eq!(full(18), ["a count over 17"]);
         assert_eq!(full(1 << 32), ["a count over 65,535"]);
-        assert!(!sound.is_sound_state(&[0; 52]) && !sound.is_sound_state(&[0; 102]));
+        for length in [0, 52, 101, 103, 105] {
+            assert!(!sound.is_sound_state(&vec![0; length]));
+        }
+    }
+
+    #[test]
+    fn a_sound_state_has_a_sound_handler_and_last_error() {
+        let unit = Draft::counting_loop().unit();
+        let sound = Sound::of(&unit);
+        let wrong = |handler: u64, error: u64, statement: u64| {
+            let mut state = vec![0; 104];
+            state[HANDLER..].copy_from_slice(&[handler, error, statement]);
+            let wrong = sound.wrong_traps(&state).unwrap();
+            assert_eq!(sound.is_sound_state(&state), wrong.is_empty());
+            wrong
+        };
+        for handler in 0..=3 {
+            assert_eq!(wrong(handler, 0, 0), [""; 0]);
+        }
+        assert_eq!(wrong(4, 0, 0), ["a handler at N"]);
+        assert_eq!(wrong(5, 0, 0), ["a handler past N"]);
+        assert_eq!(wrong(65_535, 0, 0), ["a handler of 65,534"]);
+        assert_eq!(wrong(65_536, 0, 0), ["a handler over 65,535"]);
+        for error in 1..=255 {
+            let is_sound = wrong(0, error, 2).is_empty();
+            assert_eq!(is_sound, TRAPPED.contains(&error), "{error}");
+        }
+        assert_eq!(wrong(0, 24, 0), ["an error that is not trapped"]);
+        assert_eq!(wrong(0, 256, 0), ["an error over 255"]);
+        assert_eq!(wrong(0, 0, 1), ["a statement without an error"]);
+        assert_eq!(wrong(0, 22, 3), ["a statement at N"]);
+        assert_eq!(wrong(0, 22, 4), ["a statement past N"]);
+        assert_eq!(wrong(0, 22, 65_535), ["a statement of 65,535"]);
+        assert_eq!(wrong(0, 22, 65_536), ["a statement over 65,535"]);
+        assert_eq!(
+            wrong(4, 30, 3),
+            [
+                "a handler at N",
+                "an error that is not trapped",
+                "a statement at N"
+            ]
+        );
     }
 
     #[test]

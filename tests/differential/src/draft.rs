@@ -96,6 +96,8 @@ pub mod code {
     pub const LOOP_END: u8 = 15;
     pub const EXITLOOP: u8 = 16;
     pub const NEXTLOOP: u8 = 17;
+    pub const ONERROR: u8 = 18;
+    pub const OFFERROR: u8 = 19;
 }
 
 impl Statement {
@@ -108,6 +110,14 @@ impl Statement {
             b,
             c,
         }
+    }
+
+    /// Whether part c names a statement.
+    fn has_target(&self) -> bool {
+        matches!(
+            self.code,
+            code::GOTO | code::GOTO_IF_ZERO | code::CALL | code::FOR | code::ONERROR
+        )
     }
 }
 
@@ -134,6 +144,33 @@ impl Draft {
         (0..self.statements.len())
             .filter(|&i| self.statements[i].code == code::FOR)
             .collect()
+    }
+
+    /// The places where a statement may be put in: all but those inside the table of a computed GOTO.
+    pub fn free_places(&self) -> Vec<usize> {
+        let mut free = Vec::new();
+        // The last statement of the tables so far.
+        let mut last = None;
+        for at in 0..=self.statements.len() {
+            if last.is_none_or(|last| last < at) {
+                free.push(at);
+            }
+            let statement = self.statements.get(at);
+            let table = statement.filter(|statement| statement.code == code::COMPUTED_GOTO);
+            last = last.max(table.map(|table| at + usize::from(table.a)));
+        }
+        free
+    }
+
+    /// Puts a statement before statement `at`. All that names a statement from there on names the next
+    /// one, but for the new statement itself.
+    pub fn insert(&mut self, at: usize, new: Statement) {
+        for statement in &mut self.statements {
+            if statement.has_target() && usize::from(statement.c) >= at {
+                statement.c = statement.c.saturating_add(1);
+            }
+        }
+        self.statements.insert(at, new);
     }
 
     /// Whether a stretch of the data shares a byte with a decimal field.
@@ -212,5 +249,30 @@ fn entry(unit: &mut Vec<u8>, first: u8, zero: u8, numbers: [u16; 3]) {
     unit.extend([first, zero]);
     for number in numbers {
         unit.extend(number.to_be_bytes());
+    }
+}
+
+#[cfg(test)]
+mod tests {
+    use super::*;
+
+    #[test]
+    fn a_statement_is_put_in_and_the_targets_move() {
+        let jump = |target| Statement::new(code::GOTO, 0, 0, target);
+        let mut draft = Draft {
+            statements: vec![
+                jump(1),
+                Statement::new(code::COMPUTED_GOTO, 2, 1, 0),
+                jump(0),
+                jump(2),
+                Statement::new(code::STOP, 0, 0, 0),
+            ],
+            ..Draft::default()
+        };
+        assert_eq!(draft.free_places(), [0, 1, 4, 5]);
+        draft.insert(1, Statement::new(code::ONERROR, 0, 0, 1));
+        let targets: Vec<u16> = draft.statements.iter().map(|one| one.c).collect();
+        assert_eq!(targets, [2, 1, 0, 0, 3, 0]);
+        assert_eq!(draft.free_places(), [0, 1, 2, 5, 6]);
     }
 }

@@ -6,6 +6,7 @@ use crate::expressions::{Maker, GREATEST};
 use crate::loop_limits::{control_edges, entry_errors, far, many_open, moving};
 use crate::random::Random;
 use crate::strict_limits::strict_edges;
+use crate::trap_limits::{every_error, far_handler};
 use crate::units::random_unit;
 
 /// What makes a unit at one of the limits.
@@ -13,7 +14,7 @@ type Make = fn(&mut Random) -> Draft;
 
 /// A unit at some limit.
 pub fn limit_unit(random: &mut Random) -> Draft {
-    let makers: [(usize, Make); 19] = [
+    let makers: [(usize, Make); 21] = [
         (1, sizes),
         (12, held),
         (10, nesting),
@@ -22,17 +23,19 @@ pub fn limit_unit(random: &mut Random) -> Draft {
         (2, long_table),
         (14, spans),
         (12, amounts),
-        (20, blanks),
+        (36, blanks),
         (12, masks),
         (2, long_masks),
         (10, mask_errors),
         (2, letters),
         (10, control_edges),
         (4, many_open),
-        (30, moving),
+        (45, moving),
         (30, entry_errors),
         (2, far),
         (60, strict_edges),
+        (60, every_error),
+        (3, far_handler),
     ];
     random.weighed(&makers)(random)
 }

@@ -1,7 +1,7 @@
 //! What loops are refused for, which errors they give and which come first, and which fence rules a
 //! FOR breaks, counted.
 
-use crate::decode::{open_loops, Sound, LOOPS_MOST, OPENED};
+use crate::decode::{open_loops, Sound, LOOPS_MOST};
 use crate::draft::{code, Statement};
 use crate::loops::{act, Loops, ACTS};
 use crate::probes::{fault, passes, probed};
@@ -90,9 +90,10 @@ impl Loops {
 
     /// Counts a state that was refused with 7, if one thing is wrong with its loops and nothing else.
     pub fn unsound(&mut self, unit: &Sound, state: &[u64]) {
-        let loops = state.get(OPENED..).unwrap_or_default();
-        if let Some([wrong]) = unit.wrong_loops(loops).as_deref() {
-            let is_counted = unit.are_calls_sound(state) && *wrong != "a count over 17";
+        if let Some([wrong]) = unit.wrong_loops(state).as_deref() {
+            let is_rest_sound =
+                unit.are_calls_sound(state) && unit.wrong_traps(state) == Some(vec![]);
+            let is_counted = is_rest_sound && *wrong != "a count over 17";
             self.0.count_if(is_counted, &format!("7 for {wrong}"));
         }
     }
@@ -307,6 +308,7 @@ impl Entry {
 #[cfg(test)]
 mod tests {
     use super::*;
+    use crate::decode::OPENED;
     use crate::draft::Draft;
 
     /// The ways that were counted.

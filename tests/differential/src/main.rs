@@ -5,7 +5,8 @@
 //!
 //! The exit status is 0 when all answers are the same, 1 when some differ, and 2 when nothing was
 //! asked. With --reached it is also 1 when a stop, a statement, an item, a fence answer, a breach, or
-//! a way of a formatted move, of a blank-padded amount, of a loop or of a strict field was not reached.
+//! a way of a formatted move, of a blank-padded amount, of a loop, of a strict field or of a trapped error
+//! was not reached.
 
 mod blanks;
 mod cases;
@@ -30,6 +31,9 @@ mod report;
 mod strict;
 mod strict_limits;
 mod threads;
+mod trap_faults;
+mod trap_limits;
+mod traps;
 mod units;
 mod ways;
 

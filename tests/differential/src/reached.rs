@@ -7,6 +7,7 @@ use crate::formats::Formats;
 use crate::letters::Letters;
 use crate::loops::Loops;
 use crate::strict::Stricts;
+use crate::traps::Traps;
 use std::fmt;
 
 /// The stops of document 01, and those of loops.
@@ -15,7 +16,7 @@ const STOPS: [usize; 19] = [
 ];
 
 /// How many codes statements have, from 1 on.
-const CODES: usize = 17;
+const CODES: usize = 19;
 
 /// The items of document 01, without the 00 that closes.
 const ITEMS: [usize; 22] = [
@@ -58,6 +59,8 @@ pub struct Reached {
     pub loops: Loops,
     /// What references to strict fields have reached.
     pub stricts: Stricts,
+    /// What handlers and trapped errors have reached.
+    pub traps: Traps,
 }
 
 impl Reached {
@@ -129,6 +132,7 @@ impl Reached {
         self.letters.add(&other.letters);
         self.loops.add(&other.loops);
         self.stricts.add(&other.stricts);
+        self.traps.add(&other.traps);
     }
 
     /// What was never reached.
@@ -170,6 +174,8 @@ impl Reached {
         missing.extend(loops.map(|(way, _)| format!("of a loop: {way}")));
         let stricts = self.stricts.reached().filter(|(_, count)| *count == 0);
         missing.extend(stricts.map(|(way, _)| format!("of a strict field: {way}")));
+        let traps = self.traps.reached().filter(|(_, count)| *count == 0);
+        missing.extend(traps.map(|(way, _)| format!("of a trapped error: {way}")));
         missing
     }
 }
@@ -230,6 +236,10 @@ impl fmt::Display for Reached {
         }
         write!(f, "\nstrict fields")?;
         for (way, count) in self.stricts.reached() {
+            write!(f, "  {way}: {count}")?;
+        }
+        write!(f, "\ntrapped errors")?;
+        for (way, count) in self.traps.reached() {
             write!(f, "  {way}: {count}")?;
         }
         Ok(())

@@ -62,7 +62,7 @@ fn statement(maker: &mut Maker, count: usize) {
         }
         code::INCR | code::DECR => Statement::new(code, written(maker, true), 0, 0),
         code::UPCASE | code::LOCASE => Statement::new(code, written(maker, false), 0, 0),
-        code::GOTO | code::CALL => Statement::new(code, 0, 0, target),
+        code::GOTO | code::CALL | code::ONERROR => Statement::new(code, 0, 0, target),
         code::GOTO_IF_ZERO => Statement::new(code, 0, maker.expression(Sort::Number), target),
         code::COMPUTED_GOTO => return computed_goto(maker, count),
         code::FORMAT => formatted_move(maker),
@@ -100,6 +100,8 @@ fn code_of(maker: &mut Maker, count: usize) -> u8 {
         (2 + 24 * open, code::LOOP_END),
         (1 + 3 * open, code::EXITLOOP),
         (1 + 4 * open, code::NEXTLOOP),
+        (5, code::ONERROR),
+        (2, code::OFFERROR),
     ])
 }
 
