@@ -33,13 +33,14 @@ static void print_bytes(FILE *file, const char *bytes, size_t length)
             fputc(bytes[i], file);
 }
 
-/* Prints a stop: its number, its place and the library's words for it. */
-static void print_stop(uint64_t stop, uint64_t place)
+/* Prints a stop, or an error that was trapped: its number, its place and the library's words for
+ * it. */
+static void print_stop(const char *what, uint64_t stop, uint64_t place)
 {
     uint8_t words[64]; /* no words are longer */
     uint64_t length = dibol_words(stop, words, sizeof words);
 
-    printf("stop %" PRIu64 " at %" PRIu64 ": %.*s\n", stop, place, (int)length, (char *)words);
+    printf("%s %" PRIu64 " at %" PRIu64 ": %.*s\n", what, stop, place, (int)length, (char *)words);
 }
 
 /* Prints what the fence says of a unit that has passed its check. */
@@ -53,7 +54,8 @@ static void print_fence(const uint8_t *unit, size_t unit_len)
         printf("fence no %" PRIu64 ": rule %" PRIu64 "\n", answer[0], answer[1]);
 }
 
-/* Runs a unit over its data in slices, and prints how it stopped. */
+/* Runs a unit over its data in slices, and prints how it stopped. A run that reached its end may have
+ * trapped errors: the last of them is printed too. */
 static uint64_t run_in_slices(const uint8_t *unit, size_t unit_len, uint8_t *data, size_t data_len,
                               uint64_t slice)
 {
@@ -70,7 +72,9 @@ static uint64_t run_in_slices(const uint8_t *unit, size_t unit_len, uint8_t *dat
         /* The host does its own work here; data and state stay as they are until it goes on. */
     } while (stop == DIBOL_SPENT && allowance > 0 && left > 0);
     printf("statements: %" PRIu64 " completed, in slices: %" PRIu64 "\n", STATEMENTS_MOST - left, slices);
-    print_stop(stop, answer[1]);
+    print_stop("stop", stop, answer[1]);
+    if (state[102] != 0) /* the number of the last error; its statement stands behind it */
+        print_stop("last trapped error", state[102], state[103]);
     return stop;
 }
 
@@ -103,7 +107,7 @@ static int host(const uint8_t *unit, size_t unit_len, uint64_t slice)
     uint8_t *data;
 
     if (dibol_check(unit, unit_len, answer, 3) != DIBOL_END) {
-        print_stop(answer[0], answer[1]);
+        print_stop("stop", answer[0], answer[1]);
         return 2;
     }
     printf("unit %zu bytes, data %" PRIu64 "\n", unit_len, answer[2]);

@@ -40,14 +40,14 @@
 extern "C" {
 #endif
 
-#define DIBOL_VERSION "0.2.0"
+#define DIBOL_VERSION "0.3.0"
 
 /* Ten thousand for the first number, a hundred for the second, one for the
    third. */
-#define DIBOL_VERSION_NUMBER 200
+#define DIBOL_VERSION_NUMBER 300
 
 /* How many numbers a resume state has. */
-#define DIBOL_STATE_LEN 101
+#define DIBOL_STATE_LEN 104
 
 /* Why a call ended: the stop. Each has the words that dibol_words gives.
 
@@ -101,11 +101,12 @@ enum dibol_breach {
    stop, its place, and how many statements this call completed.
 
    `state` holds DIBOL_STATE_LEN numbers: the statement to go on at, the number
-   of open calls, 50 return numbers, the number of open loops, and for each of
-   16 loops its FOR, its limit and its step. A limit or a step is signed: read
-   it as (int64_t)state[i]. The call rewrites `state` with the next one. After
-   DIBOL_SPENT, call again with the same unit, buffer and state, and the run
-   goes on as if it had not stopped.
+   of open calls, 50 return numbers, the number of open loops, for each of 16
+   loops its FOR, its limit and its step, then the handler plus 1, or 0 for
+   none, and the last error's number and its statement, or 0 and 0 for none. A
+   limit or a step is signed: read it as (int64_t)state[i]. The call rewrites
+   `state` with the next one. After DIBOL_SPENT, call again with the same unit,
+   buffer and state, and the run goes on as if it had not stopped.
 
    - Zero the state for a new run: a finished one, at the end, runs nothing and
      gives DIBOL_END with the count 0.
@@ -118,11 +119,18 @@ enum dibol_breach {
    The unit is checked first (1 to 5). Then the buffer must have the unit's D
    bytes (6), and the state must be sound (7): DIBOL_STATE_LEN numbers, its
    statement and the return numbers of its open calls at most N, at most 50
-   calls and 16 loops open, each open loop with a FOR of the unit, a limit and a
-   step of at most 18 digits and a step that is not 0, all other numbers 0.
-   After 1 to 7 no byte of `bytes` and no number of `state` is changed, and the
-   count is 0. A statement that ends in 20 to 29 has changed nothing: the state
-   stands at it, and it is not counted.
+   calls and 16 loops open, each open loop with a FOR of the unit, a limit and
+   a step of at most 18 digits and a step that is not 0, a handler, if there is
+   one, below N, a last error, if there is one, of 20, 21, 22, 23 or 26 with
+   its statement below N, all other numbers 0. After 1 to 7 no byte of `bytes`
+   and no number of `state` is changed, and the count is 0. A statement that
+   stops the run with 20 to 29 has changed nothing: the state stands at it, and
+   it is not counted.
+
+   Where ONERROR has set a handler, 20, 21, 22, 23 and 26 are trapped: the
+   statement changes no byte of `bytes`, is counted, and the run goes on at the
+   handler. So DIBOL_END does not say that no error was trapped; state[102]
+   does, by being 0.
 
        uint64_t state[DIBOL_STATE_LEN] = {0}, answer[3];
        uint64_t stop;

@@ -1,6 +1,6 @@
 /* The exact answers of the C library: document 01's example, every refusal, every run error, a
- * formatted move, loops and their numbers in the state, states of version 0.1, the fence and its
- * rules, literals. */
+ * formatted move, loops and their numbers in the state, trapped errors and theirs, states of earlier
+ * versions, the fence and its rules, literals. */
 #include "expect.h"
 
 #define LENGTH(array) (sizeof(array) / sizeof *(array))
@@ -211,14 +211,15 @@ static void refused_calls(void)
     static const struct {
         size_t at;
         uint64_t number;
-    } unsound[] = {{0, 3},     {1, 51},         {2, 1},          {51, 1},    {52, 1},
-                   {0, 65536}, {1, 1ULL << 32}, {2, UINT64_MAX}, {51, 65536}, {53, 1}};
+    } unsound[] = {{0, 3},     {1, 51},         {2, 1},          {51, 1},    {52, 1},  {101, 3},
+                   {0, 65536}, {1, 1ULL << 32}, {2, UINT64_MAX}, {51, 65536}, {53, 1}, {103, 1}};
     uint8_t data[3] = {'4', '1', '!'};
     uint64_t answer[3], state[DIBOL_STATE_LEN] = {0};
 
     SAME(dibol_run(EXAMPLE, 42, data, 1, state, DIBOL_STATE_LEN, 9, answer, 3), 6);
     SAME(dibol_run(EXAMPLE, 42, data, 3, state, DIBOL_STATE_LEN, 9, answer, 3), 6);
     SAME(dibol_run(EXAMPLE, 42, data, 3, state, 52, 9, answer, 3), 6);
+    SAME(dibol_run(EXAMPLE, 42, data, 2, state, 101, 9, answer, 3), 7);
     for (size_t i = 0; i < LENGTH(unsound); i++) {
         memset(state, 0, sizeof state);
         state[unsound[i].at] = unsound[i].number;
@@ -365,6 +366,166 @@ static void loop_states(void)
         loop_state(&unit, unsound[i].at, unsound[i].number, 7);
 }
 
+/* An ONERROR to statement 2, the INCR of field 3 with which the run goes on, and between them a
+ * statement. */
+#define COUNTED FIELD("\3") CLOSE
+
+static coded under_onerror(const char *expressions, size_t length, entry statement)
+{
+    const entry trapping[] = {{18, 0, 0, 2}, statement, {3, 0, 0, 0}};
+
+    return unit_with(expressions, length, trapping, 3);
+}
+
+#define UNDER_ONERROR(expressions, ...)                                                            \
+    under_onerror(COUNTED expressions, sizeof(COUNTED expressions) - 1, (entry){__VA_ARGS__})
+
+/* Expects what a run from the image leaves of the handler, plus 1, and of the last error. */
+static void kept(const coded *unit, uint64_t handler, uint64_t error, uint64_t statement)
+{
+    uint8_t data[sizeof IMAGE - 1];
+    uint64_t answer[3], state[DIBOL_STATE_LEN] = {0};
+
+    memcpy(data, IMAGE, sizeof data);
+    dibol_run(unit->bytes, unit->len, data, sizeof data, state, DIBOL_STATE_LEN, 100, answer, 3);
+    SAME(state[101], handler);
+    SAME(state[102], error);
+    SAME(state[103], statement);
+}
+
+/* Expects a run to trap an error at statement 1, to count that statement, and to go on at 2. */
+static void trapped(const coded *unit, uint64_t error)
+{
+    ran(unit, 0, 3, 3, "0102wxyz1");
+    kept(unit, 3, error, 1);
+}
+
+/* Each of the five is trapped. */
+static void trapped_errors(void)
+{
+    coded unit;
+
+    unit = UNDER_ONERROR(FIELD("\0") CLOSE GREATEST NUMBER_1 ADD CLOSE, 1, 4, 8, 0);
+    trapped(&unit, 20);
+    unit = UNDER_ONERROR(GREATEST SUBSCRIPT("\0") CLOSE, 2, 4, 0, 0);
+    trapped(&unit, 21);
+    unit = UNDER_ONERROR(FIELD("\0") CLOSE AMOUNT CLOSE, 1, 4, 8, 0);
+    trapped(&unit, 22);
+    unit = UNDER_ONERROR(FIELD("\0") CLOSE NUMBER_1 NUMBER_0 DIVIDE CLOSE, 1, 4, 8, 0);
+    trapped(&unit, 23);
+    unit = UNDER_ONERROR(FIELD("\0") CLOSE NUMBER_1 NUMBER_99 ROUND CLOSE, 1, 4, 8, 0);
+    trapped(&unit, 26);
+}
+
+/* Expects a run to stop at statement 1 with an error that a handler at statement 2 does not trap. */
+static void not_trapped(const coded *unit, uint64_t stop, uint64_t count, const char *data)
+{
+    ran(unit, stop, 1, count, data);
+    kept(unit, 3, 0, 0);
+}
+
+/* The other run errors are not, whatever the handler. */
+static void errors_not_trapped(void)
+{
+    const char steady[] = LOOP(NUMBER_1, NUMBER_9, NUMBER_0);
+    const char leaving[] = LOOP(NUMBER_1, NUMBER_9, NUMBER_1);
+    const entry zero_step[] = {{18, 0, 0, 2}, {14, 0, 4, 2}, {15, 0, 0, 0}};
+    const entry leaking[] = {{18, 0, 0, 2}, {14, 0, 4, 3}, {7, 0, 0, 1}, {15, 0, 0, 0}};
+    coded unit;
+
+    unit = UNDER_ONERROR("", 9, 0, 0, 1);
+    not_trapped(&unit, 24, 51, IMAGE);
+    unit = UNDER_ONERROR("", 10, 0, 0, 0);
+    not_trapped(&unit, 25, 1, IMAGE);
+    unit = unit_with(steady, sizeof steady - 1, zero_step, 3);
+    not_trapped(&unit, 27, 1, IMAGE);
+    unit = unit_with(leaving, sizeof leaving - 1, leaking, 4);
+    not_trapped(&unit, 28, 33, "0102wxyz1");
+    unit = UNDER_ONERROR("", 15, 0, 0, 0);
+    not_trapped(&unit, 29, 1, IMAGE);
+}
+
+/* OFFERROR takes the handler away, and the next error stops the run; the error that was trapped
+ * before stays the last. A handler must be a statement of the unit. */
+static void handlers(void)
+{
+    const char expressions[] = COUNTED GREATEST SUBSCRIPT("\0") CLOSE;
+    const entry once[] = {{18, 0, 0, 2}, {2, 4, 0, 0}, {19, 0, 0, 0}, {3, 0, 0, 0}, {2, 4, 0, 0}};
+    const entry itself[] = {{18, 0, 0, 1}, {2, 4, 0, 0}};
+    coded unit = unit_with(expressions, sizeof expressions - 1, once, 5);
+
+    ran(&unit, 21, 4, 4, "0102wxyz1");
+    kept(&unit, 0, 21, 1);
+    unit = unit_with(expressions, sizeof expressions - 1, itself, 2);
+    ran(&unit, 30, 1, 100, IMAGE);
+    kept(&unit, 2, 21, 1);
+    unit = ONE("", 18, 0, 0, 0);
+    ran(&unit, 0, 1, 1, IMAGE);
+    kept(&unit, 1, 0, 0);
+    unit = ONE("", 18, 0, 0, 1);
+    refused(unit.bytes, unit.len, 5, 0);
+}
+
+/* A state of a unit of two statements with these numbers of ONERROR, and what a run with nothing
+ * allowed says of it: 30, or 7. */
+static void trap_state(uint64_t handler, uint64_t error, uint64_t statement, uint64_t stop)
+{
+    uint8_t data[2] = {'4', '1'};
+    uint64_t answer[3], state[DIBOL_STATE_LEN] = {0}, before[DIBOL_STATE_LEN];
+
+    state[101] = handler;
+    state[102] = error;
+    state[103] = statement;
+    memcpy(before, state, sizeof before);
+    SAME(dibol_run(EXAMPLE, 42, data, 2, state, DIBOL_STATE_LEN, 0, answer, 3), stop);
+    SAME_BYTES(state, before, sizeof state);
+}
+
+/* Each way in which a handler or a last error is unsound, beside the numbers that are just sound. */
+static void trap_states(void)
+{
+    static const uint64_t five[] = {20, 21, 22, 23, 26};
+    static const uint64_t others[] = {1,  4,  7,  19, 24,  25,  27,       28,
+                                      29, 30, 34, 99, 255, 256, 256 + 22, UINT64_MAX};
+
+    trap_state(0, 0, 0, 30);
+    trap_state(1, 0, 0, 30);
+    trap_state(2, 0, 0, 30);
+    trap_state(3, 0, 0, 7);
+    trap_state(65535, 0, 0, 7);
+    trap_state(65536, 0, 0, 7);
+    trap_state(UINT64_MAX, 0, 0, 7);
+    for (size_t i = 0; i < LENGTH(five); i++) {
+        trap_state(0, five[i], 0, 30);
+        trap_state(2, five[i], 1, 30);
+        trap_state(0, five[i], 2, 7);
+        trap_state(0, five[i], 65535, 7);
+        trap_state(0, five[i], 65536, 7);
+        trap_state(3, five[i], 1, 7);
+    }
+    for (size_t i = 0; i < LENGTH(others); i++)
+        trap_state(0, others[i], 0, 7);
+    trap_state(0, 0, 1, 7);
+    trap_state(1, 0, 65536, 7);
+}
+
+/* A host reads the last error off the state, with its words; the run itself came to its end. */
+static void reading_the_last_error(void)
+{
+    const coded unit = UNDER_ONERROR(FIELD("\0") CLOSE AMOUNT CLOSE, 1, 4, 8, 0);
+    uint8_t data[sizeof IMAGE - 1], words[64];
+    uint64_t answer[3], state[DIBOL_STATE_LEN] = {0};
+    char line[100];
+
+    memcpy(data, IMAGE, sizeof data);
+    SAME(dibol_run(unit.bytes, unit.len, data, sizeof data, state, DIBOL_STATE_LEN, 9, answer, 3),
+         DIBOL_END);
+    SAME(state[102], DIBOL_BAD_DIGIT);
+    snprintf(line, sizeof line, "error %d at statement %d: %.*s", (int)state[102], (int)state[103],
+             (int)dibol_words(state[102], words, sizeof words), (char *)words);
+    SAME(strcmp(line, "error 22 at statement 1: Bad digit encountered"), 0);
+}
+
 static void pausing(void)
 {
     const entry loop[] = {{3, 0, 0, 0}, {7, 0, 0, 0}};
@@ -432,16 +593,17 @@ static void foreign_states(void)
     SAME(dibol_run(EXAMPLE, 42, example, 2, state, DIBOL_STATE_LEN, 9, answer, 3), 7);
 }
 
-/* A state that version 0.1 saved after so many statements has 52 numbers. With 49 zeros behind them
- * it is the state that is handed back now, and the run goes on as it would have. */
-static void old_state(const coded *unit, const uint64_t *saved, uint64_t allowance, uint64_t stop,
-                      uint64_t place, const char *wanted)
+/* A state that an earlier version saved after so many statements has fewer numbers: 52 in version 0.1,
+ * and 101 in 0.2. With zeros behind them it is the state that is handed back now, and the run goes on
+ * as it would have. */
+static void old_state(const coded *unit, const uint64_t *saved, size_t length, uint64_t allowance,
+                      uint64_t stop, uint64_t place, const char *wanted)
 {
     uint8_t data[sizeof IMAGE - 1];
     uint64_t answer[3], state[DIBOL_STATE_LEN] = {0}, now[DIBOL_STATE_LEN] = {0};
 
     memcpy(data, IMAGE, sizeof data);
-    memcpy(state, saved, 52 * sizeof *saved);
+    memcpy(state, saved, length * sizeof *saved);
     SAME(dibol_run(unit->bytes, unit->len, data, sizeof data, now, DIBOL_STATE_LEN, allowance,
                    answer, 3),
          30);
@@ -452,19 +614,25 @@ static void old_state(const coded *unit, const uint64_t *saved, uint64_t allowan
     SAME_BYTES(data, wanted, sizeof data);
 }
 
-/* Such states inside a call, and with all 50 calls open. */
+/* Such states inside a call, with all 50 calls open, and of 0.2 inside a loop. */
 static void old_states(void)
 {
     const entry called[] = {{9, 0, 0, 2}, {11, 0, 0, 0}, {3, 0, 0, 0}, {10, 0, 0, 0}};
     const entry calling[] = {{9, 0, 0, 0}};
     const coded inside = unit_with(FIELD("\0") CLOSE, 4, called, 4);
     const coded full = unit_with("", 0, calling, 1);
-    uint64_t calls[52] = {0, 50};
+    const coded loop = LOOP_OF(NUMBER_1, NUMBER_3, NUMBER_2);
+    uint64_t calls[52] = {0, 50}, looping[101] = {2};
 
     for (size_t i = 2; i < LENGTH(calls); i++)
         calls[i] = 1;
-    old_state(&inside, (uint64_t[52]){3, 1, 1}, 2, 0, 4, "0202wxyz0");
-    old_state(&full, calls, 50, 24, 0, IMAGE);
+    looping[52] = 1;
+    looping[53] = 1;
+    looping[54] = 3;
+    looping[55] = 2;
+    old_state(&inside, (uint64_t[52]){3, 1, 1}, 52, 2, 0, 4, "0202wxyz0");
+    old_state(&full, calls, 52, 50, 24, 0, IMAGE);
+    old_state(&loop, looping, 101, 2, 0, 3, "0102wxyz5");
 }
 
 /* Expects the fence to name statement 1, behind a STOP, and the number of a rule. */
@@ -516,9 +684,9 @@ static void literals(void)
 
 static void versions(void)
 {
-    SAME(dibol_version(), 200);
+    SAME(dibol_version(), 300);
     SAME(dibol_state_len(), DIBOL_STATE_LEN);
-    SAME(DIBOL_STATE_LEN, 101);
+    SAME(DIBOL_STATE_LEN, 104);
 }
 
 int main(void)
@@ -531,6 +699,11 @@ int main(void)
     loop_errors();
     a_loop();
     loop_states();
+    trapped_errors();
+    errors_not_trapped();
+    handlers();
+    trap_states();
+    reading_the_last_error();
     pausing();
     starting_anew();
     foreign_states();

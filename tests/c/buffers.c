@@ -7,7 +7,7 @@
 #define WORDS_MOST 64
 #define UNTOUCHED 0xA5A5A5A5A5A5A5A5u
 
-static const size_t LENGTHS[] = {0, 1, 2, 3, 4, 51, 52, 53, 100, 101, 102};
+static const size_t LENGTHS[] = {0, 1, 2, 3, 4, 51, 52, 53, 100, 101, 102, 103, 104, 105};
 #define LENGTH_COUNT (sizeof LENGTHS / sizeof *LENGTHS)
 
 /* Numbers to lend, between two red zones. */
@@ -59,7 +59,7 @@ static void answers(size_t length)
     holds(length, ran, 3);
 }
 
-/* A state of every length, all zero: 101 numbers are run from, and any other length is 7. */
+/* A state of every length, all zero: 104 numbers are run from, and any other length is 7. */
 static void states(size_t length)
 {
     const uint64_t zeros[MOST] = {0}, next[DIBOL_STATE_LEN] = {2};

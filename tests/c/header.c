@@ -1,7 +1,8 @@
 /* The header in strict C11, included twice, with what a host relies on at compile time. */
 #include "dibol.h"
 
-_Static_assert(DIBOL_STATE_LEN == 1 + 1 + 50 + 1 + 3 * 16, "a statement, the calls, the loops");
+_Static_assert(DIBOL_STATE_LEN == 1 + 1 + 50 + 1 + 3 * 16 + 1 + 2,
+               "a statement, the calls, the loops, the handler, the last error");
 _Static_assert(sizeof DIBOL_VERSION > 1, "the version as text");
 _Static_assert(DIBOL_END == 0 && DIBOL_SPENT == 30, "the stops have document 01's numbers");
 _Static_assert(DIBOL_YES == 0 && DIBOL_NO == 1 && DIBOL_REFUSED == 2, "the fence's answers");

@@ -102,6 +102,7 @@ static void run(const lent *l, record *r)
         note_all(r, l->answers[3], 3);
         note_all(r, l->state, 4);
         note_all(r, l->state + 52, 4);
+        note_all(r, l->state + 101, 3);
     }
     for (size_t i = 0; i < l->data_len; i++)
         note(r, l->data[i]);

@@ -12,11 +12,12 @@
 #![warn(missing_docs)]
 
 /// How many numbers a resume state has: the statement, the open calls, 50 return numbers, the open
-/// loops, and the FOR, the limit and the step of each of 16 loops.
-pub const DIBOL_STATE_LEN: usize = 101;
+/// loops, the FOR, the limit and the step of each of 16 loops, the handler plus 1, and the number and
+/// the statement of the last error.
+pub const DIBOL_STATE_LEN: usize = 104;
 
 extern "C" {
-    /// The version of the library: 200 is 0.2.0.
+    /// The version of the library: 300 is 0.3.0.
     pub fn dibol_version() -> u64;
 
     /// How many numbers the library's resume state has.

@@ -5,7 +5,7 @@
 //!
 //!     DIBOL_LIB_DIR=$PWD/../../build/lib cargo run --example slices -- FILE [SLICE]
 
-use dibol::{Outcome, State, Stop, Unit, Verdict};
+use dibol::{Outcome, State, Stop, Trapped, Unit, Verdict};
 use std::ffi::OsStr;
 use std::os::unix::ffi::OsStrExt;
 use std::process::ExitCode;
@@ -44,8 +44,14 @@ fn host(file: &OsStr, slice: u64) -> Result<(), String> {
         }
     }
     let mut data = unit.image().to_vec();
-    let Outcome { stop, place, .. } = run_in_slices(&unit, &mut data, slice);
-    println!("stop {} at {place}: {stop}", stop.number());
+    let outcome = run_in_slices(&unit, &mut data, slice);
+    let (number, place) = (outcome.stop.number(), outcome.place);
+    println!("stop {number} at {place}: {}", outcome.stop);
+    // A run that reached its end may have trapped errors.
+    if let Some(Trapped { error, statement }) = outcome.state.last_error() {
+        let number = error.number();
+        println!("last trapped error {number} at {statement}: {error}");
+    }
     println!("{}", shown(&data));
     Ok(())
 }

@@ -35,14 +35,14 @@ mod unit;
 
 pub use dibol_sys as ffi;
 pub use fence::{Breach, Verdict};
-pub use state::{Loop, State};
+pub use state::{Loop, State, Trapped};
 pub use stop::{Refusal, Stop};
 pub use unit::{Outcome, Unit};
 
-/// The version of the library that is linked: 200 is 0.2.0.
+/// The version of the library that is linked: 300 is 0.3.0.
 ///
 /// ```
-/// assert_eq!(dibol::version() / 100, 2);
+/// assert_eq!(dibol::version() / 100, 3);
 /// ```
 pub fn version() -> u64 {
     // SAFETY: the function takes nothing and reads nothing.

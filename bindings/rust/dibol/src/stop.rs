@@ -97,7 +97,8 @@ impl Stop {
         (1..=7).contains(&self.number())
     }
 
-    /// Whether a statement could not be completed, 20 to 29: it has changed nothing.
+    /// Whether a statement could not be completed, 20 to 29. One that stops a run has changed nothing;
+    /// one whose error was trapped has changed no data.
     pub fn is_run_error(self) -> bool {
         (20..=29).contains(&self.number())
     }

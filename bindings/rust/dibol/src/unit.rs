@@ -15,7 +15,7 @@ pub struct Unit<'a> {
 /// How a run stopped.
 #[derive(Clone, Copy, Debug, PartialEq, Eq)]
 pub struct Outcome {
-    /// Why it stopped.
+    /// Why it stopped. An error that was trapped does not stop a run: [`State::last_error`] tells.
     pub stop: Stop,
     /// The place that the stop names: the end, the statement of a run error, or the next statement.
     pub place: usize,
@@ -64,9 +64,9 @@ impl<'a> Unit<'a> {
     /// Runs the unit over a data buffer, from a resume state and for at most `allowance` statements.
     ///
     /// The buffer must be as long as the image (6) and the state sound for this unit (7); a refused
-    /// call changes nothing. A statement that ends in a run error has changed nothing: the state
-    /// stands at it. If the allowance is spent before the end, a further call with the state handed
-    /// back and the same buffer goes on as if there had been no stop.
+    /// call changes nothing. A statement that stops the run with an error has changed nothing: the
+    /// state stands at it. If the allowance is spent before the end, a further call with the state
+    /// handed back and the same buffer goes on as if there had been no stop.
     ///
     /// A new run takes [`State::START`]: from a finished state nothing is run. An allowance is not a
     /// time, and each call checks the unit first; docs/HOST.md has figures.

@@ -1,6 +1,6 @@
 //! The binding against the linked library: exact answers, as a host sees them.
 
-use dibol::{ffi, Breach, Loop, Refusal, State, Stop, Unit, Verdict};
+use dibol::{ffi, Breach, Loop, Refusal, State, Stop, Trapped, Unit, Verdict};
 
 /// The 42 bytes of document 01's example: INCR of "41", then STOP.
 const EXAMPLE: [u8; 42] = *b"41\x01\0\0\0\0\x02\0\x01\x02\0\0\0\
@@ -50,9 +50,9 @@ fn refusal(unit: &[u8]) -> Option<(u64, usize)> {
 #[test]
 fn the_state_has_the_librarys_length() {
     // SAFETY: the function takes nothing.
-    assert_eq!(unsafe { ffi::dibol_state_len() }, 101);
-    assert_eq!(<[u64; 101]>::from(State::START).len(), ffi::DIBOL_STATE_LEN);
-    assert_eq!(dibol::version(), 200);
+    assert_eq!(unsafe { ffi::dibol_state_len() }, 104);
+    assert_eq!(<[u64; 104]>::from(State::START).len(), ffi::DIBOL_STATE_LEN);
+    assert_eq!(dibol::version(), 300);
 }
 
 #[test]
@@ -102,8 +102,16 @@ fn a_refused_run_changes_nothing() {
         (55, 1),
         (100, u64::MAX),
     ];
-    for (entry, number) in calls.into_iter().chain(loops) {
-        let mut numbers = [0; 101];
+    let trapped = [
+        (101, 3),
+        (101, 65_536),
+        (102, 24),
+        (102, 256 + 22),
+        (103, 1),
+        (103, 65_536),
+    ];
+    for (entry, number) in calls.into_iter().chain(loops).chain(trapped) {
+        let mut numbers = [0; 104];
         numbers[entry] = number;
         let state = State::from(numbers);
         let mut data = *b"41";
@@ -199,11 +207,11 @@ fn an_open_loop_stands_in_the_state() {
     let (entry, limit, step) = (0, -1, -3);
     assert_eq!(half.state.open_loops(), 1);
     assert_eq!(half.state.loops()[0], Loop { entry, limit, step });
-    let numbers: [u64; 101] = half.state.into();
+    let numbers: [u64; 104] = half.state.into();
     let kept = [1, 0, -1_i64 as u64, -3_i64 as u64];
     assert_eq!(
         (&numbers[52..56], &numbers[56..]),
-        (&kept[..], &[0; 45][..])
+        (&kept[..], &[0; 48][..])
     );
     let end = unit.run(&mut data, half.state, 9);
     assert_eq!((end.stop, end.place, end.count), (Stop::End, 2, 2));
@@ -215,12 +223,71 @@ fn an_open_loop_stands_in_the_state() {
 fn a_loop_end_without_a_loop_is_29() {
     let bytes = downward();
     let unit = Unit::check(&bytes).unwrap();
-    let mut numbers = [0; 101];
+    let mut numbers = [0; 104];
     numbers[0] = 1;
     let mut data = *b"0";
     let outcome = unit.run(&mut data, State::from(numbers), 9);
     assert_eq!((outcome.stop, outcome.place), (Stop::NoLoop, 1));
     assert_eq!((outcome.count, data), (0, *b"0"));
+}
+
+/// An ONERROR to the STOP behind, between them an INCR of "q2", which is no number.
+fn trapping() -> Vec<u8> {
+    let fields = [(DECIMAL, 0, 2, 1)];
+    let statements = [(18, 0, 0, 2), (3, 0, 0, 0), (11, 0, 0, 0)];
+    coded(b"q2", &fields, b"\x02\0\0\0", b"", &statements)
+}
+
+#[test]
+fn a_trapped_error_stands_in_the_state() {
+    let bytes = trapping();
+    let unit = Unit::check(&bytes).unwrap();
+    assert_eq!(unit.fence(), Verdict::Yes);
+    let mut data = *b"q2";
+    let first = unit.run(&mut data, State::START, 1);
+    assert_eq!((first.stop, first.place), (Stop::Spent, 1));
+    assert_eq!(first.state.handler(), Some(2));
+    assert_eq!(first.state.last_error(), None);
+    let end = unit.run(&mut data, first.state, 9);
+    assert_eq!((end.stop, end.place, end.count), (Stop::End, 3, 2));
+    assert_eq!((end.state.handler(), data), (Some(2), *b"q2"));
+    let (error, statement) = (Stop::BadDigit, 1);
+    let trapped = end.state.last_error().unwrap();
+    assert_eq!(trapped, Trapped { error, statement });
+    assert_eq!(trapped.to_string(), "Bad digit encountered, at statement 1");
+    let numbers: [u64; 104] = end.state.into();
+    assert_eq!(numbers[101..], [3, 22, 1]);
+}
+
+#[test]
+fn without_a_handler_the_same_error_stops_the_run() {
+    let bytes = trapping();
+    let unit = Unit::check(&bytes).unwrap();
+    let mut numbers = [0; 104];
+    numbers[0] = 1;
+    let state = State::from(numbers);
+    let mut data = *b"q2";
+    let outcome = unit.run(&mut data, state, 9);
+    assert_eq!((outcome.stop, outcome.place), (Stop::BadDigit, 1));
+    assert_eq!((outcome.count, outcome.state), (0, state));
+    assert_eq!(outcome.state.last_error(), None);
+}
+
+#[test]
+fn saved_numbers_of_any_kind_can_be_looked_at() {
+    let seen = |handler, error, statement| {
+        let mut numbers = [0; 104];
+        numbers[101..].copy_from_slice(&[handler, error, statement]);
+        let state = State::from(numbers);
+        (state.handler(), state.last_error())
+    };
+    assert_eq!(seen(0, 0, 0), (None, None));
+    assert_eq!(seen(u64::MAX, 0, 9), (Some(u64::MAX - 1), None));
+    let (error, statement) = (Stop::Other(99), u64::MAX);
+    assert_eq!(
+        seen(1, 99, u64::MAX),
+        (Some(0), Some(Trapped { error, statement }))
+    );
 }
 
 #[test]
