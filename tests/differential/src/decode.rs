@@ -141,6 +141,11 @@ impl<'a> Sound<'a> {
         there.map(|i| self.statement(i).code).collect()
     }
 
+    /// The first code in that table that is not GOTO.
+    pub fn stray(&self, i: usize) -> Option<u8> {
+        self.table(i).into_iter().find(|&code| code != code::GOTO)
+    }
+
     /// Whether there is a statement `i`, and it has this code.
     pub fn is_code(&self, i: usize, code: u8) -> bool {
         i < self.statement_count() && self.statement(i).code == code

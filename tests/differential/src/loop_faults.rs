@@ -200,9 +200,7 @@ impl Loops {
         let statement = sound.statement(place);
         match (stop, statement.code) {
             (5, code::COMPUTED_GOTO) => {
-                let mut table = sound.table(place).into_iter();
-                let other = table.find(|&code| code != code::GOTO);
-                if let Some(code @ code::FOR..=code::NEXTLOOP) = other {
+                if let Some(code @ code::FOR..=code::NEXTLOOP) = sound.stray(place) {
                     self.0.count(&format!("5 for {} in a table", word(code)));
                 }
             }

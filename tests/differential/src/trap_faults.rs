@@ -55,9 +55,7 @@ impl Traps {
         let sound = Sound::of(unit);
         match sound.statement(place).code {
             code::COMPUTED_GOTO => {
-                let mut table = sound.table(place).into_iter();
-                let other = table.find(|&code| code != code::GOTO);
-                if let Some(code @ code::ONERROR..=code::OFFERROR) = other {
+                if let Some(code @ code::ONERROR..=code::OFFERROR) = sound.stray(place) {
                     self.0.count(&format!("5 for {} in a table", word(code)));
                 }
             }
