@@ -102,7 +102,7 @@ fn span_breach(
 // ---- references and items
 
 // What a reference breaks, before which the bounds s stand.
-fn reference_breach(
+pub fn reference_breach(
     unit: &[u8],
     parts: Parts,
     ahead: &[u16],

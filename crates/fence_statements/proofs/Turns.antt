@@ -41,7 +41,7 @@ aim-last dest false s at h e = sym (dest-some dest (itemsAt s at) (unclosed s at
 
 -- ---- the items that are left
 
-goes-on : (i : Item) (is : List Item) → closesb i ≡ false → follow i is ≡ i ∷ is
+pub goes-on : (i : Item) (is : List Item) → closesb i ≡ false → follow i is ≡ i ∷ is
 goes-on (item.Number place len) is e = refl
 goes-on (item.Reference h f) is e = refl
 goes-on (item.Text place len) is e = refl

@@ -40,7 +40,7 @@ pub fn keeps(b: Breach) -> bool
 }
 
 // Whether a reference that ends before the offset `next` is a destination: the last item of a place that is written.
-fn aimed(dest: bool, es: &[u8], next: usize) -> bool
+pub fn aimed(dest: bool, es: &[u8], next: usize) -> bool
     ensures { λ r. ⌜ r ≡ destb dest (itemsAt (now (es .entry)) next) ⌝ }
 {
     if dest {

@@ -146,7 +146,7 @@ module _ (c : Code) (s : SoundCode c) where
         (item-tells c s dest b j (before ++ (i ∷ after)) (k .0) .of (item-inner dest b j before before i after (h .0)))
         ∙ skip (seenAfter c b j) before i after (h .1) (k .1)
 
-    known-at : (before : List Item) (i : Item) (after : List Item) → Known c (before ++ (i ∷ after)) → itemb c i ≡ true
+    pub known-at : (before : List Item) (i : Item) (after : List Item) → Known c (before ++ (i ∷ after)) → itemb c i ≡ true
     known-at [] i after k = k .0
     known-at (j ∷ before) i after k = known-at before i after (k .1)
 

@@ -22,3 +22,9 @@ pub mod First
 pub mod Verdicts
 pub mod BadTexts
 pub mod Demand
+pub mod Few
+pub mod Validities
+pub mod Lists
+pub mod Heads
+pub mod LaidRows
+pub mod Offsets

@@ -2,6 +2,9 @@ pub mod Bounds
 pub mod Fence
 pub mod Breaches
 pub mod Reasons
+pub mod Listed
+pub mod Stands
 pub mod Destinations
+pub mod Validity
 pub mod Safety
 pub mod Answers

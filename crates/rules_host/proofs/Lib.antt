@@ -2,3 +2,4 @@ pub mod Listed
 pub mod Laid
 pub mod Short
 pub mod Resume
+pub mod Asked

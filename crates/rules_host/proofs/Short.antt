@@ -5,7 +5,7 @@ use Prim.Native.String.{String}
 use mathlib.Core.Bool.{Bool, true, false, cond}
 use lib.Dec.{T, leb, leb→le}
 use lib.ListN.{length}
-use Rattle.rules_host.specs.Words.{codes, stopText, wordsOf}
+use Rattle.rules_host.specs.Words.{codes, stopText, wordsOf, breachText, breachWordsOf}
 
 record Short (s : String) : Type 0 where
   pub most : length (codes s) ≤ 63
@@ -24,3 +24,11 @@ text-short n = search (either, counted) depth 24 fits 4000
 pub words-short : (n : ℕ) → length (wordsOf n) ≤ 63
 unfolding wordsOf
 words-short n = text-short n .most
+
+breach-short : (n : ℕ) → Short (breachText n)
+unfolding codes
+breach-short n = search (either, counted) depth 12 fits 4000
+
+pub breach-words-short : (n : ℕ) → length (breachWordsOf n) ≤ 63
+unfolding breachWordsOf
+breach-words-short n = breach-short n .most

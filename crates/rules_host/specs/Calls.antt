@@ -1,25 +1,37 @@
 -- What the functions for C answer and leave, over the rules of the unit, the run and the fence.
 --   checkTold, fenceTold, literalTold    the value answered, and the numbers put into the answer
+--   entryOf u i                          the field entry i of a unit, where it has one
+--   partsTold, fieldTold, invalidTold    the same of the parts, of a field entry and of valid data
 --   handedOf u d w m a                   what a run leaves of the data d, the state's numbers w and the answer a
 --   untouched n place d w a              .. where it is refused by n: nothing is changed, and the count is 0
 --   HostReads u d w m a h                what a host reads of what is left
 -- Assumes nothing.
-use Prim.Native.Nat.{ℕ, _≤_}
+use Prim.Native.Nat.{ℕ, _+_, _-_, _*_, _≤_}
 use mathlib.Core.Path.{_≡_}
 use mathlib.Core.Bool.{Bool, cond}
 use mathlib.Core.List.{List, [], _∷_}
-use lib.Dec.{leb}
+use lib.Dec.{ltb, leb}
 use Rattle.rules.specs.Tests.{_&&_}
+use Rattle.rules_unit.specs.declared.Kind.{Kind}
+use Rattle.rules_unit.specs.declared.Kind.the-variants as kind
+use Rattle.rules_unit.specs.declared.Rule.{Rule}
+use Rattle.rules_unit.specs.declared.Rule.the-variants as rule
 use Rattle.rules_unit.specs.declared.Checked.{Checked}
 use Rattle.rules_unit.specs.declared.Checked.the-variants as checked
 use Rattle.rules_unit.specs.declared.Stretch.{Stretch}
-use Rattle.rules_unit.specs.Checks.{refusalNumber, refusalPlace}
+use Rattle.rules_unit.specs.Codes.{ruleOf}
+use Rattle.rules_unit.specs.Decode.{codeOf}
+use Rattle.rules_unit.specs.Checks.{refusalNumber, refusalPlace, checkOf}
 use Rattle.rules_run.specs.Runs.{Ran, runOf}
 use Rattle.rules_run.specs.Stops.{stopNumber}
 use Rattle.rules_run.specs.Answers.{RunNumber, Does}
 use Rattle.rules_fence.specs.declared.Verdict.{Verdict}
 use Rattle.rules_fence.specs.declared.Verdict.the-variants as verdict
+use Rattle.rules_fence.specs.declared.Validity.{Validity}
+use Rattle.rules_fence.specs.declared.Validity.the-variants as validity
 use Rattle.rules_fence.specs.Breaches.{breachNumber, breachIn}
+use Rattle.rules_host.specs.declared.Entry.{Entry}
+use Rattle.rules_host.specs.declared.Entry.the-variants as entry
 use Rattle.rules_host.specs.Laid.{laid}
 use Rattle.rules_host.specs.Numbers.{numbersOf, stateOf}
 
@@ -47,6 +59,48 @@ fenceTold u (verdict.Refused r) a = told 2 (refusalNumber r ∷ refusalPlace r �
 -- The length; in the answer where the literal starts, and the length.
 abbrev pub literalTold : Stretch → List ℕ → Told
 literalTold s a = told (s .len) (s .at ∷ s .len ∷ []) a
+
+-- ---- parts, fields and valid data
+
+-- The stop; in the answer D, F, E, P, N and the most digits of a decimal.
+abbrev pub partsTold : Checked → List ℕ → Told
+partsTold (checked.Passed p) a = told 0 (p .d ∷ p .f ∷ p .e ∷ p .p ∷ p .n ∷ p .dialect .limit ∷ []) a
+partsTold (checked.Refused r) a = told (refusalNumber r) (0 ∷ 0 ∷ 0 ∷ 0 ∷ 0 ∷ 0 ∷ []) a
+
+abbrev pub entryBy : List ℕ → ℕ → Checked → Entry
+entryBy u i (checked.Passed p) = cond (ltb i (p .f)) (entry.Of (codeOf u p .field i)) entry.None
+entryBy u i (checked.Refused r) = entry.None
+
+unfoldable pub entryOf : List ℕ → ℕ → Entry
+entryOf u i = entryBy u i (checkOf u)
+
+-- "kind (0 alpha, 1 decimal, 2 record)"; no entry of a unit that passes its check is of another.
+abbrev pub kindNumber : Kind → ℕ
+kindNumber kind.Alpha = 0
+kindNumber kind.Decimal = 1
+kindNumber kind.Record = 2
+kindNumber kind.Bad = 3
+
+abbrev pub strictNumber : Rule → ℕ
+strictNumber rule.Loose = 0
+strictNumber rule.Strict = 1
+
+-- 1 where there is such an entry; in the answer its kind, offset, size and count, and 1 where it is strict.
+abbrev pub fieldTold : Entry → List ℕ → Told
+fieldTold entry.None a = told 0 (0 ∷ 0 ∷ 0 ∷ 0 ∷ 0 ∷ []) a
+fieldTold (entry.Of f) a = told 1 (kindNumber (f .kind) ∷ f .offset ∷ f .size ∷ f .count ∷ strictNumber (ruleOf f) ∷ []) a
+
+-- Where an element, from 1, starts in the data.
+abbrev pub startIn : Entry → ℕ → ℕ
+startIn entry.None k = 0
+startIn (entry.Of f) k = f .offset + (k - 1) * f .size
+
+-- 0 where all are valid, 1 to 6, or 22; in the answer that, the field, the element from 1 and where it starts.
+abbrev pub invalidTold : List ℕ → Validity → List ℕ → Told
+invalidTold u (validity.Refused r) a = told (refusalNumber r) (refusalNumber r ∷ 0 ∷ 0 ∷ 0 ∷ []) a
+invalidTold u validity.WrongSize a = told 6 (6 ∷ 0 ∷ 0 ∷ 0 ∷ []) a
+invalidTold u validity.AllValid a = told 0 (0 ∷ 0 ∷ 0 ∷ 0 ∷ []) a
+invalidTold u (validity.Invalid f k) a = told 22 (22 ∷ f ∷ k ∷ startIn (entryOf u f) k ∷ []) a
 
 -- ---- run
 

@@ -1,7 +1,8 @@
--- The words of the stops (document 01, "Stops and their numbers"). Those of 20 to 25 are the manuals' own.
---   stopText n   the words of the stop n, as a text; none where n is no stop
---   wordsOf n    the same as the codes of its characters
---   saidOf n t   what a call leaves that puts them into the text t: their whole length, and the text
+-- The words of the stops (document 01, "Stops and their numbers"), those of 20 to 25 being the manuals' own, and of the fence rules.
+--   stopText n     the words of the stop n, as a text; none where n is no stop
+--   wordsOf n      the same as the codes of its characters
+--   saidOf n t     what a call leaves that puts them into the text t: their whole length, and the text
+--   breachText n, breachWordsOf n, breachSaid n t    the same of the fence rule n
 -- Assumes nothing.
 use Prim.Native.Nat.{ℕ}
 use Prim.Native.Char.{code}
@@ -36,6 +37,17 @@ stopText n =
     (cond (eqb n 30) "The allowance was spent before the end"
     ""))))))))))))))))))
 
+-- The fence rules in their order, each as what breaks it.
+abbrev pub breachText : ℕ → String
+breachText n =
+    cond (eqb n 1) "A bound is not a literal"
+    (cond (eqb n 2) "The bounds give 21"
+    (cond (eqb n 3) "A span leaves its field"
+    (cond (eqb n 4) "A decimal span is not in one element"
+    (cond (eqb n 5) "A decimal destination ends inside its element"
+    (cond (eqb n 6) "An alpha destination shares a byte with a decimal field"
+    "")))))
+
 -- The codes of a text's characters.
 unfoldable pub codes : String → List ℕ
 codes [] = none
@@ -54,3 +66,9 @@ said ws t = record { size = length ws; text = laid ws t }
 
 unfoldable pub saidOf : ℕ → List ℕ → Said
 saidOf n t = said (wordsOf n) t
+
+unfoldable pub breachWordsOf : ℕ → List ℕ
+breachWordsOf n = codes (breachText n)
+
+unfoldable pub breachSaid : ℕ → List ℕ → Said
+breachSaid n t = said (breachWordsOf n) t

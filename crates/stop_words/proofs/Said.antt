@@ -1,4 +1,4 @@
--- The words of a stop: one law for every arm that puts a text, and one for a number that is no stop.
+-- The words of a stop and of a fence rule: one law for every arm that puts a text, and one for a number that has none.
 -- Assumes nothing.
 use Prim.Native.Nat.{ℕ}
 use mathlib.Core.Path.{_≡_, sym, ap, _∙_}
@@ -8,7 +8,7 @@ use Prim.Native.String.{String}
 use borrow.Author.Tests.{ne-eqb}
 use Rattle.rules.proofs.Walk.{cond-no}
 use Rattle.rules_host.specs.Laid.{laid}
-use Rattle.rules_host.specs.Words.{Said, said, codes, stopText, wordsOf, saidOf}
+use Rattle.rules_host.specs.Words.{Said, said, codes, stopText, wordsOf, saidOf, breachText, breachWordsOf, breachSaid}
 
 -- What `put` leaves.
 pub put-by : (xs l m : List ℕ) (n : ℕ) → n ≡ length xs → m ≡ laid xs l → _≡_ {A = Said} (record { size = n; text = m }) (said xs l)
@@ -25,3 +25,14 @@ unfolding saidOf wordsOf codes laid
 said-none n t e = ap (λ (x : String). said (codes x) t) e
 
 pub ruleset unsaid = (said-none, cond-no, ne-eqb)
+
+-- The same of a fence rule.
+pub breach-by : (n k : ℕ) (ws t : List ℕ) (z : Said) → n ≡ k → z ≡ said ws t → breachWordsOf k ≡ ws → z ≡ breachSaid n t
+unfolding breachSaid
+breach-by n k ws t z e f g = f ∙ ap (λ (x : List ℕ). said x t) (sym g) ∙ ap (λ (x : ℕ). said (breachWordsOf x) t) (sym e)
+
+pub breach-none : (n : ℕ) (t : List ℕ) → "" ≡ breachText n → _≡_ {A = Said} (record { size = 0; text = t }) (breachSaid n t)
+unfolding breachSaid breachWordsOf codes laid
+breach-none n t e = ap (λ (x : String). said (codes x) t) e
+
+pub ruleset unbroken = (breach-none, cond-no, ne-eqb)

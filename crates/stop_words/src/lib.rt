@@ -1,6 +1,6 @@
-// The stops of document 01 in words.
+// The stops of document 01 and the fence rules in words.
 ghost use mathlib.Core.Path.{_≡_};
-ghost use Rattle.rules_host.specs.Words.{Said, said, saidOf};
+ghost use Rattle.rules_host.specs.Words.{Said, said, saidOf, breachSaid};
 
 // Puts a text at the front of another, as many of its bytes as fit, and answers its whole length.
 fn put(from: &[u8], text: &mut [u8]) -> usize
@@ -46,6 +46,24 @@ pub fn words(stop: u64, text: &mut [u8]) -> usize
         28 => put(b"Loops nested to a depth greater than 16", text),
         29 => put(b"Loop end, EXITLOOP or NEXTLOOP with no loop open", text),
         30 => put(b"The allowance was spent before the end", text),
+        _ => 0,
+    }
+}
+
+// The words of a fence rule's number, put in the same way: what breaks it. A number that is no rule has no words: the answer is 0.
+pub fn breach_words(rule: u64, text: &mut [u8]) -> usize
+    ensures { λ r. ⌜ _≡_ {A = Said} (record { size = r; text = now (text .exit) }) (breachSaid rule (now (text .entry))) ⌝ }
+{
+    match rule {
+        1 => put(b"A bound is not a literal", text),
+        2 => put(b"The bounds give 21", text),
+        3 => put(b"A span leaves its field", text),
+        4 => put(b"A decimal span is not in one element", text),
+        5 => put(b"A decimal destination ends inside its element", text),
+        6 => put(
+            b"An alpha destination shares a byte with a decimal field",
+            text,
+        ),
         _ => 0,
     }
 }

@@ -1,0 +1,4 @@
+pub mod Gathering
+pub mod Laying
+pub mod Turns
+pub mod Statements
