@@ -6,7 +6,7 @@
 -- Assumes nothing.
 use native.Mathlib.Omega.{arith}
 use mathlib.Core.Path.{_≡_, refl, sym, subst}
-use mathlib.Core.List.{List, [], _∷_, _++_}
+use mathlib.Core.List.{[], _∷_}
 use Prim.Native.Nat.{ℕ, zero, suc, _<_, _≤_}
 use Rattle.rules_unit.specs.Decode.{markOf, partsOf, kindOf, fieldAt, referenceAt, numberAt, textAt, itemBy, itemAt, itemsIn, itemsAt, statementAt}
 use Rattle.rules_unit.specs.Table.{verbOf}
@@ -22,17 +22,7 @@ use Rattle.rules_unit.specs.Decode.{decoded}
 use Rattle.rules_fence.specs.Destinations.{PlaceNames, Covers, Destination}
 use Rattle.rules_fence.proofs.PlaceSpans.{spanFrom, placeSpan, names-span}
 use Rattle.rules_fence.proofs.Aims.{destination-exactly, aim-destination}
-use Rattle.promises.specs.Samples.{smear, chosen, named, cleared, read, copied, backward, figure, I, P, numbers, coded, plain, forAt, on-error, erring}
-
--- Of FOR I, where I is D2: I(1,1); I(P), whose bound is no literal; I(0,1), whose bounds give 21.
-abbrev part : List ℕ
-part = figure 1 ++ (figure 1 ++ (4 ∷ 0 ∷ 0 ∷ []))
-
-abbrev chosen-bound : List ℕ
-chosen-bound = P ++ (3 ∷ 0 ∷ 0 ∷ [])
-
-abbrev wrong-bounds : List ℕ
-wrong-bounds = figure 0 ++ (figure 1 ++ (4 ∷ 0 ∷ 0 ∷ []))
+use Rattle.promises.specs.Samples.{smear, chosen, named, cleared, read, copied, backward, figure, I, numbers, coded, plain, forAt, part, chosen-bound, wrong-bounds, on-error, erring}
 
 pub record Fences : Type 0 where
   -- "Each bound of 03, 04 and 05 is a number literal"

@@ -9,6 +9,7 @@
 --   allowances       a handler that fails, and allowances that end before it, or with the error
 --   open-as-before   the return numbers and the slots, where an error is trapped
 --   bad-digit-given, stopped-by-it    `Gives` of a trapped error, and of one that stops the run
+--   none-without-allowance            with an allowance of 0 no error is given
 --   fenced-text, text-given    the fence check says yes to a unit, and in a run of it 22 is given, by text that is moved to a decimal place
 -- Assumes nothing.
 use native.Mathlib.Omega.{arith}
@@ -18,16 +19,19 @@ use Prim.Native.Nat.{ℕ, _+_}
 use Prim.Native.String as string
 use lib.ListN.{length, set, replicate}
 use lib.IntN.{pos}
+use Rattle.rules.specs.declared.Fault.{Fault}
 use Rattle.rules.specs.declared.Fault.the-variants as fault
 use Rattle.rules.specs.Values.{readFrom, paddedRead, readOf}
 use Rattle.rules.specs.Moves.{placed, alphaFrom}
 use Rattle.rules_unit.specs.Decode.{markOf, partsOf, kindOf, fieldAt, referenceAt, numberAt, itemBy, itemAt, itemsIn, itemsAt, statementAt, decoded}
+use Rattle.rules_unit.specs.Codes.{Code}
 use Rattle.rules_unit.specs.Table.{verbOf}
 use Rattle.rules_unit.specs.Expressions.{digitsb, numberb, sortFrom, sortAt, extentOf, usesb}
 use Rattle.rules_unit.specs.Checks.{filledb, rangesb, choiceb, entryb, goodFields, gotosb, tableb, endb, rowb, shapeb, foundOf, statementsFrom, partsCheck, checkOf}
 use Rattle.rules_run.specs.declared.Caught.the-variants.{Error}
 use Rattle.rules_run.specs.declared.Caught.the-variants as caught
 use Rattle.rules_run.specs.declared.Handler.the-variants.{None, At}
+use Rattle.rules_run.specs.declared.State.{State}
 use Rattle.rules_run.specs.Spans.{within, subscriptSpan, spanOf}
 use Rattle.rules_run.specs.Evaluation.{calc, digitsFrom, literalNumber, reference, stepBy, placeBy, place, lastOf, workedFrom, workedOf}
 use Rattle.rules_run.specs.States.{noLoop, returnsb, loopb, emptyb, slotsb, soundb, started, armed}
@@ -256,6 +260,10 @@ pub stopped-by-it : Gives (decoded stopped) 2 started (bytes "q20") fault.BadDig
 unfolding readOf paddedRead readFrom markOf partsOf kindOf fieldAt referenceAt itemBy itemAt itemsIn itemsAt statementAt verbOf within spanOf calc reference stepBy placeBy place lastOf workedFrom workedOf applied turnBy turnOf movedBy
 stopped-by-it =
     record { done = 1; fewer = omega arith; at = armed started None; seen = bytes "q20"; reached = (omega arith, (armed started None, (refl, (refl, refl)))); low = omega arith; here = refl }
+
+-- "An allowance of 0 gives 30": no statement is begun, so none gives an error.
+pub none-without-allowance : (c : Code) (s : State) (d : List ℕ) (f : Fault) → Gives c 0 s d f → ⊥
+none-without-allowance c s d f g = omega (arith, g .fewer)
 
 -- "a bad digit can come only from moving alpha text to a decimal place", also where it is trapped
 pub fenced-text : fenceOf moves-text ≡ Yes

@@ -21,13 +21,17 @@
 --   goes-on-from-there       so that a further call goes on from that state
 --   begins-at-zeros          104 zeros are the state before the first statement
 --   goes-on-as-one           a run that is paused and gone on with comes to what one run comes to
---   words-fit                63 bytes have room for the words of every stop
+--   words-fit, breach-words-fit    63 bytes have room for the words of every stop and of every fence rule
+--   c-valid-exactly          `dibol_invalid` answers 0 exactly for a sound unit and data of its size whose decimal elements are all valid
+--   c-invalid-first          where it answers 22, the answer tells the first element that is not valid, and where that starts
+--   c-asked-cannot-slip      demand 3 where it is asked: `dibol_fence` answered 0, `dibol_invalid` answered 0, and the state is sound
+--   c-breaches-same          `dibol_breaches` answers and leaves what `dibol::breaches` does, of which Breaching has the theorems
 -- Assumes nothing.
 use Prim.Native.Nat.{ℕ, suc, _+_, _*_, _^_, _<_, _≤_}
 use mathlib.Core.Path.{_≡_, refl, sym, ap, _∙_, subst}
 use mathlib.Core.Logic.{_↔_}
 use mathlib.Core.Bool.{Bool, true, false}
-use mathlib.Core.List.{List}
+use mathlib.Core.List.{List, [], _∷_}
 use lib.IntN.{pos, negsuc}
 use lib.ListN.{length, getD, replicate}
 use lib.Dec.{eqb}
@@ -38,22 +42,41 @@ use Rattle.rules.specs.Tests.{_&&_}
 use Rattle.rules_unit.specs.declared.Parts.{Parts}
 use Rattle.rules_unit.specs.declared.Refusal.{Refusal}
 use Rattle.rules_unit.specs.declared.Checked.the-variants as checked
-use Rattle.rules_unit.specs.Decode.{decoded, codeOf}
+use Rattle.rules_unit.specs.Codes.{elementAt}
+use Rattle.rules_unit.specs.Decode.{partsOf, decoded, codeOf}
+use Rattle.rules_unit.specs.Sound.{SoundUnit}
 use Rattle.rules_unit.specs.Checks.{refusalNumber, refusalPlace, checkOf}
 use Rattle.rules_run.specs.declared.Caught.the-variants as caught
 use Rattle.rules_run.specs.declared.Handler.the-variants as handler
 use Rattle.rules_run.specs.declared.State.{State}
 use Rattle.rules_run.specs.States.{noLoop, Sound, started}
 use Rattle.rules_run.specs.declared.Stop.the-variants as stop
-use Rattle.rules_run.specs.Runs.{counting, runOf}
+use Rattle.rules_run.specs.Stops.{stopNumber}
+use Rattle.rules_run.specs.Runs.{Ran, counting, runOf}
 use Rattle.rules_run.specs.Answers.{Erred, StopNo, noOf, Given}
 use Rattle.rules_run.proofs.Resumed.{call-resumed}
+use Rattle.rules_fence.specs.declared.Verdict.the-variants as verdict
+use Rattle.rules_fence.specs.declared.Validity.{Validity}
+use Rattle.rules_fence.specs.declared.Validity.the-variants as validity
+use Rattle.rules_fence.specs.Breaches.{fenceOf}
+use Rattle.rules_fence.specs.Destinations.{AllValid}
+use Rattle.rules_fence.specs.Safety.{Safe, ErrorsSafe}
+use Rattle.rules_fence.specs.Listed.{breachesOf, Listed}
+use Rattle.rules_fence.specs.Listed as told
+use Rattle.rules_fence.specs.Validity.{validityOf, FirstInvalid}
+use Rattle.rules_fence.proofs.Validities.{validity-exactly}
+use Rattle.rules_host.specs.Laid.{laid}
 use Rattle.rules_host.specs.Words as words
-use Rattle.rules_host.proofs.Short.{words-short}
+use Rattle.rules_host.proofs.Short.{words-short, breach-words-short}
 use Rattle.rules_host.specs.Numbers.{word, handlerNumber, errorNumber, errorPlace, numberAt, numbersOf, Fits, goodFrom, stateb, stateOf}
-use Rattle.rules_host.specs.Calls.{Handed, refusedb, handedOf, untouched, HostReads}
+use Rattle.rules_host.specs.Calls.{Told, invalidTold, Handed, refusedb, handedOf, untouched, HostReads}
 use Rattle.rules_host.proofs.Listed as listed
 use Rattle.rules_host.proofs.Resume as resume
+use Rattle.rules_host.proofs.Asked.{valid-told, yes-told, invalid-told, host-safe}
+use Rattle.dibol.proofs.breaches.Reads as breaches
+use Rattle.dibol_c.proofs.dibol_breaches.Reads as c-breaches
+use Rattle.dibol_c.proofs.dibol_fence.Reads as c-fence
+use Rattle.dibol_c.proofs.dibol_invalid.Reads as c-invalid
 use Rattle.dibol_c.proofs.dibol_run.Reads as c-run
 
 -- ---- the contract of dibol_run
@@ -90,6 +113,61 @@ module _ (κs : Lifetimes.Lfts 4) (a : _) (r : ℕ) (s : _) (post : c-run.Post �
   -- The place is the one that `reads-the-same` finds in the answer.
   pub c-given-exactly : (x : StopNo) (place : ℕ) → (r ≡ noOf x) × (reads-the-same .ran .outcome .place ≡ place) ↔ Given unit bytes (stateOf numbers) allowance x place
   c-given-exactly = resume.host-given unit bytes numbers allowance answer left reads-the-same
+
+-- ---- the contracts of dibol_fence and dibol_invalid
+
+-- The arguments of `dibol_invalid` are the unit, the data and the answer.
+module _ (κs : Lifetimes.Lfts 3) (a : _) (r : ℕ) (s : _) (post : c-invalid.Post κs a r s) where
+  pub c-valid-exactly : (r ≡ 0) ↔ SoundUnit (now (a .0)) (partsOf (now (a .0))) × (length (now (a .1 .0)) ≡ partsOf (now (a .0)) .d) × AllValid (decoded (now (a .0))) (now (a .1 .0))
+  c-valid-exactly =
+      let e = ap (λ (x : Told). x .value) post in
+      let v = validity-exactly (now (a .0)) (now (a .1 .0)) validity.AllValid in (
+        λ z. v .0 (valid-told (now (a .0)) (validityOf (now (a .0)) (now (a .1 .0))) (now (a .1 .1 .0)) (sym e ∙ z)),
+        λ h. e ∙ ap (λ (x : Validity). invalidTold (now (a .0)) x (now (a .1 .1 .0)) .value) (v .1 h),
+      )
+
+  -- The second number is the field, the third the element from 1, the fourth its offset in the data.
+  pub c-invalid-first : r ≡ 22 → 4 ≤ length (now (a .1 .1 .0))
+      → (k : ℕ)
+      × (getD (now (s .1 .1 .0)) 2 0 ≡ k + 1)
+      × FirstInvalid (decoded (now (a .0))) (now (a .1 .0)) (getD (now (s .1 .1 .0)) 1 0) k
+      × (getD (now (s .1 .1 .0)) 3 0 ≡ elementAt (decoded (now (a .0))) (getD (now (s .1 .1 .0)) 1 0) k)
+  c-invalid-first = invalid-told (now (a .0)) (now (a .1 .0)) (now (a .1 .1 .0)) r (now (s .1 .1 .0)) post
+
+-- "Take a unit with a yes, a data buffer of its size whose decimal elements are all valid, a sound resume state and any allowance of statements."
+module _ (κf : Lifetimes.Lfts 2) (f : _) (fenced : ℕ) (sf : _) (fence-post : c-fence.Post κf f fenced sf) (yes : fenced ≡ 0)
+    (κd : Lifetimes.Lfts 3) (d : _) (found : ℕ) (sd : _) (invalid-post : c-invalid.Post κd d found sd) (all : found ≡ 0)
+    (κs : Lifetimes.Lfts 4) (a : _) (r : ℕ) (s : _) (post : c-run.Post κs a r s)
+    (fenced-unit : now (f .0) ≡ now (a .0)) (looked-unit : now (d .0) ≡ now (a .0)) (looked-data : now (d .1 .0) ≡ now (a .1 .0)) where
+  -- The run that is safe is the one that the host reads: its stop, its data, and in the answer its place and its count.
+  pub c-asked-cannot-slip : Sound (decoded (now (a .0))) (stateOf (now (a .1 .1 .0)))
+      → (ran : Ran)
+      × (r ≡ stopNumber (ran .outcome .stop))
+      × (now (s .1 .0) ≡ ran .bytes)
+      × (now (s .1 .1 .1 .1 .0) ≡ laid (stopNumber (ran .outcome .stop) ∷ ran .outcome .place ∷ ran .outcome .count ∷ []) (now (a .1 .1 .1 .1 .0)))
+      × Safe (decoded (now (a .0))) (now (a .1 .0)) ran
+      × ErrorsSafe (decoded (now (a .0))) (a .1 .1 .1 .0) (stateOf (now (a .1 .1 .0))) (now (a .1 .0))
+  c-asked-cannot-slip sound =
+      host-safe (now (a .0)) (now (a .1 .0)) (now (a .1 .1 .0)) (a .1 .1 .1 .0) (now (a .1 .1 .1 .1 .0))
+      (record { stop = r; bytes = now (s .1 .0); state = now (s .1 .1 .0); answer = now (s .1 .1 .1 .1 .0) }) post
+      (subst (λ (u : List ℕ). fenceOf u ≡ verdict.Yes) fenced-unit (yes-told (now (f .0)) (fenceOf (now (f .0))) (now (f .1 .0)) (sym (ap (λ (x : Told). x .value) fence-post) ∙ yes)))
+      (subst (λ (u : List ℕ). validityOf u (now (a .1 .0)) ≡ validity.AllValid) looked-unit
+      (subst (λ (x : List ℕ). validityOf (now (d .0)) x ≡ validity.AllValid) looked-data
+      (valid-told (now (d .0)) (validityOf (now (d .0)) (now (d .1 .0))) (now (d .1 .1 .0)) (sym (ap (λ (x : Told). x .value) invalid-post) ∙ all))))
+      sound
+
+-- ---- the contract of dibol_breaches
+
+-- Both are called with the same unit, skip and rows.
+pub c-breaches-same : (κs κs′ : Lifetimes.Lfts 2) (a a′ : _) (n n′ : ℕ) (s s′ : _) → c-breaches.Post κs a n s → breaches.Post κs′ a′ n′ s′
+    → now (a .0) ≡ now (a′ .0)
+    → a .1 .0 ≡ a′ .1 .0
+    → now (a .1 .1 .0) ≡ now (a′ .1 .1 .0)
+    → (n ≡ n′) × (now (s .1 .1 .0) ≡ now (s′ .1 .1 .0))
+c-breaches-same κs κs′ a a′ n n′ s s′ p q same-unit same-skip same-rows =
+    let e : told.listed (breachesOf (now (a .0))) (a .1 .0) (now (a .1 .1 .0)) ≡ told.listed (breachesOf (now (a′ .0))) (a′ .1 .0) (now (a′ .1 .1 .0)) = rw (same-unit, same-skip, same-rows) in
+    let f = p ∙ e ∙ sym q in
+    (ap (λ (x : Listed). x .count) f, ap (λ (x : Listed). x .rows) f)
 
 -- ---- one call
 
@@ -183,6 +261,9 @@ begins-at-zeros = resume.zeros-start
 
 pub words-fit : (n : ℕ) → length (words.wordsOf n) ≤ 63
 words-fit = words-short
+
+pub breach-words-fit : (n : ℕ) → length (words.breachWordsOf n) ≤ 63
+breach-words-fit = breach-words-short
 
 -- ---- pausing
 

@@ -18,6 +18,8 @@ pub mod Demand3
 pub mod Loops
 pub mod Slips
 pub mod Fences
+pub mod Breaching
+pub mod ValidData
 pub mod Masks
 pub mod Blanks
 pub mod Strict

@@ -1,5 +1,5 @@
--- The units of the examples, in their bytes, and how an example is asked: what the tables of Slips, Fences, Tour, Refusals, Corners, Moves, Blanks, Passes,
--- Strict and Handlers are made of.
+-- The units of the examples, in their bytes, and how an example is asked: what the tables of Slips, Fences, Breaching, ValidData, Tour, Refusals, Corners, Moves,
+-- Blanks, Passes, Strict and Handlers are made of.
 -- Assumes nothing.
 use mathlib.Core.Bool.{Bool, cond, _||_}
 use mathlib.Core.List.{List, [], _∷_, _++_}
@@ -443,6 +443,18 @@ looped held three end body = ends (ranOf (length (bytes held)) (loopOf held thre
 -- FOR I; INCR P; loop end.
 abbrev pub passes : string.String → List ℕ → Answer
 passes held three = looped held three 2 (plain 3 ∷ plain 15 ∷ [])
+
+-- ---- references that break a rule
+
+-- Of the field I, where it is D2: I(1,1), which ends inside its element; I(P), whose bound is no literal; I(0,1), whose bounds give 21.
+abbrev pub part : List ℕ
+part = figure 1 ++ (figure 1 ++ (4 ∷ 0 ∷ 0 ∷ []))
+
+abbrev pub chosen-bound : List ℕ
+chosen-bound = P ++ (3 ∷ 0 ∷ 0 ∷ [])
+
+abbrev pub wrong-bounds : List ℕ
+wrong-bounds = figure 0 ++ (figure 1 ++ (4 ∷ 0 ∷ 0 ∷ []))
 
 -- ---- handlers
 
