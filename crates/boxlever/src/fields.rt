@@ -28,8 +28,10 @@ use rules_unit::Field;
 use rules_unit::Parts;
 use rules_unit::Rule;
 
-// The columns of the table: where a field's bytes begin, where its size and its count end, where what is stored begins, and where its value in figures does.
+// The columns of the table: where a field's kind and its bytes begin, where its size and its count end, where what is stored begins, and where its value in
+// figures does.
 struct Columns {
+    kind: usize,
     span: usize,
     size: usize,
     count: usize,
@@ -37,12 +39,12 @@ struct Columns {
     value: usize,
 }
 
-// The column of the kinds, and where that of the bytes begins, without strict fields and with them.
+// The least column of the kinds, and how far behind it the bytes begin, without strict fields and with them.
 const KIND: usize = 7;
 
-const SPAN: usize = 16;
+const SPAN: usize = 9;
 
-const STRICT_SPAN: usize = 23;
+const STRICT_SPAN: usize = 16;
 
 // The most columns that the stored characters of a decimal field take in a row, and those of another.
 const DECIMAL_ROOM: usize = 28;
@@ -123,14 +125,14 @@ fn put_elements(
 }
 
 // Where the element i of a field starts: where those before it end.
-fn start_of(field: Field, i: u16) -> usize {
+pub fn start_of(field: Field, i: u16) -> usize {
     let mut before = field;
     before.count = i;
     unit_decode::end_of(before)
 }
 
 // The element i of a field.
-fn element_of(data: &[u8], field: Field, i: u16) -> &[u8] {
+pub fn element_of(data: &[u8], field: Field, i: u16) -> &[u8] {
     part(data, start_of(field, i), field.size as usize)
 }
 
@@ -182,7 +184,7 @@ fn widest(unit: &[u8], parts: Parts, data: &[u8], show: Show) -> usize {
 }
 
 // Whether a field is strict.
-fn is_strict(field: Field) -> bool {
+pub fn is_strict(field: Field) -> bool {
     match run_spans::rule_of(field) {
         Rule::Loose => false,
         Rule::Strict => true,
@@ -201,10 +203,23 @@ fn has_strict(unit: &[u8], parts: Parts) -> bool {
     false
 }
 
-// The columns of a table whose bytes begin at the column given, where stored characters take so many columns.
-fn columns_from(span: usize, width: usize) -> Columns {
+// How many columns the longest of the names takes.
+fn longest(unit: &[u8], parts: Parts, names: &[u8]) -> usize {
+    let mut longest = 0;
+    let mut i: u16 = 0;
+    while i < parts.f {
+        let l = put_name(new_line(), names, field_of(unit, parts, i), i);
+        longest = most(longest, width(l));
+        i += 1;
+    }
+    longest
+}
+
+// The columns of a table whose kinds and bytes begin at the columns given, where stored characters take so many columns.
+fn columns_from(kind: usize, span: usize, width: usize) -> Columns {
     let stored = sum(span, 26);
     Columns {
+        kind: kind,
         span: span,
         size: sum(span, 17),
         count: sum(span, 24),
@@ -214,12 +229,13 @@ fn columns_from(span: usize, width: usize) -> Columns {
 }
 
 // The columns of a unit's table.
-fn columns_of(unit: &[u8], parts: Parts, data: &[u8], show: Show) -> Columns {
+fn columns_of(unit: &[u8], parts: Parts, names: &[u8], data: &[u8], show: Show) -> Columns {
     let width = widest(unit, parts, data, show);
+    let kind = most(KIND, sum(longest(unit, parts, names), 2));
     if has_strict(unit, parts) {
-        return columns_from(STRICT_SPAN, width);
+        return columns_from(kind, sum(kind, STRICT_SPAN), width);
     }
-    columns_from(SPAN, width)
+    columns_from(kind, sum(kind, SPAN), width)
 }
 
 // ---- the first row of a field
@@ -234,10 +250,10 @@ pub fn put_span(l: Line, from: usize, len: usize) -> Line {
 }
 
 // Puts a field's name and kind, and whether it is strict.
-fn put_entry(l: Line, t: Columns, field: Field, i: u16) -> Line {
+fn put_entry(l: Line, t: Columns, names: &[u8], field: Field, i: u16) -> Line {
     let kind = field.kind;
-    let mut next = put_name(l, field, i);
-    next = fill_to(next, KIND);
+    let mut next = put_name(l, names, field, i);
+    next = fill_to(next, t.kind);
     next = put_text(
         next,
         piece(b"alpha|decimal|record|none|", kind_number(kind)),
@@ -336,9 +352,18 @@ fn say_rest(parts: Parts, data: &[u8], field: Field, t: Columns, show: Show) {
 // ---- the table
 
 // The rows of the field i over some data: all that it holds, or one with its first elements and how many more there are.
-fn say_field(unit: &[u8], parts: Parts, data: &[u8], i: u16, t: Columns, whole: bool, show: Show) {
+fn say_field(
+    unit: &[u8],
+    parts: Parts,
+    names: &[u8],
+    data: &[u8],
+    i: u16,
+    t: Columns,
+    whole: bool,
+    show: Show,
+) {
     let field = field_of(unit, parts, i);
-    let mut l = put_entry(line_for(show), t, field, i);
+    let mut l = put_entry(line_for(show), t, names, field, i);
     l = put_sizes(l, t, field);
     l = put_held(l, t, parts, data, field, 0);
     if whole {
@@ -352,22 +377,23 @@ fn say_field(unit: &[u8], parts: Parts, data: &[u8], i: u16, t: Columns, whole: 
 // The head of the table, after a line with nothing in it.
 fn say_head(t: Columns) {
     say(b"\n");
-    let mut l = fill_to(put_text(new_line(), b"field  kind"), t.span);
+    let mut l = fill_to(put_text(new_line(), b"field"), t.kind);
+    l = fill_to(put_text(l, b"kind"), t.span);
     l = put_text(l, b"bytes        size  count  stored");
     l = fill_to(l, t.value);
     say_line(put_text(l, b"value"));
 }
 
 // The fields of a unit, with what they hold in some data, the whole of it or its beginning. A unit without fields has no table.
-pub fn say_fields(unit: &[u8], parts: Parts, data: &[u8], whole: bool, show: Show) {
+pub fn say_fields(unit: &[u8], parts: Parts, names: &[u8], data: &[u8], whole: bool, show: Show) {
     if parts.f < 1 {
         return;
     }
-    let t = columns_of(unit, parts, data, show);
+    let t = columns_of(unit, parts, names, data, show);
     say_head(t);
     let mut i: u16 = 0;
     while i < parts.f {
-        say_field(unit, parts, data, i, t, whole, show);
+        say_field(unit, parts, names, data, i, t, whole, show);
         i += 1;
     }
 }

@@ -1,6 +1,9 @@
 // `boxlever list FILE`: the parts of a unit, its fields with what they hold, and its statements as text.
 use crate::fields::put_span;
 use crate::fields::say_fields;
+use crate::names::has_lines;
+use crate::names::label_of;
+use crate::names::source_line;
 use crate::parts::statement_of;
 use crate::phrase::put_statement;
 use crate::say::Line;
@@ -10,6 +13,7 @@ use crate::say::cut_to;
 use crate::say::fill_to;
 use crate::say::less;
 use crate::say::line_for;
+use crate::say::most;
 use crate::say::new_line;
 use crate::say::part;
 use crate::say::piece;
@@ -21,8 +25,11 @@ use crate::say::put_text;
 use crate::say::same;
 use crate::say::say;
 use crate::say::say_line;
+use crate::say::set;
 use crate::say::sum;
-use crate::words::GOOD;
+use crate::say::width;
+use crate::valid::status_of;
+use crate::valid::warn;
 use crate::words::REFUSED;
 use crate::words::put_breach;
 use crate::words::put_refused;
@@ -38,13 +45,19 @@ const BYTES: usize = 13;
 
 const ENTRIES: usize = 33;
 
-const OFFSET: usize = 11;
+// Where the numbers of the statements and those of their source lines end; and behind these where the offsets end, and where the bytes and the labels begin.
+const NUMBER: usize = 4;
 
-const CODED: usize = 13;
+const SOURCE: usize = 12;
 
-const LABEL: usize = 38;
+const OFFSET: usize = 7;
 
-const READS: usize = 45;
+const CODED: usize = 9;
+
+const LABEL: usize = 34;
+
+// The least room of a label with its colon and a space.
+const LABEL_ROOM: usize = 7;
 
 // The column up to which a marked statement is told; the longest mark, of 59 bytes, has room behind it.
 const UNMARKED: usize = 540;
@@ -86,6 +99,12 @@ fn say_parts(parts: Parts) -> usize {
 
 // ---- the statements
 
+// The columns of the statements: where their numbers end, or those of their source lines if there are any; and where their texts begin.
+struct Columns {
+    at: usize,
+    reads: usize,
+}
+
 // The statement that a statement goes to, or that is its loop end; one past the last where it names none.
 fn target_of(s: Statement, n: u16) -> u16 {
     let row = unit_decode::row_of(unit_decode::verb_of(s.code));
@@ -98,13 +117,6 @@ fn target_of(s: Statement, n: u16) -> u16 {
         | Role::Table
         | Role::Numbers
         | Role::Never => n,
-    }
-}
-
-// Writes a byte at an offset, or nothing past the end.
-fn set(t: &mut [u8], at: usize, b: u8) {
-    if at < t.len() {
-        t[at] = b;
     }
 }
 
@@ -130,12 +142,14 @@ fn put_coded(l: Line, s: &[u8]) -> Line {
     next
 }
 
-// Puts the label of a statement that is a target.
-fn put_label(l: Line, i: u16, mark: u8) -> Line {
-    if mark == 0 {
-        return l;
+// Puts the label of a statement that has one, or that is a target.
+fn put_label(l: Line, names: &[u8], i: u16, mark: u8) -> Line {
+    if label_of(names, i).len() == 0 {
+        if mark == 0 {
+            return l;
+        }
     }
-    put_form(l, b"L#:", i as u64, 0)
+    put(crate::names::put_label(l, names, i), b':')
 }
 
 // Puts the rule that the statement i breaks, if it breaks one.
@@ -153,22 +167,49 @@ fn offset_of(parts: Parts, i: u16) -> usize {
     sum(statements, i as usize * 8)
 }
 
-// Puts the number, the offset, the bytes and the label of the statement i.
-fn put_place(l: Line, unit: &[u8], parts: Parts, i: u16, mark: u8) -> Line {
+// Puts the number of the statement i, and that of its source line where the table has them.
+fn put_number(l: Line, t: Columns, names: &[u8], i: u16) -> Line {
+    let next = put_right(l, i as u64, NUMBER);
+    let line = source_line(names, i);
+    if line == 0 {
+        return next;
+    }
+    put_right(next, line as u64, t.at)
+}
+
+// Puts the numbers, the offset, the bytes and the label of the statement i.
+fn put_place(
+    l: Line,
+    unit: &[u8],
+    parts: Parts,
+    names: &[u8],
+    i: u16,
+    mark: u8,
+    t: Columns,
+) -> Line {
     let offset = offset_of(parts, i);
-    let mut next = put_right(l, i as u64, 4);
-    next = put_right(next, offset as u64, OFFSET);
-    next = fill_to(next, CODED);
+    let mut next = put_number(l, t, names, i);
+    next = put_right(next, offset as u64, sum(t.at, OFFSET));
+    next = fill_to(next, sum(t.at, CODED));
     next = put_coded(next, part(unit, offset, 8));
-    next = fill_to(next, LABEL);
-    next = put_label(next, i, mark);
-    fill_to(next, READS)
+    next = fill_to(next, sum(t.at, LABEL));
+    next = put_label(next, names, i, mark);
+    fill_to(next, t.reads)
 }
 
 // The row of the statement i. Before the first that breaks a rule none is asked for.
-fn say_statement(unit: &[u8], parts: Parts, i: u16, mark: u8, first: u16, show: Show) {
-    let mut l = put_place(line_for(show), unit, parts, i, mark);
-    l = put_statement(l, unit, parts, i);
+fn say_statement(
+    unit: &[u8],
+    parts: Parts,
+    names: &[u8],
+    i: u16,
+    mark: u8,
+    first: u16,
+    t: Columns,
+    show: Show,
+) {
+    let mut l = put_place(line_for(show), unit, parts, names, i, mark, t);
+    l = put_statement(l, unit, parts, names, i);
     if first <= i {
         l = put_broken(l, unit, i);
     }
@@ -176,21 +217,64 @@ fn say_statement(unit: &[u8], parts: Parts, i: u16, mark: u8, first: u16, show: 
 }
 
 // The rows of the statements, the targets among them being marked.
-fn say_rows(unit: &[u8], parts: Parts, marks: &[u8], first: u16, show: Show) {
+fn say_rows(
+    unit: &[u8],
+    parts: Parts,
+    names: &[u8],
+    marks: &[u8],
+    first: u16,
+    t: Columns,
+    show: Show,
+) {
     let mut i: u16 = 0;
     while i < parts.n {
-        say_statement(unit, parts, i, byte_at(marks, i as usize), first, show);
+        let mark = byte_at(marks, i as usize);
+        say_statement(unit, parts, names, i, mark, first, t, show);
         i += 1;
     }
 }
 
+// How many columns the longest of the labels takes, with its colon.
+fn longest(parts: Parts, names: &[u8], marks: &[u8]) -> usize {
+    let mut longest = 0;
+    let mut i: u16 = 0;
+    while i < parts.n {
+        let l = put_label(new_line(), names, i, byte_at(marks, i as usize));
+        longest = most(longest, width(l));
+        i += 1;
+    }
+    longest
+}
+
+// The columns of a unit's statements.
+fn columns_of(parts: Parts, names: &[u8], marks: &[u8]) -> Columns {
+    let at = if has_lines(names) { SOURCE } else { NUMBER };
+    let room = most(LABEL_ROOM, sum(longest(parts, names, marks), 2));
+    Columns {
+        at: at,
+        reads: sum(sum(at, LABEL), room),
+    }
+}
+
+// The head of the statements, after a line with nothing in it.
+fn say_columns(t: Columns) {
+    say(b"\n");
+    let mut l = put_text(new_line(), b"stmt");
+    if NUMBER < t.at {
+        l = put_text(l, b"    line");
+    }
+    l = fill_to(put_text(l, b"     at  coded"), t.reads);
+    say_line(put_text(l, b"reads as"));
+}
+
 // The statements of a unit, of which the first that breaks a rule is given. A unit has at most 2,048 of them.
-fn say_statements(unit: &[u8], parts: Parts, first: u16, show: Show) {
+fn say_statements(unit: &[u8], parts: Parts, names: &[u8], first: u16, show: Show) {
     let mut space = [0u8; 2048];
     let marks: &mut [u8] = &mut space;
-    say(b"\nstmt     at  coded                           reads as\n");
     mark_targets(unit, parts, marks);
-    say_rows(unit, parts, marks, first, show);
+    let t = columns_of(parts, names, marks);
+    say_columns(t);
+    say_rows(unit, parts, names, marks, first, t, show);
 }
 
 // ---- the whole
@@ -204,10 +288,10 @@ fn put_verdict(l: Line, v: Verdict) -> Line {
     }
 }
 
-// The first line of a unit that passes its check, and one with nothing in it.
+// The first line of a unit that passes its check.
 fn say_head(unit: &[u8], v: Verdict) {
     let l = put_form(new_line(), b"unit of # bytes", unit.len() as u64, 0);
-    say_line(put(put_verdict(l, v), b'\n'));
+    say_line(put_verdict(l, v));
 }
 
 // The first statement that breaks a rule; one past the last where none does.
@@ -218,13 +302,18 @@ fn first_of(v: Verdict, n: u16) -> u16 {
     }
 }
 
-// A unit that passes its check: what the fence says, its parts, its fields over its own data, and its statements.
-fn say_passed(unit: &[u8], parts: Parts, show: Show) {
+// A unit that passes its check: what the fence says and whether its own data has an invalid decimal, its parts, its fields over that data, and its statements; and
+// the exit status.
+fn say_passed(unit: &[u8], parts: Parts, names: &[u8], show: Show) -> u8 {
     let v = dibol::fence(unit);
+    let data = part(unit, 0, parts.d as usize);
     say_head(unit, v);
+    let warned = warn(unit, names, data, true, b"", show);
+    say(b"\n");
     let end = say_parts(parts);
-    say_fields(unit, parts, part(unit, 0, parts.d as usize), false, show);
-    say_statements(unit, parts, first_of(v, parts.n), show);
+    say_fields(unit, parts, names, data, false, show);
+    say_statements(unit, parts, names, first_of(v, parts.n), show);
+    status_of(warned)
 }
 
 // Says that the parts that the trailer names do not end where the unit does.
@@ -257,12 +346,9 @@ fn say_refused(unit: &[u8], r: Refusal) {
 }
 
 // All that a unit holds, as far as its check lets it be read; and the exit status.
-pub fn answer(unit: &[u8], show: Show) -> u8 {
+pub fn answer(unit: &[u8], names: &[u8], show: Show) -> u8 {
     match dibol::check(unit) {
-        Checked::Passed(parts) => {
-            say_passed(unit, parts, show);
-            GOOD
-        }
+        Checked::Passed(parts) => say_passed(unit, parts, names, show),
         Checked::Refused(r) => {
             say_refused(unit, r);
             REFUSED

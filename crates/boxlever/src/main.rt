@@ -1,28 +1,36 @@
 // The owner's program. Its first argument is a word: `boxlever --help` tells which there are.
+mod bounds;
+mod breaches;
 mod check;
 mod fence;
 mod fields;
 mod list;
+mod names;
 mod parts;
 mod phrase;
+mod picture;
 mod run;
 mod say;
+mod valid;
 mod words;
 
+use rules_unit::Checked;
+use say::Read;
 use say::Show;
 use say::argument;
 use say::byte_at;
-use say::is_read;
+use say::is_number;
 use say::new_line;
-use say::open;
+use say::number_in;
 use say::part;
 use say::piece;
 use say::put_given;
 use say::put_text;
+use say::read_file;
 use say::same;
 use say::sum;
 use say::tell_line;
-use say::tell_unread;
+use valid::tell_size;
 use words::FAILED;
 use words::GOOD;
 
@@ -37,16 +45,39 @@ const HELP: u8 = 4;
 
 const VERSION: u8 = 6;
 
-const NONE: u8 = 7;
+const WORDS: u8 = 7;
+
+// The options by their numbers, from --latin1, --plain and --raw to --first and --data, which have a value.
+const LATIN: u8 = 0;
+
+const RAW: u8 = 2;
+
+const FIRST: u8 = 3;
+
+const OPTIONS: u8 = 5;
+
+// What may be wrong with an option, by its piece in `wrong_option`.
+const NOTHING: u8 = 0;
+
+const UNKNOWN: u8 = 1;
+
+const NO_NUMBER: u8 = 2;
+
+const NO_FILE: u8 = 3;
 
 // The descriptor that the exit status is written to, where the wrapper asks for it.
 const STATUS: i32 = 3;
 
-// A call as far as it is understood: its word, what its options say, the argument that comes next, and whether that is no option.
+// A call as far as it is understood: its word; what its options say, the file of the data being named by an argument, or by none, which is 0; the argument that comes
+// next, what is wrong with it, and whether it is no option.
 struct Call {
     word: u8,
     show: Show,
+    plain: bool,
+    first: usize,
+    file: usize,
     at: usize,
+    wrong: u8,
     ready: bool,
 }
 
@@ -60,70 +91,151 @@ fn usage(what: &[u8], why: &[u8]) -> u8 {
     FAILED
 }
 
-// A file that cannot be read, first the reason, of the call that failed.
-fn unreadable(path: &[u8]) -> u8 {
-    tell_unread(path);
+// A file that cannot be read, for which the reason is told.
+fn unreadable() -> u8 {
     say::say(b"unreadable\n");
     FAILED
 }
 
-// What a word says of a unit, and the exit status.
-fn answer_unit(word: u8, show: Show, unit: &[u8]) -> u8 {
-    match word {
-        RUN => run::answer(unit, show),
-        FENCE => fence::answer(unit, show),
-        _ => list::answer(unit, show),
-    }
+// A file whose bytes are not as many as the data of a unit has.
+fn unfit(path: &[u8], n: usize, file: &[u8], d: usize) -> u8 {
+    tell_size(path, n, file, d);
+    say::say(b"wrong size\n");
+    FAILED
 }
 
-// The same of the unit in a file that is open. More bytes than the longest unit has are read, so that a longer file is refused.
-fn answer_open(word: u8, show: Show, path: &[u8], fd: i32) -> u8 {
-    let mut buf = io::large_buffer();
-    let n = io::read_full(fd, &mut buf);
-    if is_read(fd, n) {
-        return answer_unit(word, show, &buf[..n]);
-    }
-    unreadable(path)
-}
+// ---- the unit and its data
 
-// The same of the unit in a file.
-fn answer_file(word: u8, show: Show, path: &[u8]) -> u8 {
-    let fd = open(path);
-    if fd < 0 {
-        return unreadable(path);
-    }
-    let status = answer_open(word, show, path, fd);
-    let closed = libc::close(fd);
-    status
-}
-
-// The same of the unit in the file that an argument names.
-fn answer_argument(c: Call) -> u8 {
-    let mut path = io::buffer();
+// What the word of a call says of a unit over some data, its own or that of a file, and the exit status.
+fn answer_over(c: Call, unit: &[u8], names: &[u8], data: &[u8], own: bool, file: &[u8]) -> u8 {
+    let word = c.word;
     let show = c.show;
-    let n = argument(c.at, &mut path);
-    answer_file(c.word, show, &path[..n])
+    match word {
+        RUN => run::answer(unit, names, data, own, file, show),
+        FENCE => fence::answer(unit, names, data, own, file, c.first, show),
+        _ => list::answer(unit, names, show),
+    }
 }
 
-// What a word says of the one file that is named.
+// The same over the data of a file, if it has as many bytes as the unit's.
+fn answer_file(c: Call, path: &[u8], unit: &[u8], names: &[u8], d: usize, file: &[u8]) -> u8 {
+    let mut buf = io::large_buffer();
+    match read_file(file, &mut buf) {
+        Read::Whole(n) => {
+            if n != d {
+                return unfit(path, n, file, d);
+            }
+            answer_over(c, unit, names, part(&buf, 0, n), false, file)
+        }
+        Read::Failed(_) => unreadable(),
+    }
+}
+
+// The same over the data that the call names, of which the unit has so many bytes.
+fn answer_data(c: Call, path: &[u8], unit: &[u8], names: &[u8], d: usize) -> u8 {
+    if c.file == 0 {
+        return answer_over(c, unit, names, part(unit, 0, d), true, b"");
+    }
+    let mut file = io::buffer();
+    let n = argument(c.file, &mut file);
+    answer_file(c, path, unit, names, d, &file[..n])
+}
+
+// The same of a unit with its names. One that is refused is so whatever the data.
+fn answer_named(c: Call, path: &[u8], unit: &[u8], names: &[u8]) -> u8 {
+    match dibol::check(unit) {
+        Checked::Passed(parts) => answer_data(c, path, unit, names, parts.d as usize),
+        Checked::Refused(_) => answer_over(c, unit, names, part(unit, 0, 0), true, b""),
+    }
+}
+
+// The same of a unit by its name and its bytes.
+fn answer_unit(c: Call, path: &[u8], unit: &[u8]) -> u8 {
+    let mut space = io::large_buffer();
+    let n = names::read(path, unit, c.plain, &mut space);
+    answer_named(c, path, unit, part(&space, 0, n))
+}
+
+// The same of the unit in a file. More bytes than the longest unit has are read, so that a longer file is refused.
+fn answer_path(c: Call, path: &[u8]) -> u8 {
+    let mut buf = io::large_buffer();
+    match read_file(path, &mut buf) {
+        Read::Whole(n) => answer_unit(c, path, part(&buf, 0, n)),
+        Read::Failed(_) => unreadable(),
+    }
+}
+
+// Whether an argument is standard input. There is none with the number 0.
+fn is_input(at: usize) -> bool {
+    if at == 0 {
+        return false;
+    }
+    let mut name = io::buffer();
+    let n = argument(at, &mut name);
+    same(&name[..n], b"-")
+}
+
+// What a word says of the one file that is named. Standard input is read once.
 fn answer_one(name: &[u8], c: Call) -> u8 {
     if os::arg_count() != sum(c.at, 1) {
         return usage(name, b": one FILE is wanted");
     }
-    answer_argument(c)
+    if is_input(c.file) {
+        if is_input(c.at) {
+            return usage(b"--data", b": standard input is the unit already");
+        }
+    }
+    let mut path = io::buffer();
+    let n = argument(c.at, &mut path);
+    answer_path(c, &path[..n])
+}
+
+// The table of the files that are named, over the data of a file.
+fn check_over(c: Call, count: usize, file: &[u8]) -> u8 {
+    let mut buf = io::large_buffer();
+    let show = c.show;
+    match read_file(file, &mut buf) {
+        Read::Whole(n) => check::check_files(
+            c.at,
+            count,
+            c.plain,
+            false,
+            part(&buf, 0, n),
+            file,
+            show,
+        ),
+        Read::Failed(_) => unreadable(),
+    }
 }
 
 // The table of the files that are named.
 fn answer_check(c: Call) -> u8 {
     let count = os::arg_count();
     if count <= c.at {
-        return usage(b"check", b": FILES are wanted");
+        return usage(b"check", b": FILES or FOLDERS are wanted");
     }
-    let show = c.show;
-    check::check_files(c.at, count, show)
+    if c.file == 0 {
+        let show = c.show;
+        return check::check_files(c.at, count, c.plain, true, b"", b"", show);
+    }
+    let mut file = io::buffer();
+    let n = argument(c.file, &mut file);
+    check_over(c, count, &file[..n])
 }
 
 // ---- options
+
+// The place of a name among the first pieces of a text; their number where it is none of them.
+fn place_in(pieces: &[u8], name: &[u8], count: u8) -> u8 {
+    let mut k = 0;
+    while k < count {
+        if same(name, piece(pieces, k)) {
+            return k;
+        }
+        k += 1;
+    }
+    count
+}
 
 // Whether an argument begins as an option does: a lone `-` is a file.
 fn is_option(arg: &[u8]) -> bool {
@@ -133,33 +245,79 @@ fn is_option(arg: &[u8]) -> bool {
     byte_at(arg, 0) == b'-'
 }
 
-// Whether a word has an option.
-fn has_option(word: u8, arg: &[u8]) -> bool {
-    if same(arg, b"--latin1") {
-        return true;
-    }
-    if word != RUN {
-        return false;
-    }
-    same(arg, b"--raw")
+// Whether a word has the option k: a piece for each word has a 1 for each option that it has.
+fn has_option(word: u8, k: u8) -> bool {
+    let options = piece(b"11101|11011|11000|11001|", word);
+    byte_at(options, k as usize) == b'1'
 }
 
-// The call after an option; NONE is its word where the word has no such option.
-fn after_option(c: Call, arg: &[u8]) -> Call {
+// The call before an option that is wrong.
+fn wrong(c: Call, what: u8) -> Call {
     let mut next = c;
-    if !has_option(c.word, arg) {
-        next.word = NONE;
-        return next;
+    next.wrong = what;
+    next
+}
+
+// The call after so many arguments.
+fn moved(c: Call, by: usize) -> Call {
+    let mut next = c;
+    next.at = sum(c.at, by);
+    next
+}
+
+// The call after an option that says how many breaches are told.
+fn after_first(c: Call, value: &[u8]) -> Call {
+    if !is_number(value) {
+        return wrong(c, NO_NUMBER);
     }
+    let n = number_in(value);
+    if n == 0 {
+        return wrong(c, NO_NUMBER);
+    }
+    let mut next = moved(c, 2);
+    next.first = n;
+    next
+}
+
+// The call after the option k, which has a value.
+fn after_valued(c: Call, k: u8) -> Call {
+    let at = sum(c.at, 1);
+    if k == FIRST {
+        let mut value = io::buffer();
+        let n = argument(at, &mut value);
+        return after_first(c, &value[..n]);
+    }
+    if os::arg_count() <= at {
+        return wrong(c, NO_FILE);
+    }
+    let mut next = moved(c, 2);
+    next.file = at;
+    next
+}
+
+// The call after the option k, which has no value.
+fn after_flag(c: Call, k: u8) -> Call {
+    let mut next = moved(c, 1);
     let mut show = c.show;
-    if same(arg, b"--raw") {
-        show.raw = true;
-    } else {
-        show.letters = true;
+    match k {
+        LATIN => show.letters = true,
+        RAW => show.raw = true,
+        _ => next.plain = true,
     }
     next.show = show;
-    next.at = sum(c.at, 1);
     next
+}
+
+// The call after an option.
+fn after_option(c: Call, arg: &[u8]) -> Call {
+    let k = place_in(b"--latin1|--plain|--raw|--first|--data|", arg, OPTIONS);
+    if !has_option(c.word, k) {
+        return wrong(c, UNKNOWN);
+    }
+    if k < FIRST {
+        return after_flag(c, k);
+    }
+    after_valued(c, k)
 }
 
 // The call after its next argument. A `--` ends the options.
@@ -182,7 +340,7 @@ fn with_option(c: Call) -> Call {
     if c.ready {
         return c;
     }
-    if c.word == NONE {
+    if c.wrong != NOTHING {
         return c;
     }
     let mut arg = io::buffer();
@@ -190,7 +348,7 @@ fn with_option(c: Call) -> Call {
     taken(c, &arg[..n])
 }
 
-// The call after all of its options, or before one that its word does not have.
+// The call after all of its options, or before one that is wrong.
 fn with_options(c: Call) -> Call {
     let mut next = c;
     let mut left = os::arg_count();
@@ -201,11 +359,15 @@ fn with_options(c: Call) -> Call {
     next
 }
 
-// An option that a word does not have.
-fn no_option(at: usize) -> u8 {
+// A call with an option that is wrong.
+fn wrong_option(c: Call) -> u8 {
     let mut arg = io::buffer();
-    let n = argument(at, &mut arg);
-    usage(&arg[..n], b": there is no such option")
+    let n = argument(c.at, &mut arg);
+    let whys = b"|\
+        : there is no such option|\
+        : a number from 1 on is wanted|\
+        : a FILE is wanted|";
+    usage(&arg[..n], piece(whys, c.wrong))
 }
 
 // Answers a call by a word that takes files, whose options and files stand from an argument on.
@@ -216,15 +378,20 @@ fn answer_call(name: &[u8], word: u8, from: usize) -> u8 {
             raw: false,
             letters: false,
         },
+        plain: false,
+        first: 0,
+        file: 0,
         at: from,
+        wrong: NOTHING,
         ready: false,
     });
-    let k = c.word;
-    match k {
-        CHECK => answer_check(c),
-        NONE => no_option(c.at),
-        _ => answer_one(name, c),
+    if c.wrong != NOTHING {
+        return wrong_option(c);
     }
+    if c.word == CHECK {
+        return answer_check(c);
+    }
+    answer_one(name, c)
 }
 
 // ---- words
@@ -232,44 +399,27 @@ fn answer_call(name: &[u8], word: u8, from: usize) -> u8 {
 // Writes all that the program can be called with.
 fn help() -> u8 {
     say::say(
-        b"usage: boxlever run [OPTIONS] FILE       run the unit, then show its fields\n       boxlever fence [OPTIONS] FILE     show whether it can slip, and where\n       boxlever list [OPTIONS] FILE      show its parts, fields and statements\n       boxlever check [OPTIONS] FILES..  a row with the fence's answer for each\n\nFILE is a coded DIBOL unit, or - for standard input. A run starts from the\nunit's own data and takes at most 100,000 statements. A byte that cannot be\nprinted is shown as \\xHH, a backslash as \\\\.\n\noptions: --latin1  show the bytes A1 to FF, but AD, as the letters of Latin-1\n         --raw     of a run: leave the data, its second line, as it is\n         --        ends the options\n\nexample: boxlever fence fares.unit\n",
+        b"usage: boxlever run [OPTIONS] FILE       run the unit, then show its fields\n       boxlever fence [OPTIONS] FILE     show whether it can slip, where and why\n       boxlever list [OPTIONS] FILE      show its parts, fields and statements\n       boxlever check [OPTIONS] FILES..  a row with the fence's answer for each\n\nFILE is a coded DIBOL unit, or - for standard input; of check it may be a\nfolder, too, and stands for each *.unit below it. Fields and labels have the\nnames that X.names beside X.unit gives them, where it fits the unit. A run\ntakes at most 100,000 statements. A byte that cannot be printed is shown as\n\\xHH, a backslash as \\\\.\n\noptions: --data FILE  not of list: take the data in FILE, not the unit's own\n         --first N    of fence: tell N references, not 20\n         --latin1     show the bytes A1 to FF, but AD, as letters of Latin-1\n         --plain      name fields and labels by numbers: A0, D3, L7\n         --raw        of run: leave the data, its second line, as it is\n         --           ends the options\n\nstatus:  0 yes, or the end of a run; 1 no, a run that stopped, or a warning;\n         2 refused; 3 wrong usage, or a file that cannot be used\n\nexample: boxlever fence fares.unit\n",
     );
     GOOD
 }
 
 // Writes the version.
 fn version() -> u8 {
-    say::say(b"boxlever 0.3.0\n");
+    say::say(b"boxlever 0.4.0\n");
     GOOD
-}
-
-// Whether a name is that of the word k.
-fn is_word(name: &[u8], k: u8) -> bool {
-    let words = b"run|fence|list|check|--help|-h|--version|";
-    same(name, piece(words, k))
-}
-
-// The number of a word; NONE where there is no such word.
-fn number_of(name: &[u8]) -> u8 {
-    let mut k = 0;
-    while k < NONE {
-        if is_word(name, k) {
-            return k;
-        }
-        k += 1;
-    }
-    NONE
 }
 
 // Answers a call by its word; what belongs to it stands from an argument on.
 fn answer_word(name: &[u8], from: usize) -> u8 {
-    let k = number_of(name);
+    let words = b"run|fence|list|check|--help|-h|--version|";
+    let k = place_in(words, name, WORDS);
     if k < HELP {
         return answer_call(name, k, from);
     }
     match k {
         VERSION => version(),
-        NONE => usage(name, b": there is no such word"),
+        WORDS => usage(name, b": there is no such word"),
         _ => help(),
     }
 }

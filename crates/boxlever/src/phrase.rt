@@ -1,5 +1,9 @@
-// Statements and expressions as text, in the words of docs/DIBASM.md: a field is named by its kind and number, a target by its label.
+// Statements and expressions as text, in the words of docs/DIBASM.md: a field and a target have their names where they have one, else a field is named by its
+// kind and number, and a target by its number.
 // An expression is coded in postfix order. Its values stand as texts one after the other in the line, and an operator joins the last ones.
+use crate::names::field_name;
+use crate::names::put_label;
+use crate::names::source_line;
 use crate::parts::field_of;
 use crate::parts::literal_of;
 use crate::parts::next_of;
@@ -111,8 +115,12 @@ pub fn kind_number(kind: Kind) -> u8 {
     }
 }
 
-// Puts the name of a field.
-pub fn put_name(l: Line, field: Field, i: u16) -> Line {
+// Puts the name of the field i.
+pub fn put_name(l: Line, names: &[u8], field: Field, i: u16) -> Line {
+    let name = field_name(names, i);
+    if 0 < name.len() {
+        return put_text(l, name);
+    }
     let kind = field.kind;
     let next = put(l, byte_at(b"ADRF", kind_number(kind) as usize));
     put_number(next, i as u64)
@@ -140,9 +148,9 @@ fn put_bounds(l: Line, h: Held, form: Form) -> Line {
 }
 
 // A reference takes the values held last as its bounds, as many as its form has.
-fn hold_reference(h: Held, unit: &[u8], parts: Parts, form: Form, i: u16) -> Held {
+fn hold_reference(h: Held, unit: &[u8], parts: Parts, names: &[u8], form: Form, i: u16) -> Held {
     let taken = unit_decode::form_takes(form) as usize;
-    let mut l = put_name(line_before(h, taken), field_of(unit, parts, i), i);
+    let mut l = put_name(line_before(h, taken), names, field_of(unit, parts, i), i);
     if taken == 1 {
         l = put_value(l, h, 1, true);
     }
@@ -225,14 +233,14 @@ fn hold_operator(h: Held, op: Op) -> Held {
 // ---- expressions
 
 // The values held after an item.
-pub fn hold_item(h: Held, unit: &[u8], parts: Parts, item: Item) -> Held {
+pub fn hold_item(h: Held, unit: &[u8], parts: Parts, names: &[u8], item: Item) -> Held {
     let line = h.line;
     match item {
         Item::Number { place, len } => {
             let l = put_text(line, literal_of(unit, parts, place, len));
             hold(h, 0, l, TIGHTEST)
         }
-        Item::Reference { form, field } => hold_reference(h, unit, parts, form, field),
+        Item::Reference { form, field } => hold_reference(h, unit, parts, names, form, field),
         Item::Text { place, len } => {
             let l = put_quoted(line, literal_of(unit, parts, place, len));
             hold(h, 0, l, TIGHTEST)
@@ -269,7 +277,7 @@ pub fn is_done(h: Held, item: Item) -> bool {
 }
 
 // Puts the expression at an offset of the expressions. It has at most as many items as bytes.
-fn put_expression(l: Line, unit: &[u8], parts: Parts, e: u16) -> Line {
+fn put_expression(l: Line, unit: &[u8], parts: Parts, names: &[u8], e: u16) -> Line {
     let es = crate::parts::expressions_of(unit, parts);
     let mut h = none_held(l);
     let mut from = e as usize;
@@ -279,7 +287,7 @@ fn put_expression(l: Line, unit: &[u8], parts: Parts, e: u16) -> Line {
         if is_done(h, item) {
             break;
         }
-        h = hold_item(h, unit, parts, item);
+        h = hold_item(h, unit, parts, names, item);
         from = sum(from, unit_decode::width_of(item));
         left -= 1;
     }
@@ -289,8 +297,8 @@ fn put_expression(l: Line, unit: &[u8], parts: Parts, e: u16) -> Line {
 // ---- statements
 
 // Puts a target, and a comma where more are left.
-fn put_target(l: Line, target: u16, left: u16) -> Line {
-    let next = put_form(l, b"L#", target as u64, 0);
+fn put_target(l: Line, names: &[u8], target: u16, left: u16) -> Line {
+    let next = put_label(l, names, target);
     if 1 < left {
         return put(next, b',');
     }
@@ -298,7 +306,7 @@ fn put_target(l: Line, target: u16, left: u16) -> Line {
 }
 
 // Puts the targets of the n statements behind the statement i.
-fn put_targets(l: Line, unit: &[u8], parts: Parts, i: u16, n: u16) -> Line {
+fn put_targets(l: Line, unit: &[u8], parts: Parts, names: &[u8], i: u16, n: u16) -> Line {
     let mut next = l;
     let mut at = i;
     let mut left = n;
@@ -307,50 +315,58 @@ fn put_targets(l: Line, unit: &[u8], parts: Parts, i: u16, n: u16) -> Line {
             return next;
         }
         at += 1;
-        next = put_target(next, statement_of(unit, parts, at).c, left);
+        next = put_target(next, names, statement_of(unit, parts, at).c, left);
         left -= 1;
     }
     next
 }
 
 // Puts the three numbers in a row of which the first stands at an offset of the expressions.
-fn put_numbers(l: Line, unit: &[u8], parts: Parts, e: u16) -> Line {
+fn put_numbers(l: Line, unit: &[u8], parts: Parts, names: &[u8], e: u16) -> Line {
     let limit = next_of(unit, parts, e);
     let step = next_of(unit, parts, limit);
-    let mut next = put_expression(l, unit, parts, e);
-    next = put_expression(put_text(next, b" THRU "), unit, parts, limit);
-    put_expression(put_text(next, b" BY "), unit, parts, step)
+    let mut next = put_expression(l, unit, parts, names, e);
+    next = put_expression(put_text(next, b" THRU "), unit, parts, names, limit);
+    put_expression(put_text(next, b" BY "), unit, parts, names, step)
 }
 
 // Puts a part of the statement i, by its role: an expression, three in a row, a target, the targets of the statements behind it, or its loop end.
-fn put_part(l: Line, unit: &[u8], parts: Parts, i: u16, role: Role, x: u16) -> Line {
+fn put_part(l: Line, unit: &[u8], parts: Parts, names: &[u8], i: u16, role: Role, x: u16) -> Line {
     match role {
-        Role::Written(_) | Role::Read(_) => put_expression(l, unit, parts, x),
-        Role::Target => put_target(l, x, 1),
-        Role::Table => put_targets(l, unit, parts, i, x),
-        Role::Numbers => put_numbers(l, unit, parts, x),
-        Role::End => put_form(l, b", ends at L#", x as u64, 0),
+        Role::Written(_) | Role::Read(_) => put_expression(l, unit, parts, names, x),
+        Role::Target => put_label(l, names, x),
+        Role::Table => put_targets(l, unit, parts, names, i, x),
+        Role::Numbers => put_numbers(l, unit, parts, names, x),
+        Role::End => put_label(put_text(l, b", ends at "), names, x),
         Role::Unused | Role::Never => l,
     }
 }
 
 // Puts a letter of the words of the statement i, which is s: the letters a, b and c stand for its parts.
-fn put_letter(l: Line, unit: &[u8], parts: Parts, i: u16, s: Statement, letter: u8) -> Line {
+fn put_letter(
+    l: Line,
+    unit: &[u8],
+    parts: Parts,
+    names: &[u8],
+    i: u16,
+    s: Statement,
+    letter: u8,
+) -> Line {
     let row = unit_decode::row_of(unit_decode::verb_of(s.code));
     let a = row.a;
     let b = row.b;
     let c = row.c;
     match letter {
-        b'a' => put_part(l, unit, parts, i, a, s.a),
-        b'b' => put_part(l, unit, parts, i, b, s.b),
-        b'c' => put_part(l, unit, parts, i, c, s.c),
+        b'a' => put_part(l, unit, parts, names, i, a, s.a),
+        b'b' => put_part(l, unit, parts, names, i, b, s.b),
+        b'c' => put_part(l, unit, parts, names, i, c, s.c),
         _ => put(l, letter),
     }
 }
 
 // Puts the statement i as DIBOL writes it, in the words of its code: the pieces stand in the order of the codes, and a checked unit has no others.
 // A test that is false is zero, so what goes on elsewhere at zero goes there where the test does not hold.
-pub fn put_statement(l: Line, unit: &[u8], parts: Parts, i: u16) -> Line {
+pub fn put_statement(l: Line, unit: &[u8], parts: Parts, names: &[u8], i: u16) -> Line {
     let s = statement_of(unit, parts, i);
     let words = piece(
         b"none|\
@@ -378,14 +394,24 @@ pub fn put_statement(l: Line, unit: &[u8], parts: Parts, i: u16) -> Line {
     let mut next = l;
     let mut k = 0;
     while k < words.len() {
-        next = put_letter(next, unit, parts, i, s, words[k]);
+        next = put_letter(next, unit, parts, names, i, s, words[k]);
         k += 1;
     }
     next
 }
 
+// Puts the number of the statement i, and its source line where that is known.
+fn put_place(l: Line, names: &[u8], i: u16) -> Line {
+    let next = put_form(l, b"statement #", i as u64, 0);
+    let line = source_line(names, i);
+    if line == 0 {
+        return next;
+    }
+    put_form(next, b", line #", line as u64, 0)
+}
+
 // The statement i as text, with its number.
-pub fn say_statement(unit: &[u8], parts: Parts, i: u16, show: Show) {
-    let l = put_form(line_for(show), b"statement #: ", i as u64, 0);
-    say_line(put_statement(l, unit, parts, i));
+pub fn say_statement(unit: &[u8], parts: Parts, names: &[u8], i: u16, show: Show) {
+    let l = put_text(put_place(line_for(show), names, i), b": ");
+    say_line(put_statement(l, unit, parts, names, i));
 }

@@ -1,5 +1,5 @@
-// `boxlever run FILE`: what the bench program writes of the unit, with the data as it is shown; then the stop in words, the loops that are still open, what the fields
-// hold after the run, and the last error that was trapped.
+// `boxlever run FILE`: what the bench program writes of the unit, with the data as it is shown; then the stop in words, the loops that are still open, a warning where
+// the run began with an invalid decimal, what the fields hold after it, and the last error that was trapped.
 use crate::fields::say_fields;
 use crate::phrase::put_statement;
 use crate::phrase::say_statement;
@@ -14,7 +14,8 @@ use crate::say::put_text;
 use crate::say::say;
 use crate::say::say_line;
 use crate::say::say_shown;
-use crate::words::GOOD;
+use crate::valid::status_of;
+use crate::valid::warn;
 use crate::words::REFUSED;
 use crate::words::STOPPED;
 use crate::words::put_place;
@@ -48,9 +49,9 @@ fn say_stop(number: u8, count: u64) {
 }
 
 // The statement that could not be completed, or that would be the next; there is none at the end.
-fn say_place(unit: &[u8], parts: Parts, place: u16, show: Show) {
+fn say_place(unit: &[u8], parts: Parts, names: &[u8], place: u16, show: Show) {
     if place < parts.n {
-        say_statement(unit, parts, place, show);
+        say_statement(unit, parts, names, place, show);
     }
 }
 
@@ -64,7 +65,7 @@ fn put_value(l: Line, v: i64) -> Line {
 }
 
 // An open loop: its FOR, with the limit and the step that it was entered with.
-fn say_loop(unit: &[u8], parts: Parts, open: Loop, show: Show) {
+fn say_loop(unit: &[u8], parts: Parts, names: &[u8], open: Loop, show: Show) {
     let entry = open.entry;
     let mut l = put_form(
         line_for(show),
@@ -75,34 +76,36 @@ fn say_loop(unit: &[u8], parts: Parts, open: Loop, show: Show) {
     l = put_value(l, open.limit);
     l = put_value(put_text(l, b" by "), open.step);
     l = put_text(l, b": ");
-    say_line(put_statement(l, unit, parts, entry));
+    say_line(put_statement(l, unit, parts, names, entry));
 }
 
 // The loops that are still open, the one opened last first.
-fn say_loops(unit: &[u8], parts: Parts, state: State, show: Show) {
+fn say_loops(unit: &[u8], parts: Parts, names: &[u8], state: State, show: Show) {
     let loops = state.loops;
     let mut left = state.opened as usize;
     while 0 < left {
         left -= 1;
         if left < 16 {
-            say_loop(unit, parts, loops[left], show);
+            say_loop(unit, parts, names, loops[left], show);
         }
     }
 }
 
 // An error that was trapped, and its statement.
-fn say_error(unit: &[u8], parts: Parts, number: u8, statement: u16, show: Show) {
+fn say_error(unit: &[u8], parts: Parts, names: &[u8], number: u8, statement: u16, show: Show) {
     say(b"\n");
     let l = put_form(new_line(), b"last trapped error #: ", number as u64, 0);
     say_line(put_stop(l, number));
-    say_statement(unit, parts, statement, show);
+    say_statement(unit, parts, names, statement, show);
 }
 
 // The last error, where one was trapped.
-fn say_caught(unit: &[u8], parts: Parts, caught: Caught, show: Show) {
+fn say_caught(unit: &[u8], parts: Parts, names: &[u8], caught: Caught, show: Show) {
     match caught {
         Caught::None => {}
-        Caught::Error { number, statement } => say_error(unit, parts, number, statement, show),
+        Caught::Error { number, statement } => {
+            say_error(unit, parts, names, number, statement, show)
+        }
     }
 }
 
@@ -116,38 +119,62 @@ fn say_data(data: &[u8], show: Show) {
     say(b"\n");
 }
 
-// What is said of a run that is over.
-fn say_run(unit: &[u8], parts: Parts, data: &[u8], number: u8, out: Outcome, show: Show) {
+// What is said of how a run ended: the bench program's lines, the stop in words with its statement, and the open loops.
+fn say_end(unit: &[u8], parts: Parts, names: &[u8], data: &[u8], out: Outcome, show: Show) -> u8 {
+    let stop = out.stop;
+    let number = dibol::stop_number(stop);
     say_numbers(number, out.place, out.count);
     say_data(data, show);
     say_stop(number, out.count);
-    say_place(unit, parts, out.place, show);
-    say_loops(unit, parts, out.state, show);
-    say_fields(unit, parts, data, true, show);
-    let state = out.state;
-    let trap = state.trap;
-    let caught = trap.caught;
-    say_caught(unit, parts, caught, show);
-}
-
-// Runs a unit over its data, which starts as its image, the first bytes of the unit; and gives the stop.
-fn run_data(unit: &[u8], parts: Parts, data: &mut [u8], show: Show) -> u8 {
-    alpha::fit(data, unit);
-    let out = dibol::run(unit, data, dibol::start(), 100000);
-    let stop = out.stop;
-    let number = dibol::stop_number(stop);
-    say_run(unit, parts, data, number, out, show);
+    say_place(unit, parts, names, out.place, show);
+    say_loops(unit, parts, names, out.state, show);
     number
 }
 
-// Runs a unit that passes its check, and gives the exit status.
-fn run_unit(unit: &[u8], parts: Parts, show: Show) -> u8 {
-    let mut data = [0u8; 65536];
-    let end = parts.d as usize;
-    if run_data(unit, parts, &mut data[0..end], show) == 0 {
-        return GOOD;
+// What is said of what a run leaves: the fields, and the last error that was trapped.
+fn say_left(unit: &[u8], parts: Parts, names: &[u8], data: &[u8], out: Outcome, show: Show) {
+    say_fields(unit, parts, names, data, true, show);
+    let state = out.state;
+    let trap = state.trap;
+    let caught = trap.caught;
+    say_caught(unit, parts, names, caught, show);
+}
+
+// Runs a unit over data that starts as the bytes given, and gives the exit status.
+fn run_data(
+    unit: &[u8],
+    parts: Parts,
+    names: &[u8],
+    from: &[u8],
+    own: bool,
+    path: &[u8],
+    data: &mut [u8],
+    show: Show,
+) -> u8 {
+    alpha::fit(data, from);
+    let out = dibol::run(unit, data, dibol::start(), 100000);
+    let number = say_end(unit, parts, names, data, out, show);
+    let warned = warn(unit, names, from, own, path, show);
+    say_left(unit, parts, names, data, out, show);
+    if number == 0 {
+        return status_of(warned);
     }
     STOPPED
+}
+
+// Runs a unit that passes its check, and gives the exit status.
+fn run_unit(
+    unit: &[u8],
+    parts: Parts,
+    names: &[u8],
+    from: &[u8],
+    own: bool,
+    path: &[u8],
+    show: Show,
+) -> u8 {
+    let mut data = [0u8; 65536];
+    let end = parts.d as usize;
+    run_data(unit, parts, names, from, own, path, &mut data[0..end], show)
 }
 
 // Of a unit that is refused there is the first line and the reason.
@@ -160,10 +187,10 @@ fn say_refused(r: Refusal) {
     say_line(put_stop(l, number));
 }
 
-// Runs a unit from its own data, or tells why it is refused; and gives the exit status.
-pub fn answer(unit: &[u8], show: Show) -> u8 {
+// Runs a unit from some data, its own or that of a file, or tells why it is refused; and gives the exit status.
+pub fn answer(unit: &[u8], names: &[u8], data: &[u8], own: bool, path: &[u8], show: Show) -> u8 {
     match dibol::check(unit) {
-        Checked::Passed(parts) => run_unit(unit, parts, show),
+        Checked::Passed(parts) => run_unit(unit, parts, names, data, own, path, show),
         Checked::Refused(r) => {
             say_refused(r);
             REFUSED

@@ -17,6 +17,12 @@ pub struct Show {
     pub letters: bool,
 }
 
+// A file that was read, with its bytes as far as the buffer has room; or that could not be read, with the system's number of the reason.
+pub enum Read {
+    Whole(usize),
+    Failed(i32),
+}
+
 // A line in the making: its bytes up to `at`, how many of them take no column of their own, and whether it shows letters.
 pub struct Line {
     pub at: usize,
@@ -65,7 +71,7 @@ pub fn argument(i: usize, buf: &mut [u8]) -> usize
 }
 
 // Opens a file for reading, and answers its descriptor, or one below 0; `-` is standard input.
-pub fn open(path: &[u8]) -> i32 {
+fn open(path: &[u8]) -> i32 {
     if same(path, b"-") {
         return libc::STDIN_FILENO;
     }
@@ -74,7 +80,7 @@ pub fn open(path: &[u8]) -> i32 {
 
 // Whether a file was read to its end, or is longer than the buffer, where `io::read_full` gave n bytes of it. That gives what it has where
 // a read fails, too, as that of a folder does; then one byte more is asked for, and only at the end of a file there is none.
-pub fn is_read(fd: i32, n: usize) -> bool {
+fn is_read(fd: i32, n: usize) -> bool {
     if n == BUFFER {
         return true;
     }
@@ -83,11 +89,34 @@ pub fn is_read(fd: i32, n: usize) -> bool {
     got == 0
 }
 
-// Reports why a file cannot be read, right after the call that failed.
-pub fn tell_unread(path: &[u8]) {
+// Reports why a file cannot be read, right after the call that failed, and answers that.
+fn unread(path: &[u8]) -> Read {
+    let error = os::errno();
     let l = put_given(put_text(new_line(), b"boxlever: "), path);
     let text = l.text;
     os::fail(part(&text, 0, l.at));
+    Read::Failed(error)
+}
+
+// Reads a file that is open into a buffer.
+fn read_open(fd: i32, path: &[u8], buf: &mut [u8]) -> Read {
+    let n = io::read_full(fd, buf);
+    if is_read(fd, n) {
+        return Read::Whole(n);
+    }
+    unread(path)
+}
+
+// Reads a file into a buffer of so many bytes, and answers how many it has, or all that fit; or reports why it cannot be read. Standard input is closed
+// like any other file, since it is read once.
+pub fn read_file(path: &[u8], buf: &mut [u8]) -> Read {
+    let fd = open(path);
+    if fd < 0 {
+        return unread(path);
+    }
+    let got = read_open(fd, path, buf);
+    let closed = libc::close(fd);
+    got
 }
 
 // ---- numbers and texts
@@ -149,35 +178,96 @@ pub fn part(s: &[u8], at: usize, len: usize) -> &[u8] {
     &s[at..end]
 }
 
+// Writes a byte at an offset, or nothing past the end.
+pub fn set(t: &mut [u8], at: usize, b: u8) {
+    if at < t.len() {
+        t[at] = b;
+    }
+}
+
+// ---- numbers in figures
+
+// Whether a byte is a figure.
+pub fn is_figure(b: u8) -> bool {
+    if b < b'0' {
+        return false;
+    }
+    b <= b'9'
+}
+
+// Whether a text has figures alone.
+fn is_figures(s: &[u8]) -> bool {
+    let mut i = 0;
+    while i < s.len() {
+        if !is_figure(s[i]) {
+            return false;
+        }
+        i += 1;
+    }
+    true
+}
+
+// Whether a text is a number in figures, without leading zeros.
+pub fn is_number(s: &[u8]) -> bool {
+    if s.len() == 0 {
+        return false;
+    }
+    if 1 < s.len() {
+        if byte_at(s, 0) == b'0' {
+            return false;
+        }
+    }
+    is_figures(s)
+}
+
+// The number with one figure more behind it, or the greatest number.
+fn with_figure(n: usize, b: u8) -> usize {
+    if 99999999999999999 < n {
+        return usize::MAX;
+    }
+    sum(n * 10, (b % 16) as usize)
+}
+
+// The number that figures give, or the greatest number.
+pub fn number_in(s: &[u8]) -> usize {
+    let mut n = 0;
+    let mut i = 0;
+    while i < s.len() {
+        n = with_figure(n, s[i]);
+        i += 1;
+    }
+    n
+}
+
 // ---- pieces
 
 // How many pieces are left to pass after a byte.
-fn left_after(left: u8, b: u8) -> u8 {
-    if b != b'|' {
+fn left_after(left: u8, b: u8, mark: u8) -> u8 {
+    if b != mark {
         return left;
     }
     if left == 0 { 0 } else { left - 1 }
 }
 
-// Where the piece k starts.
-fn piece_at(pieces: &[u8], k: u8) -> usize {
+// Where the piece k starts, of those that a mark ends.
+fn piece_at(pieces: &[u8], k: u8, mark: u8) -> usize {
     let mut left = k;
     let mut i = 0;
     while i < pieces.len() {
         if left == 0 {
             return i;
         }
-        left = left_after(left, pieces[i]);
+        left = left_after(left, pieces[i], mark);
         i += 1;
     }
     i
 }
 
 // Where the piece ends that an offset is in.
-fn piece_end(pieces: &[u8], from: usize) -> usize {
+pub fn piece_end(pieces: &[u8], from: usize, mark: u8) -> usize {
     let mut i = from;
     while i < pieces.len() {
-        if pieces[i] == b'|' {
+        if pieces[i] == mark {
             return i;
         }
         i += 1;
@@ -185,11 +275,21 @@ fn piece_end(pieces: &[u8], from: usize) -> usize {
     i
 }
 
+// The piece k, of those that a mark ends.
+fn piece_by(pieces: &[u8], k: u8, mark: u8) -> &[u8] {
+    let from = piece_at(pieces, k, mark);
+    let end = piece_end(pieces, from, mark);
+    part(pieces, from, less(end, from))
+}
+
 // The piece k of a text in which a bar ends each piece.
 pub fn piece(pieces: &[u8], k: u8) -> &[u8] {
-    let from = piece_at(pieces, k);
-    let end = piece_end(pieces, from);
-    part(pieces, from, less(end, from))
+    piece_by(pieces, k, b'|')
+}
+
+// The word k of a text in which a space stands between two.
+pub fn word(s: &[u8], k: u8) -> &[u8] {
+    piece_by(s, k, b' ')
 }
 
 // ---- lines
@@ -278,6 +378,15 @@ pub fn put_form(l: Line, form: &[u8], x: u64, y: u64) -> Line {
         i += 1;
     }
     next
+}
+
+// Puts ` bytes 3 to 7`, or ` byte 3`.
+pub fn put_bytes(l: Line, from: usize, len: usize) -> Line {
+    if len < 2 {
+        return put_form(l, b" byte #", from as u64, 0);
+    }
+    let last = less(sum(from, len), 1);
+    put_form(l, b" bytes # to #", from as u64, last as u64)
 }
 
 // How many columns a line takes.

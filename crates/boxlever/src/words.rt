@@ -45,15 +45,19 @@ fn small(b: u8) -> u8 {
     b + 32
 }
 
-// Why a unit is refused, inside a line: the words begin with a small letter.
-pub fn put_refusal(l: Line, r: Refusal) -> Line {
-    let mut next = put_stop(l, dibol::refusal_number(r));
-    let text = next.text;
-    let at = l.at;
+// The line with the capital at an offset made small.
+fn lowered(l: Line, at: usize) -> Line {
+    let text = l.text;
+    let mut next = l;
     if at < ROOM {
         next.text[at] = small(text[at]);
     }
     next
+}
+
+// Why a unit is refused, inside a line: the words begin with a small letter.
+pub fn put_refusal(l: Line, r: Refusal) -> Line {
+    lowered(put_stop(l, dibol::refusal_number(r)), l.at)
 }
 
 // What a refusal's place is the number of, if it names one.
@@ -75,9 +79,31 @@ pub fn put_refused(l: Line, r: Refusal) -> Line {
     put_refusal(next, r)
 }
 
-// The fence rule that a statement breaks, in the order of the breaches' numbers.
+// The words of a fence rule, inside a line.
+fn put_broken(l: Line, rule: u64) -> Line {
+    let mut words = [0u8; 100];
+    let n = dibol::breach_words(rule, &mut words);
+    lowered(put_text(l, part(&words, 0, n)), l.at)
+}
+
+// The fence rule that a statement breaks.
 pub fn put_breach(l: Line, b: Breach) -> Line {
-    let rules =
-        b"no rule is broken|a bound is not a literal|the bounds give 21|a span leaves its field|a decimal span is not in one element|a decimal destination ends inside its element|an alpha destination shares a byte with a decimal field|";
-    put_text(l, piece(rules, dibol::breach_number(b)))
+    put_broken(l, dibol::breach_number(b) as u64)
+}
+
+// The number of a fence rule, and its words.
+pub fn put_rule(l: Line, rule: u16) -> Line {
+    put_broken(put_form(l, b"rule #, ", rule as u64, 0), rule as u64)
+}
+
+// How a breach of a fence rule is mended, in the order of the rules.
+pub fn put_mend(l: Line, rule: u16) -> Line {
+    let mends = b"nothing is to be mended|\
+        write the number: one statement for each element, reached by a computed GOTO or in a row|\
+        correct the bounds: a run gives 21 here|\
+        correct the bounds, or name the bytes by the fields that they are in, or by a record over both|\
+        name one element, as X(2), or a part of one|\
+        store the whole amount in one statement, or end at the element's last character|\
+        name the alpha fields one by one, or a record that has no decimal in it|";
+    put_text(put_text(l, b"mend: "), piece(mends, (rule % 256) as u8))
 }

@@ -6,10 +6,19 @@ use Rattle.boxlever.proofs.check.check_files.Statement.{statement}
 use Rattle.boxlever.proofs.check.check_files.Tie as tie
 
 abbrev Inv-loop : tie.InvT-loop
-Inv-loop from count show tally₀ i₀ tally i = Unit {0}
+Inv-loop from count plain own «data» file t tally₀ i₀ tally i = Unit {0}
 
 abbrev μ-loop : tie.MeasureT-loop
-μ-loop from count show tally₀ i₀ tally i = count - i
+μ-loop from count plain own «data» file t tally₀ i₀ tally i = count - i
+
+widest-requires : tie.Need-widest-requires Inv-loop μ-loop
+widest-requires c κs = search needs
+
+say-head-requires : tie.Need-say-head-requires Inv-loop μ-loop
+say-head-requires c κs = search needs
+
+no-tally-requires : tie.Need-no-tally-requires Inv-loop μ-loop
+no-tally-requires c κs = search needs
 
 loop-holds : tie.Need-loop-holds Inv-loop μ-loop
 loop-holds c = search needs
@@ -41,6 +50,9 @@ check-files-spec =
     (tie.spec
     Inv-loop
     μ-loop
+    widest-requires
+    say-head-requires
+    no-tally-requires
     loop-holds
     say-argument-requires
     add-i

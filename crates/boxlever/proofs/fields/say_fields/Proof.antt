@@ -6,10 +6,10 @@ use Rattle.boxlever.proofs.fields.say_fields.Statement.{statement}
 use Rattle.boxlever.proofs.fields.say_fields.Tie as tie
 
 abbrev Inv-loop : tie.InvT-loop
-Inv-loop unit parts «data» whole show t i₀ i = Unit {0}
+Inv-loop unit parts names «data» whole show t i₀ i = Unit {0}
 
 abbrev μ-loop : tie.MeasureT-loop
-μ-loop unit parts «data» whole show t i₀ i = parts .f - i
+μ-loop unit parts names «data» whole show t i₀ i = parts .f - i
 
 returns : tie.Need-returns Inv-loop μ-loop
 returns c = search needs

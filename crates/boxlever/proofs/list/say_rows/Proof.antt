@@ -6,10 +6,10 @@ use Rattle.boxlever.proofs.list.say_rows.Statement.{statement}
 use Rattle.boxlever.proofs.list.say_rows.Tie as tie
 
 abbrev Inv-loop : tie.InvT-loop
-Inv-loop unit parts marks first show i₀ i = Unit {0}
+Inv-loop unit parts names marks first t show i₀ i = Unit {0}
 
 abbrev μ-loop : tie.MeasureT-loop
-μ-loop unit parts marks first show i₀ i = parts .n - i
+μ-loop unit parts names marks first t show i₀ i = parts .n - i
 
 loop-holds : tie.Need-loop-holds Inv-loop μ-loop
 loop-holds c = search needs

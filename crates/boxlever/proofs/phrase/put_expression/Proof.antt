@@ -5,10 +5,10 @@ use Rattle.boxlever.proofs.phrase.put_expression.Statement.{statement}
 use Rattle.boxlever.proofs.phrase.put_expression.Tie as tie
 
 abbrev Inv-loop : tie.InvT-loop
-Inv-loop unit parts e es h₀ from₀ left₀ h from left = Unit {0}
+Inv-loop unit parts names e es h₀ from₀ left₀ h from left = Unit {0}
 
 abbrev μ-loop : tie.MeasureT-loop
-μ-loop unit parts e es h₀ from₀ left₀ h from left = left
+μ-loop unit parts names e es h₀ from₀ left₀ h from left = left
 
 expressions-of-requires : tie.Need-expressions-of-requires Inv-loop μ-loop
 expressions-of-requires c κs = search needs

@@ -7,10 +7,10 @@ use Rattle.boxlever.proofs.phrase.put_statement.Statement.{statement}
 use Rattle.boxlever.proofs.phrase.put_statement.Tie as tie
 
 abbrev Inv-loop : tie.InvT-loop
-Inv-loop unit parts i s words next₀ k₀ next k = Unit {0}
+Inv-loop unit parts names i s words next₀ k₀ next k = Unit {0}
 
 abbrev μ-loop : tie.MeasureT-loop
-μ-loop unit parts i s words next₀ k₀ next k = length words - k
+μ-loop unit parts names i s words next₀ k₀ next k = length words - k
 
 statement-of-requires : tie.Need-statement-of-requires Inv-loop μ-loop
 statement-of-requires c κs = search needs

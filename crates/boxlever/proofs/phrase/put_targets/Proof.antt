@@ -5,10 +5,10 @@ use Rattle.boxlever.proofs.phrase.put_targets.Statement.{statement}
 use Rattle.boxlever.proofs.phrase.put_targets.Tie as tie
 
 abbrev Inv-loop : tie.InvT-loop
-Inv-loop unit parts i n next₀ at₀ left₀ next at left = Unit {0}
+Inv-loop unit parts names i n next₀ at₀ left₀ next at left = Unit {0}
 
 abbrev μ-loop : tie.MeasureT-loop
-μ-loop unit parts i n next₀ at₀ left₀ next at left = left
+μ-loop unit parts names i n next₀ at₀ left₀ next at left = left
 
 loop-holds : tie.Need-loop-holds Inv-loop μ-loop
 loop-holds c = search needs

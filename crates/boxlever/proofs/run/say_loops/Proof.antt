@@ -5,10 +5,10 @@ use Rattle.boxlever.proofs.run.say_loops.Statement.{statement}
 use Rattle.boxlever.proofs.run.say_loops.Tie as tie
 
 abbrev Inv-loop : tie.InvT-loop
-Inv-loop unit parts show loops left₀ left = Unit {0}
+Inv-loop unit parts names show loops left₀ left = Unit {0}
 
 abbrev μ-loop : tie.MeasureT-loop
-μ-loop unit parts show loops left₀ left = left
+μ-loop unit parts names show loops left₀ left = left
 
 cast-left : tie.Need-cast-left Inv-loop μ-loop
 cast-left c = search needs

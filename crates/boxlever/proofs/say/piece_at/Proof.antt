@@ -7,10 +7,10 @@ use Rattle.boxlever.proofs.say.piece_at.Statement.{statement}
 use Rattle.boxlever.proofs.say.piece_at.Tie as tie
 
 abbrev Inv-loop : tie.InvT-loop
-Inv-loop pieces k left₀ i₀ left i = Unit {0}
+Inv-loop pieces k mark left₀ i₀ left i = Unit {0}
 
 abbrev μ-loop : tie.MeasureT-loop
-μ-loop pieces k left₀ i₀ left i = length pieces - i
+μ-loop pieces k mark left₀ i₀ left i = length pieces - i
 
 loop-holds : tie.Need-loop-holds Inv-loop μ-loop
 loop-holds c = search needs

@@ -7,10 +7,10 @@ use Rattle.boxlever.proofs.say.piece_end.Statement.{statement}
 use Rattle.boxlever.proofs.say.piece_end.Tie as tie
 
 abbrev Inv-loop : tie.InvT-loop
-Inv-loop pieces from i₀ i = Unit {0}
+Inv-loop pieces from mark i₀ i = Unit {0}
 
 abbrev μ-loop : tie.MeasureT-loop
-μ-loop pieces from i₀ i = length pieces - i
+μ-loop pieces from mark i₀ i = length pieces - i
 
 loop-holds : tie.Need-loop-holds Inv-loop μ-loop
 loop-holds c = search needs
