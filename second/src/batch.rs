@@ -2,10 +2,11 @@
 
 use crate::bench::bench;
 use crate::check::check;
-use crate::fence::{breach, fence, Fence};
+use crate::fence::{breach, breaches, fence, Fence};
 use crate::literal::literal_range;
 use crate::numbers::{run_numbers, STATE_LEN};
 use crate::stop::Refusal;
+use crate::validity::invalid;
 use std::str::FromStr;
 
 /// How an empty row of bytes, or of numbers that are all zero, is written.
@@ -21,9 +22,11 @@ const EMPTY: &str = "-";
 /// | `literal UNIT I` | `OFFSET LENGTH` in the unit, or `empty` |
 /// | `fence UNIT` | `yes`, `no I`, or `refused STOP PLACE` |
 /// | `breach UNIT I` | the number of the rule that statement I breaks, or 0 |
+/// | `breaches UNIT` | the eight numbers of each reference that breaks a rule |
+/// | `invalid UNIT DATA` | `valid`, `invalid FIELD ELEMENT OFFSET`, `wrong size`, or `refused STOP PLACE` |
 ///
-/// Bytes are in hex, the numbers of a state are joined by commas and end with the last that is not
-/// zero, and `-` stands where there are none.
+/// Bytes are in hex, the numbers of a state and of a reference are joined by commas, those of a state
+/// end with the last that is not zero, and `-` stands where there are none.
 pub fn answer(line: &str) -> Result<String, String> {
     let words: Vec<&str> = line.split_whitespace().collect();
     match words[..] {
@@ -39,6 +42,8 @@ pub fn answer(line: &str) -> Result<String, String> {
             let breach = breach(&bytes(unit)?, number(i)?);
             Ok(breach.map_or(0, |breach| breach.number()).to_string())
         }
+        ["breaches", unit] => Ok(breaches_answer(&bytes(unit)?)),
+        ["invalid", unit, data] => Ok(invalid(&bytes(unit)?, &bytes(data)?).to_string()),
         _ => Err("the line asks nothing that is known".to_string()),
     }
 }
@@ -72,6 +77,21 @@ fn fence_answer(unit: &[u8]) -> String {
         Fence::Yes => "yes".to_string(),
         Fence::No(i) => format!("no {i}"),
         Fence::Refused(Refusal { stop, place }) => format!("refused {stop} {place}"),
+    }
+}
+
+fn breaches_answer(unit: &[u8]) -> String {
+    let rows: Vec<String> = breaches(unit)
+        .map(|breaking| {
+            breaking
+                .numbers()
+                .map(|number| number.to_string())
+                .join(",")
+        })
+        .collect();
+    match rows[..] {
+        [] => EMPTY.to_string(),
+        _ => rows.join(" "),
     }
 }
 
@@ -139,6 +159,19 @@ mod tests {
         "000200010004000000024442"
     );
 
+    /// A question about SET of a record (field 1) over a decimal (0) from the element of the decimal
+    /// that it tells itself.
+    const BREAKING: &str = concat!(
+        "breaches ",
+        "3431",
+        "0100000000020001",
+        "0200000000020001",
+        "02000100",
+        "02000003000000",
+        "0100000000040000",
+        "00020002000B000000014442"
+    );
+
     /// The answer to a line, with the example for `UNIT`.
     fn answered(line: &str) -> Result<String, String> {
         answer(&line.replace("UNIT", EXAMPLE))
@@ -165,6 +198,15 @@ mod tests {
             ("fence UNIT", "yes"),
             ("fence -", "refused 1 0"),
             ("breach UNIT 0", "0"),
+            ("breaches UNIT", "-"),
+            ("breaches -", "-"),
+            (BREAKING, "0,6,1,1,2,0,2,0 0,1,0,0,3,0,0,7"),
+            ("invalid UNIT 3431", "valid"),
+            ("invalid UNIT 2070", "valid"),
+            ("invalid UNIT 343A", "invalid 0 1 0"),
+            ("invalid UNIT 34", "wrong size"),
+            ("invalid UNIT -", "wrong size"),
+            ("invalid - -", "refused 1 0"),
         ] {
             assert_eq!(answered(line).as_deref(), Ok(wanted), "{line}");
         }

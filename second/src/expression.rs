@@ -10,6 +10,9 @@ pub const HELD_MOST: usize = 16;
 /// The code of the item that closes an expression.
 pub const CLOSE: u8 = 0x00;
 
+/// The code of the operator that negates a value.
+pub const NEGATE: u8 = 0x15;
+
 /// One item of an expression.
 #[derive(Clone, Debug, PartialEq, Eq)]
 pub enum Item {
@@ -49,6 +52,16 @@ impl Form {
             0x04 => Form::StartEnd,
             0x05 => Form::PosLength,
             _ => unreachable!("{code:02X} is no reference"),
+        }
+    }
+
+    /// The code of the references of this form.
+    pub fn code(self) -> u8 {
+        match self {
+            Form::First => 0x02,
+            Form::Subscript => 0x03,
+            Form::StartEnd => 0x04,
+            Form::PosLength => 0x05,
         }
     }
 
@@ -114,7 +127,7 @@ pub fn item_at(expressions: &[u8], at: usize) -> Option<(Item, usize)> {
             let place = number_at(operands, 0);
             Item::Alpha(place..place + number_at(operands, 2))
         }
-        code @ (0x15 | 0x1C) => Item::One(code),
+        code @ (NEGATE | 0x1C) => Item::One(code),
         code @ 0x10..=0x1F => Item::Two(code),
         _ => return None,
     };
@@ -254,6 +267,13 @@ mod tests {
                 matches!(code, 0x00 | 0x03 | 0x15 | 0x1C),
                 "{code:02X}"
             );
+        }
+    }
+
+    #[test]
+    fn a_form_has_the_code_that_it_is_of() {
+        for code in 0x02..=0x05 {
+            assert_eq!(Form::of(code).code(), code);
         }
     }
 

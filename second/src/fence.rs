@@ -1,16 +1,14 @@
-//! The fence check: whether a unit keeps the fence rules, and why a statement does not.
+//! The fence check: whether a unit keeps the fence rules, why a statement does not, and which
+//! references break one.
 
 use crate::check::check;
 use crate::decimal;
-use crate::expression::{is_closed_at, item_at, three_from, Form, Item};
+use crate::expression::{is_closed_at, item_at, three_from, Form, Item, NEGATE};
 use crate::span::named;
 use crate::stop::Refusal;
-use crate::unit::{code, Field, Parts, Statement};
+use crate::unit::{code, Parts, Statement};
 use crate::work::SOUND;
 use std::ops::Range;
-
-/// The item that negates a value.
-const NEGATE: u8 = 0x15;
 
 /// The answer of the fence check.
 #[derive(Clone, Copy, Debug, PartialEq, Eq)]
@@ -58,6 +56,45 @@ impl Breach {
     }
 }
 
+/// A reference that breaks a fence rule.
+#[derive(Clone, Debug, PartialEq, Eq)]
+pub struct Breaking {
+    /// The statement that it stands in.
+    pub statement: usize,
+    /// The first rule that it breaks, whatever other references break.
+    pub rule: Breach,
+    /// Whether it names a destination.
+    pub is_written: bool,
+    /// The number of its field.
+    pub field: usize,
+    /// The code of its item, 02 to 05.
+    pub form: u8,
+    /// The span that it names, or `0..0` where it breaks one of the rules 1 and 2.
+    pub span: Range<usize>,
+    /// Where its item stands in the expressions.
+    pub offset: usize,
+    /// Where the expression that it stands in begins.
+    pub expression: usize,
+}
+
+impl Breaking {
+    /// The eight numbers that it is for hosts in C: statement, rule, 1 for a destination and 0 for
+    /// what is read, field, form, start and length of the span, and the item's offset.
+    pub fn numbers(&self) -> [u64; 8] {
+        [
+            self.statement,
+            usize::from(self.rule.number()),
+            usize::from(self.is_written),
+            self.field,
+            usize::from(self.form),
+            self.span.start,
+            self.span.len(),
+            self.offset,
+        ]
+        .map(|number| number as u64)
+    }
+}
+
 /// The fence check. Unreachable statements count too.
 pub fn fence(unit: &[u8]) -> Fence {
     let parts = match check(unit) {
@@ -65,7 +102,7 @@ pub fn fence(unit: &[u8]) -> Fence {
         Err(refusal) => return Fence::Refused(refusal),
     };
     (0..parts.statement_count())
-        .find(|&i| statement_breach(&parts, i).is_some())
+        .find(|&i| !statement_breaches(&parts, i).is_empty())
         .map_or(Fence::Yes, Fence::No)
 }
 
@@ -73,25 +110,46 @@ pub fn fence(unit: &[u8]) -> Fence {
 /// references left to right and the rules of each in their order. There is none if the statement
 /// keeps the rules, is not there, or the unit is refused.
 pub fn breach(unit: &[u8], i: usize) -> Option<Breach> {
-    check(unit)
-        .ok()
-        .and_then(|parts| statement_breach(&parts, i))
+    let parts = check(unit).ok()?;
+    let first = statement_breaches(&parts, i).into_iter().next();
+    first.map(|reference| reference.rule)
 }
 
-fn statement_breach(parts: &Parts, i: usize) -> Option<Breach> {
-    let Statement { code, a, b, c, .. } = parts.statement(i)?;
-    let written = |offset| expression_breach(parts, offset, true);
-    let read = |offset| expression_breach(parts, offset, false);
+/// Every reference that breaks a fence rule: statement by statement, a before b before c, left to
+/// right. There is none if the unit keeps the rules or is refused. One that stands in several
+/// statements, or in two parts of one, comes for each.
+pub fn breaches(unit: &[u8]) -> impl Iterator<Item = Breaking> + '_ {
+    check(unit).into_iter().flat_map(|parts| {
+        let statements = 0..parts.statement_count();
+        statements.flat_map(move |i| statement_breaches(&parts, i))
+    })
+}
+
+/// The references of statement `i` that break a rule; none if there is no such statement.
+fn statement_breaches(parts: &Parts, i: usize) -> Vec<Breaking> {
+    let statement = parts.statement(i);
+    let expressions = statement.map_or(vec![], |statement| expressions(parts, &statement));
+    expressions
+        .into_iter()
+        .flat_map(|(offset, is_place)| references(parts, offset, is_place))
+        .filter_map(|reference| breaking(parts, i, reference))
+        .collect()
+}
+
+/// The offsets of a statement's expressions, in the order in which they are worked out, each with
+/// whether it is a place to be written.
+fn expressions(parts: &Parts, statement: &Statement) -> Vec<(usize, bool)> {
+    let Statement { code, a, b, c, .. } = *statement;
     match code {
-        code::SET => written(a).or_else(|| read(b)),
-        code::CLEAR..=code::LOCASE => written(a),
-        code::GOTO_IF_ZERO | code::COMPUTED_GOTO => read(b),
-        code::FORMAT => written(a).or_else(|| read(b)).or_else(|| read(c)),
+        code::SET => vec![(a, true), (b, false)],
+        code::CLEAR..=code::LOCASE => vec![(a, true)],
+        code::GOTO_IF_ZERO | code::COMPUTED_GOTO => vec![(b, false)],
+        code::FORMAT => vec![(a, true), (b, false), (c, false)],
         code::FOR => {
-            let numbers = three_from(parts.expressions, b).expect(SOUND);
-            written(a).or_else(|| numbers.into_iter().find_map(read))
+            let [start, limit, step] = three_from(parts.expressions, b).expect(SOUND);
+            vec![(a, true), (start, false), (limit, false), (step, false)]
         }
-        _ => None,
+        _ => vec![],
     }
 }
 
@@ -122,25 +180,41 @@ impl Known {
     }
 }
 
-/// The first rule broken in the expression at `offset`, whose last reference is a destination if
-/// the expression is a place to be written.
-fn expression_breach(parts: &Parts, offset: usize, is_written: bool) -> Option<Breach> {
+/// A reference as it stands in an expression.
+struct Reference {
+    /// Where the expression begins.
+    expression: usize,
+    /// Where its item stands in the expressions.
+    offset: usize,
+    form: Form,
+    /// The number of its field.
+    field: usize,
+    bounds: Vec<Known>,
+    /// Whether it names a destination.
+    is_written: bool,
+}
+
+/// The references in the expression at `offset`, left to right. The last item is a destination if
+/// the expression is a place to be written; what stands in its bounds is read.
+fn references(parts: &Parts, offset: usize, is_place: bool) -> Vec<Reference> {
+    let mut found = Vec::new();
     let mut held: Vec<Known> = Vec::new();
     let mut at = offset;
     loop {
         let (item, next) = item_at(parts.expressions, at).expect(SOUND);
         let given = match item {
-            Item::Close => return None,
+            Item::Close => return found,
             Item::Number(range) => Known::Literal(decimal::read_literal(&parts.literals[range])),
             Item::Alpha(_) => Known::Other,
             Item::Reference { form, field } => {
-                let bounds = held.split_off(held.len() - form.bounds());
-                let field = parts.field(field).expect(SOUND);
-                let is_destination = is_written && is_closed_at(parts.expressions, next);
-                let breach = reference_breach(parts, &field, form, &bounds, is_destination);
-                if breach.is_some() {
-                    return breach;
-                }
+                found.push(Reference {
+                    expression: offset,
+                    offset: at,
+                    form,
+                    field,
+                    bounds: held.split_off(held.len() - form.bounds()),
+                    is_written: is_place && is_closed_at(parts.expressions, next),
+                });
                 Known::Other
             }
             Item::One(code) => {
@@ -161,34 +235,47 @@ fn expression_breach(parts: &Parts, offset: usize, is_written: bool) -> Option<B
     }
 }
 
-/// The first rule that a reference breaks.
-fn reference_breach(
-    parts: &Parts,
-    field: &Field,
-    form: Form,
-    bounds: &[Known],
-    is_destination: bool,
-) -> Option<Breach> {
+/// What is told of a reference of statement `i` that breaks a rule: of the rules, the first.
+fn breaking(parts: &Parts, i: usize, reference: Reference) -> Option<Breaking> {
+    let (rule, span) = match span_of(parts, &reference) {
+        Ok(span) => (span_breach(parts, &reference, &span)?, span),
+        Err(rule) => (rule, 0..0),
+    };
+    Some(Breaking {
+        statement: i,
+        rule,
+        is_written: reference.is_written,
+        field: reference.field,
+        form: reference.form.code(),
+        span,
+        offset: reference.offset,
+        expression: reference.expression,
+    })
+}
+
+/// The span that a reference always names, or why there is none: rules 1 and 2.
+fn span_of(parts: &Parts, reference: &Reference) -> Result<Range<usize>, Breach> {
     let mut values = [0; 2];
-    for (value, known) in values.iter_mut().zip(bounds) {
-        match known.bound() {
-            Some(bound) => *value = bound,
-            None => return Some(Breach::BoundNotLiteral),
-        }
+    for (value, known) in values.iter_mut().zip(&reference.bounds) {
+        *value = known.bound().ok_or(Breach::BoundNotLiteral)?;
     }
     // "the bounds are ones that 21 isn't given for, and the span lies inside the field's size x
     // count bytes": a span "must stay inside the D bytes. Otherwise 21." Whether the field is strict
     // is not asked, since every field is held to its bytes here.
-    let Some(span) = named(field, form, values, parts.image.len()) else {
-        return Some(Breach::BoundsWrong);
-    };
-    if !field.holds(&span) {
+    let field = parts.field(reference.field).expect(SOUND);
+    named(&field, reference.form, values, parts.image.len()).ok_or(Breach::BoundsWrong)
+}
+
+/// The first of the rules 3 to 6 that a reference with this span breaks.
+fn span_breach(parts: &Parts, reference: &Reference, span: &Range<usize>) -> Option<Breach> {
+    let field = parts.field(reference.field).expect(SOUND);
+    if !field.holds(span) {
         return Some(Breach::LeavesField);
     }
     if field.is_decimal() {
         let inside = span.start - field.offset..span.end - field.offset;
-        decimal_breach(field.size, inside, is_destination)
-    } else if is_destination {
+        decimal_breach(field.size, inside, reference.is_written)
+    } else if reference.is_written {
         shares_decimal(parts, span).then_some(Breach::OnDecimal)
     } else {
         None
@@ -207,7 +294,7 @@ fn decimal_breach(size: usize, inside: Range<usize>, is_destination: bool) -> Op
 }
 
 /// Whether a span of the data shares a byte with a decimal field.
-fn shares_decimal(parts: &Parts, span: Range<usize>) -> bool {
+fn shares_decimal(parts: &Parts, span: &Range<usize>) -> bool {
     (0..parts.field_count())
         .filter_map(|i| parts.field(i))
         .any(|field| field.is_decimal() && field.offset < span.end && span.start < field.end())

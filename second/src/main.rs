@@ -1,24 +1,29 @@
 //! The program `second`: the second interpreter's answers for units in files.
 
+mod owner;
 mod shown;
 mod table;
 mod timing;
 
-use second::{answer, bench, breach, image, literal_range, read_unit, run, words};
+use second::{
+    answer, bench, breach, breaches, image, invalid, literal_range, read_unit, run, words,
+};
 use second::{LastError, Loop, State, BENCH_ALLOWANCE};
 use shown::{named, shown};
 use std::env::args_os;
 use std::ffi::{OsStr, OsString};
 use std::fs;
-use std::io::{self, BufRead, Write};
+use std::io::{self, BufRead, BufWriter, Write};
 use std::os::unix::ffi::OsStrExt;
 use std::process::ExitCode;
 use std::str::FromStr;
 
 const USAGE: &str = "\
 usage: second check FILES..            the table that `boxlever check` writes
-       second fence FILES..            the same, in the form of the `;=` lines
+       second fence FILES..            the fence check in the form of the `;=` lines
        second breach FILE I            why statement I breaks the fence rules
+       second breaches FILE            every reference that breaks one, a row for each
+       second invalid FILE [DATA]      the first decimal of the image, or of a file, that is invalid
        second literal FILE I           where the alpha literal of statement I stands
        second bench <FILE              the bench program
        second run FILE [ALLOWANCE]     a run from the image, told in words
@@ -42,9 +47,18 @@ fn answer_to(args: &[&OsStr]) -> io::Result<()> {
         return Err(io::Error::other(USAGE));
     };
     match (word.to_str().unwrap_or_default(), rest) {
-        ("check", files) => table::check_files(files),
+        ("check", files) => owner::check_files(files),
         ("fence", files) => table::fence_files(files),
         ("breach", [file, i]) => show_breach(file, i),
+        ("breaches", [file]) => show_breaches(file),
+        ("invalid", [file]) => {
+            let unit = read_file(file)?;
+            writeln!(io::stdout(), "{}", invalid(&unit, &image(&unit)))
+        }
+        ("invalid", [file, data]) => {
+            let (unit, data) = (read_file(file)?, read_file(data)?);
+            writeln!(io::stdout(), "{}", invalid(&unit, &data))
+        }
         ("literal", [file, i]) => show_literal(file, i),
         ("bench", []) => io::stdout().write_all(&bench(&read_unit(io::stdin())?)),
         ("run", [file]) => show_run(file, BENCH_ALLOWANCE),
@@ -102,6 +116,17 @@ fn show_breach(file: &OsStr, i: &OsStr) -> io::Result<()> {
         Some(breach) => writeln!(out, "{} {}", breach.number(), breach.words()),
         None => writeln!(out, "0"),
     }
+}
+
+/// Prints a row of eight numbers for each reference that breaks a rule.
+fn show_breaches(file: &OsStr) -> io::Result<()> {
+    let unit = read_file(file)?;
+    let mut out = BufWriter::new(io::stdout().lock());
+    for breaking in breaches(&unit) {
+        let numbers = breaking.numbers().map(|number| number.to_string());
+        writeln!(out, "{}", numbers.join(" "))?;
+    }
+    out.flush()
 }
 
 /// Prints offset and length of the alpha literal of statement `i`, or `empty`.

@@ -74,12 +74,25 @@ fn names_and_data_are_shown_in_one_notation() {
     .map(OsStr::from_bytes);
     fs::write(Path::new(TRIALS).join(sound), clear).unwrap();
     fs::write(Path::new(TRIALS).join(short), b"DB").unwrap();
-    let rows = r"    33  a\x0Ab\x1B[31m\\.unit yes
+    for (word, rows) in [
+        (
+            "fence",
+            r"    33  a\x0Ab\x1B[31m\\.unit yes
      2  caf\xE9\x9B.unit refused 1 at 0: the length, the mark or the parts do not fit
 unreadable miss\x1B\xE9
 2 units: 1 yes, 0 no, 1 refused, 1 not read
-";
-    for word in ["check", "fence"] {
+",
+        ),
+        (
+            "check",
+            r"unit                   bytes  answer   breaches  first  reason
+a\x0Ab\x1B[31m\\.unit     33  yes             0      -
+caf\xE9\x9B.unit           2  refused         -      -  1: the length, the mark or the parts do not fit
+miss\x1B\xE9               -  unreadable      -      -  No such file or directory
+2 units: 1 yes, 0 no, 1 refused; 1 not read
+",
+        ),
+    ] {
         let found = program(&[OsStr::new(word), sound, short, missing], b"");
         assert_eq!(String::from_utf8(found).unwrap(), rows, "{word}");
     }
@@ -101,6 +114,122 @@ unreadable miss\x1B\xE9
         assert_eq!(found.status.code(), Some(2));
         assert_eq!(String::from_utf8(found.stderr).unwrap(), told);
     }
+}
+
+/// A unit of its five parts, without literals.
+fn built(image: &[u8], fields: &[u8], expressions: &[u8], statements: &[u8]) -> Vec<u8> {
+    let lengths = [
+        image.len(),
+        fields.len() / 8,
+        expressions.len(),
+        0,
+        statements.len() / 8,
+    ];
+    let trailer = lengths.map(|length| (length as u16).to_be_bytes());
+    let trailer = trailer.concat();
+    [image, fields, expressions, statements, &trailer, b"DB"].concat()
+}
+
+/// The table of `check` of some units under names of their own.
+fn table(units: &[(&str, Vec<u8>)]) -> String {
+    for (name, unit) in units {
+        fs::write(Path::new(TRIALS).join(name), unit).unwrap();
+    }
+    let names = units.iter().map(|(name, _)| OsStr::new(*name));
+    let words: Vec<&OsStr> = [OsStr::new("check")].into_iter().chain(names).collect();
+    String::from_utf8(program(&words, b"")).unwrap()
+}
+
+#[test]
+fn the_table_has_every_answer() {
+    // A D2 array of two under a record, a STOP, and a SET of the record from the decimal.
+    let fields = b"\x01\0\0\0\0\x02\0\x02\x02\0\0\0\0\x04\0\x01";
+    let expressions = b"\x02\0\x01\0\x02\0\0\0";
+    let [stop, set, wrong] = [
+        *b"\x0B\0\0\0\0\0\0\0",
+        *b"\x01\0\0\0\0\x04\0\0",
+        *b"\x01\0\0\x01\0\x04\0\0",
+    ];
+    let unit = |image: &[u8], statements: &[[u8; 8]]| {
+        built(image, fields, expressions, statements.as_flattened())
+    };
+    let units = [
+        ("table-a.unit", unit(b"0102", &[stop])),
+        ("table-b.unit", unit(b"010\"", &[stop])),
+        ("table-c.unit", unit(b"0102", &[stop, set, set])),
+        ("table-d.unit", unit(b"\x80\\02", &[stop, set])),
+        ("table-e.unit", unit(b"0102", &[stop, wrong])),
+        ("table-f.unit", vec![b'0'; 57_354]),
+        (
+            "table-g.unit",
+            built(b"AB", b"\x01\0\0\0\0\x02\0\x01", b"", &stop),
+        ),
+    ];
+    let rows = r#"unit          bytes  answer   breaches  first  reason
+table-a.unit     48  yes             0      -
+table-b.unit     48  yes!            0      -  but D0(2) of its own data is no number: "0\""
+table-c.unit     64  no              2      1  R1: rule 6, an alpha destination shares a byte with a decimal field
+table-d.unit     56  no              1      1  R1: rule 6, an alpha destination shares a byte with a decimal field; and D0(1) of its own data is no number: "\x80\\"
+table-e.unit     56  refused         -      1  4: an expression is badly formed or of the wrong sort
+table-f.unit >57353  refused         -      -  1: the length, the mark or the parts do not fit
+table-g.unit     30  yes!            0      -  but D0 of its own data is no number: "AB"
+7 units: 3 yes, 2 no, 2 refused; 3 breaches; 2 yes with a warning
+"#;
+    assert_eq!(table(&units), rows);
+    let one = r#"unit          bytes  answer   breaches  first  reason
+table-a.unit     48  yes             0      -
+1 unit: 1 yes, 0 no, 0 refused
+"#;
+    assert_eq!(table(&units[..1]), one);
+    assert!(table(&units[3..4]).ends_with("\n1 unit: 0 yes, 1 no, 0 refused; 1 breach\n"));
+    assert!(table(&[]).ends_with("\n0 units: 0 yes, 0 no, 0 refused\n"));
+}
+
+#[test]
+fn long_references_are_cut() {
+    // CLEAR of an element whose subscript is negated so often that the text has some length.
+    let of_length = |length: usize| {
+        let signs = vec![0x15; length - "D0(D0)".len()];
+        let expressions = [&b"\x02\0\0"[..], &signs, b"\x03\0\0\0"].concat();
+        let fields = b"\x01\0\0\0\0\x01\0\x01";
+        built(b"1", fields, &expressions, b"\x02\0\0\0\0\0\0\0")
+    };
+    let signs = |count: usize| "-".repeat(count);
+    for (length, text) in [
+        (7, "D0(-D0)".to_string()),
+        (60, format!("D0({}D0)", signs(54))),
+        (61, format!("D0({}..", signs(55))),
+        (600, format!("D0({}..", signs(55))),
+        (601, "D0(..)".to_string()),
+        (9_000, "D0(..)".to_string()),
+    ] {
+        let found = table(&[("long.unit", of_length(length))]);
+        let row = found.lines().nth(1).unwrap();
+        let wanted = format!("no              1      0  {text}: rule 1, a bound is not a literal");
+        assert!(row.ends_with(&wanted), "{row}");
+    }
+}
+
+#[test]
+fn long_names_shift_and_cut_their_rows() {
+    let stop = || built(b"0", b"", b"", b"\x0B\0\0\0\0\0\0\0");
+    let [short, long, cut] = [3, 40, 590].map(|length| format!("{}s", "./".repeat(length / 2)));
+    let units = [(&short[..], stop()), (&long, stop()), (&cut, stop())];
+    let found = table(&units);
+    let rows: Vec<&str> = found.lines().collect();
+    let tail = "     21  yes             0      -";
+    assert_eq!(
+        rows[0],
+        format!("{:40}  bytes  answer   breaches  first  reason", "unit")
+    );
+    assert_eq!(rows[1], format!("{short:40}{tail}"));
+    assert_eq!(rows[2], format!("{long}{tail}"));
+    assert_eq!(rows[3], format!("{}..", &format!("{cut}{tail}")[..598]));
+    assert_eq!(rows.len(), 5);
+    assert_eq!(
+        table(&units[..1]).lines().next(),
+        Some("unit  bytes  answer   breaches  first  reason")
+    );
 }
 
 #[test]
@@ -132,6 +261,40 @@ last trapped error 22 at 1: a bad digit
 ?
 ";
     assert_eq!(String::from_utf8(found).unwrap(), told);
+}
+
+#[test]
+fn breaking_references_and_invalid_decimals_are_told() {
+    // SET of a record over a decimal, which is invalid, from the element that the decimal tells.
+    let unit = *b"4A\x01\0\0\0\0\x02\0\x01\x02\0\0\0\0\x02\0\x01\x02\0\x01\0\x02\0\0\x03\0\0\0\
+        \x01\0\0\0\0\x04\0\0\0\x02\0\x02\0\x0B\0\0\0\x01DB";
+    fs::write(Path::new(TRIALS).join("breaking.unit"), unit).unwrap();
+    fs::write(Path::new(TRIALS).join("valid.data"), "4p").unwrap();
+    fs::write(Path::new(TRIALS).join("short.data"), "4").unwrap();
+    fs::write(Path::new(TRIALS).join("short.unit"), "DB").unwrap();
+    for (words, told) in [
+        (
+            &["breaches", "breaking.unit"][..],
+            "0 6 1 1 2 0 2 0\n0 1 0 0 3 0 0 7\n",
+        ),
+        (&["breaches", "short.unit"], ""),
+        (&["invalid", "breaking.unit"], "invalid 0 1 0\n"),
+        (&["invalid", "breaking.unit", "valid.data"], "valid\n"),
+        (&["invalid", "breaking.unit", "short.data"], "wrong size\n"),
+        (&["invalid", "short.unit"], "refused 1 0\n"),
+    ] {
+        let words: Vec<&OsStr> = words.iter().map(OsStr::new).collect();
+        assert_eq!(String::from_utf8(program(&words, b"")).unwrap(), told);
+    }
+    let found = called(
+        &["invalid", "breaking.unit", "none.data"].map(OsStr::new),
+        b"",
+    );
+    let told = b"none.data: No such file or directory (os error 2)\n";
+    assert_eq!(
+        (found.status.code(), &found.stderr[..]),
+        (Some(2), &told[..])
+    );
 }
 
 /// A run in two parts, of at most `first` statements and then of the rest of `allowance`.

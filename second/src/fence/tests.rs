@@ -29,10 +29,33 @@ fn broken(sample: Sample) -> u8 {
         Fence::No(0)
     };
     assert_eq!(fence(&unit), wanted);
+    let first = breaches(&unit).next();
+    assert_eq!(
+        first
+            .map(|one| (one.statement, one.rule.number()))
+            .unwrap_or_default(),
+        (0, number)
+    );
     let strict = sample.strict().unit();
     assert_eq!(fence(&strict), wanted);
     assert_eq!(breach(&strict, 0), breach(&unit, 0));
+    assert!(breaches(&strict).eq(breaches(&unit)));
     number
+}
+
+/// The numbers of every reference that breaks a rule. The first of each statement has the rule that
+/// is told of the statement, and others have none.
+fn rows(sample: &Sample) -> Vec<[u64; 8]> {
+    let unit = sample.unit();
+    let rows: Vec<[u64; 8]> = breaches(&unit).map(|one| one.numbers()).collect();
+    for i in 0..sample.statements.len() {
+        let first = rows.iter().find(|row| row[0] == i as u64);
+        let rule = breach(&unit, i).map(|rule| u64::from(rule.number()));
+        assert_eq!(first.map(|row| row[1]), rule, "statement {i}");
+    }
+    let first = rows.first().map(|row| Fence::No(row[0] as usize));
+    assert_eq!(fence(&unit), first.unwrap_or(Fence::Yes));
+    rows
 }
 
 /// A read of a decimal reference, by the branch on zero.
@@ -292,6 +315,94 @@ fn refused_units_are_refused() {
     assert_eq!(breach(&unit, 0), None);
     let unit = sample().on(code::INCR, "%0").unit();
     assert_eq!(fence(&unit), refused(4, 0));
+}
+
+#[test]
+fn every_reference_has_its_own_rule() {
+    // A place of one item, then a source of 3 %1(), which ends at 11, and what follows.
+    let source = "3 %1() %3 %1() + 1 6 %1(,) + 5 %1() - 1 %1() +";
+    let wanted = [
+        [0, 6, 1, 4, 2, 0, 18, 0],
+        [0, 3, 0, 1, 3, 10, 3, 8],
+        [0, 1, 0, 1, 3, 0, 0, 14],
+        [0, 4, 0, 1, 4, 4, 6, 26],
+        [0, 2, 0, 1, 3, 0, 0, 34],
+    ];
+    assert_eq!(rows(&sample().set("%4", source)), wanted);
+    // What the place breaks is not asked of the source.
+    assert_eq!(rows(&sample().set("%0", source)), wanted[1..]);
+}
+
+#[test]
+fn what_stands_in_the_bounds_of_a_destination_is_read() {
+    let wanted = [[0, 3, 0, 1, 3, 10, 3, 4], [0, 1, 1, 1, 3, 0, 0, 7]];
+    assert_eq!(rows(&sample().on(code::CLEAR, "3 %1() %1()")), wanted);
+    // A part that ends inside its element may be read.
+    let wanted = [[0, 1, 1, 1, 3, 0, 0, 11]];
+    assert_eq!(rows(&sample().on(code::INCR, "1 2 %1(,) %1()")), wanted);
+}
+
+#[test]
+fn a_shared_reference_comes_for_each_use() {
+    // The same expression in a CLEAR, a branch on zero and both parts of a SET.
+    let shared = |place| {
+        let mut sample = sample().on(code::CLEAR, place);
+        sample.statements.push((code::GOTO_IF_ZERO, 0, 0, 0));
+        sample.statements.push((code::SET, 0, 0, 0));
+        rows(&sample)
+    };
+    let written = |i| [i, 5, 1, 1, 4, 4, 2, 8];
+    assert_eq!(shared("1 2 %1(,)"), [written(0), written(2)]);
+    let used = |i, written| [i, 3, written, 1, 3, 10, 3, 4];
+    let wanted = [used(0, 1), used(1, 0), used(2, 1), used(2, 0)];
+    assert_eq!(shared("3 %1()"), wanted);
+}
+
+#[test]
+fn the_parts_of_a_formatted_move_and_of_a_for_come_in_their_order() {
+    let format = sample().format("%4", "%3 %2()", "3 %1()");
+    let wanted = [
+        [0, 6, 1, 4, 2, 0, 18, 0],
+        [0, 1, 0, 2, 3, 0, 0, 7],
+        [0, 3, 0, 1, 3, 10, 3, 15],
+    ];
+    assert_eq!(rows(&format), wanted);
+    let numbers = ["%3 %1()", "5 %1()", "3 4 %1(,)"];
+    let looped = sample().looped("1 2 %1(,)", numbers, |body| body.on(code::CLEAR, "%4"));
+    let wanted = [
+        [0, 5, 1, 1, 4, 4, 2, 8],
+        [0, 1, 0, 1, 3, 0, 0, 15],
+        [0, 2, 0, 1, 3, 0, 0, 23],
+        [0, 4, 0, 1, 4, 6, 2, 35],
+        [1, 6, 1, 4, 2, 0, 18, 39],
+    ];
+    assert_eq!(rows(&looped), wanted);
+}
+
+#[test]
+fn spans_are_told_where_the_bounds_fix_one() {
+    let read = |reference| rows(&sample().by(code::GOTO_IF_ZERO, reference, 0));
+    assert_eq!(read("1 2 neg %1(:)"), [[0, 3, 0, 1, 5, 3, 2, 9]]);
+    assert_eq!(read("6 3 %1(:)"), [[0, 3, 0, 1, 5, 9, 3, 8]]);
+    assert_eq!(read("4 2 neg %1(:)"), [[0, 4, 0, 1, 5, 6, 2, 9]]);
+    assert_eq!(read("0 %1()"), [[0, 3, 0, 1, 3, 1, 3, 4]]);
+    assert_eq!(read("7 14 %1(,)"), [[0, 3, 0, 1, 4, 10, 8, 8]]);
+    // Rules 1 and 2 fix none, not even where all but one bound is known.
+    assert_eq!(read("7 15 %1(,)"), [[0, 2, 0, 1, 4, 0, 0, 8]]);
+    assert_eq!(read("4 %3 %1(,)"), [[0, 1, 0, 1, 4, 0, 0, 7]]);
+    let written = |place| rows(&sample().on(code::CLEAR, place));
+    assert_eq!(written("1 5 %4(,)"), [[0, 6, 1, 4, 4, 0, 5, 8]]);
+    assert_eq!(written("1 %4()"), [[0, 6, 1, 4, 3, 0, 18, 4]]);
+    assert_eq!(written("5 1 %5(:)"), [[0; 8]; 0]);
+}
+
+#[test]
+fn a_unit_that_is_refused_has_no_breaking_reference() {
+    let sound = sample().on(code::CLEAR, "%4").to(code::STOP, 0);
+    assert_eq!(rows(&sound).len(), 1);
+    let refused = sound.to(code::GOTO, 3).unit();
+    assert_eq!(breaches(&refused).count(), 0);
+    assert_eq!(breaches(b"").count(), 0);
 }
 
 #[test]
