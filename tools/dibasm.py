@@ -1,8 +1,9 @@
 #!/usr/bin/env python3
 """Coded DIBOL units as text, and back.
 
-    dibasm asm FILE.txt -o FILE.unit     make a unit from its text
-    dibasm asm FILES.. -o FOLDER         make a unit from each text
+    dibasm asm FILE.txt -o FILE.unit     make a unit from its text, and FILE.names beside it
+    dibasm asm FILES.. -o FOLDER         make a unit from each text, with its names
+    dibasm asm --no-names ..             the same without names
     dibasm dis FILE.unit [-o FILE.txt]   write the text of a unit
     dibasm test FILES..                  check that each unit comes back from its text
 
@@ -16,7 +17,9 @@ import math
 import os
 import re
 import signal
+import stat
 import sys
+import zlib
 
 KINDS = ["alpha", "decimal", "record"]
 
@@ -90,6 +93,14 @@ ESCAPE = re.compile(r"\\(x[0-9A-Fa-f]{2}|.)")
 COUNTER = re.compile(r"\{(?:(\d+)\*)?i(?:([+-])(\d+))?\}", re.A)
 RUN = re.compile(rb"(.)\1{15,}", re.S)
 PIECE = re.compile(rb"[ -~]{1,60}|[^ -~]{1,20}")
+
+# The word for no file of names; how one begins, and how long it is at most; the names that may stand in it, and what may be told of a
+# source.
+NO_NAMES = "--no-names"
+NAMES_HEAD = "boxlever names 1"
+NAMES_LONGEST = 1 << 16
+NAME = re.compile(r"[A-Za-z][A-Za-z0-9$_]{0,29}")
+SOURCE = re.compile(r"[!-~]+")
 
 # How bytes are shown, by Latin-1: 20 to 7E as they are, but a backslash twice; all else in hex.
 SHOWN = {code: f"\\x{code:02X}" for code in range(256) if not 32 <= code <= 126} | {92: "\\\\"}
@@ -520,14 +531,17 @@ class Assembler:
         for self.at, statement in self.statements:
             statements += self.resolved(statement)
         unit = self.image + self.fields + self.expressions + self.literals + statements
-        lengths = {"D": len(self.image), "F": len(self.fields) // 8, "E": len(self.expressions),
-                   "P": len(self.literals), "N": len(self.statements), "mark": b"DB"}
+        lengths = dict(zip("DFEPN", self.lengths())) | {"mark": b"DB"}
         for name, length in lengths.items():
             self.at, value = self.trailer.get(name, (end, length))
             if name != "mark" and value > 0xFFFF:
                 raise Fault(f"{name} is {value}, and the trailer has 2 bytes for it")
             unit += value if name == "mark" else big(value)
         return unit
+
+    def lengths(self):
+        """D, F, E, P and N of the parts."""
+        return [len(self.image), len(self.fields) // 8, len(self.expressions), len(self.literals), len(self.statements)]
 
     def unit(self):
         unit = self.parts() if self.raw is None else self.raw
@@ -565,21 +579,49 @@ def unescaped(escape):
     return chr(int(text[1:], 16))
 
 
+def assembled(text):
+    """The assembler that has taken a text, and the unit that it makes."""
+    assembler = Assembler()
+    try:
+        assembler.lines(text.split("\n"))
+        return assembler, assembler.unit()
+    except Fault as fault:
+        raise Fault(f"line {assembler.at}: {fault}") from None
+
+
 def asm(text):
     """The unit that a text makes."""
-    return named_asm(text)[0]
+    return assembled(text)[1]
 
 
 def named_asm(text):
     """The unit that a text makes, and the names that the text has for its fields, by their numbers. Those of a raw unit have none."""
-    assembler = Assembler()
-    try:
-        assembler.lines(text.split("\n"))
-        unit = assembler.unit()
-    except Fault as fault:
-        raise Fault(f"line {assembler.at}: {fault}") from None
+    assembler, unit = assembled(text)
     names = assembler.names["field"] if assembler.raw is None else {}
     return unit, {number: name for name, (number, _) in names.items()}
+
+
+def asm_with_names(text, source):
+    """The unit that a text makes, and the file of names beside it, which tells of this source."""
+    assembler, unit = assembled(text)
+    rows = [f"{NAMES_HEAD} {len(unit)} {zlib.crc32(unit):08X} {source if SOURCE.fullmatch(source) else '-'}", *name_rows(assembler, unit)]
+    return unit, "".join(row + "\n" for row in rows).encode()
+
+
+def name_rows(assembler, unit):
+    """The rows of a file of names: the fields that have one, and the line and the label of every statement. There are none where the
+    unit is cut otherwise than into the parts that the text has."""
+    if assembler.raw is not None or words_of(unit[-12:])[:5] != assembler.lengths():
+        return
+    for name, (number, _) in assembler.names["field"].items():
+        if NAME.fullmatch(name):
+            yield f"F {number} {name}"
+    labels = {}
+    for name, (number, _) in assembler.names["label"].items():
+        if NAME.fullmatch(name):
+            labels.setdefault(number, name)
+    for number, (line, _) in enumerate(assembler.statements):
+        yield f"S {number} {line}" + (f" {labels[number]}" if number in labels else "")
 
 
 class Disassembler:
@@ -886,11 +928,39 @@ def about(name, work, *given):
     sys.exit(f"{escaped(os.fsencode(name))}: {words}")
 
 
-def asm_file(name, out):
+def asm_file(name, out, with_names):
     if os.path.isdir(out):
         out = os.path.join(out, os.path.splitext(os.path.basename(name))[0] + ".unit")
-    unit = about(name, lambda: asm(read_text(name)))
+    unit, names = about(name, lambda: asm_with_names(read_text(name), os.path.basename(name)))
     about(out, write, out, unit)
+    if is_file(out):
+        beside = out.removesuffix(".unit") + ".names"
+        about(beside, put_names, beside, names if with_names else b"")
+
+
+def is_file(path):
+    """Whether a path is that of a plain file, and of no device, pipe or link to one: beside these no names are put."""
+    return stat.S_ISREG(os.lstat(path).st_mode)
+
+
+def put_names(file, names):
+    """Writes a file of names, or removes an old one where there are none or too many. A file that is something else is left."""
+    told, head = escaped(os.fsencode(file)), NAMES_HEAD.encode()
+    if os.path.lexists(file) and not head.startswith(read_head(file, len(head))):
+        print(f"{told}: this is no file of names, and it is left as it is", file=sys.stderr)
+    elif names and len(names) <= NAMES_LONGEST:
+        write(file, names)
+    else:
+        if names:
+            print(f"{told}: the names take {len(names)} bytes, and {NAMES_LONGEST} is the most: there is no such file now", file=sys.stderr)
+        if os.path.lexists(file):
+            os.remove(file)
+
+
+def read_head(file, length):
+    """The first bytes of a file, at most so many."""
+    with open(file, "rb") as source:
+        return source.read(length)
 
 
 def dis_file(name):
@@ -914,11 +984,16 @@ def test(names):
     return len(failed) > 0
 
 
+def is_asked(names, out):
+    """Whether some texts can be made into units there: one anywhere, several in a folder."""
+    return len(names) == 1 or len(names) > 1 and os.path.isdir(out)
+
+
 def main(args):
     match args:
-        case ["asm", *names, "-o", out] if len(names) == 1 or names and os.path.isdir(out):
+        case ["asm", *words, "-o", out] if is_asked(names := [word for word in words if word != NO_NAMES], out):
             for name in names:
-                asm_file(name, out)
+                asm_file(name, out, NO_NAMES not in words)
         case ["dis", name]:
             put(dis_file(name))
         case ["dis", name, "-o", out]:
