@@ -1,7 +1,7 @@
 //! The cases: a unit with a data buffer, a resume state and allowances, all from a case's number.
 
 use crate::damage::damaged;
-use crate::data::{fill, make_strict, Quality};
+use crate::data::{fill, make_strict, spoil, Quality};
 use crate::decode::{HANDLER, LOOPS_MOST, OPENED, TRAPPED};
 use crate::draft::Draft;
 use crate::expressions::GREATEST;
@@ -39,6 +39,23 @@ pub struct Case {
     pub is_stepped: bool,
     /// An allowance that no run spends, which some cases are given once it is known that they end.
     pub great: Option<u64>,
+    /// Data buffers to ask about, besides the image and that of the run.
+    pub others: Vec<Vec<u8>>,
+    /// How many numbers are lent for a longer answer.
+    pub long_room: usize,
+    /// Which references that break a rule are asked for.
+    pub rows: Rows,
+}
+
+/// Which references that break a rule are asked for, and the room that is lent for them.
+#[derive(Clone, Copy, Debug)]
+pub struct Rows {
+    /// How many are passed over; some would be few if bits of the number were lost.
+    pub skip: usize,
+    /// How many are passed over, counted from one less than there are.
+    pub near: usize,
+    /// How many numbers are lent.
+    pub room: usize,
 }
 
 impl Case {
@@ -66,6 +83,9 @@ impl Case {
             room: random.weighed(&[(20, 3), (1, 0), (1, 1), (1, 2), (1, 4)]),
             is_stepped: random.chance(20),
             great: great(random),
+            others: others(random, &draft),
+            long_room: random.pick(&[0, 1, 2, 3, 4, 5, 6, 6, 7, 7, 7, 7, 7, 7, 7, 7]),
+            rows: rows(random),
         }
     }
 }
@@ -103,6 +123,41 @@ fn data(random: &mut Random, draft: &Draft) -> Vec<u8> {
         fill(random, &draft.fields, &mut data, quality);
     }
     data
+}
+
+/// Other data buffers: one with characters of its decimals changed, and sometimes one of another length.
+fn others(random: &mut Random, draft: &Draft) -> Vec<Vec<u8>> {
+    let mut data = draft.image.clone();
+    if random.chance(60) {
+        fill(random, &draft.fields, &mut data, Quality::Valid);
+    }
+    for _ in 0..random.weighed(&[(1, 0), (10, 1), (3, 2)]) {
+        spoil(random, &draft.fields, &mut data);
+    }
+    let length = data.len();
+    let lengths = [
+        length.saturating_sub(1),
+        length + 1,
+        0,
+        2 * length,
+        length + 65_536,
+    ];
+    let other = random.pick(&lengths);
+    match random.chance(15) {
+        true => vec![data.clone(), data.into_iter().cycle().take(other).collect()],
+        false => vec![data],
+    }
+}
+
+/// Which references that break a rule are asked for.
+fn rows(random: &mut Random) -> Rows {
+    let some = random.below(6);
+    let wrapped = random.pick(&[1 << 16, 1 << 32, 1 << 61]) + some;
+    Rows {
+        skip: random.weighed(&[(4, 0), (6, some), (1, wrapped), (1, usize::MAX)]),
+        near: random.below(3),
+        room: random.pick(&[0, 1, 7, 8, 9, 15, 16, 17, 40, 80]),
+    }
 }
 
 fn absent(random: &mut Random) -> usize {

@@ -1,12 +1,15 @@
 //! One case on both sides: every answer of the C library beside that of the second interpreter.
 
+use crate::breaking::{self, Row};
 use crate::cases::Case;
 use crate::decode::Sound;
+use crate::entries;
 use crate::library::{self, Given, Lent};
 use crate::loops::{Followed, Turn};
 use crate::promises::{self, Trap};
 use crate::reached::Reached;
 use crate::traps::LOOKED_AT;
+use crate::validity;
 use second::Fence;
 use std::fmt::Debug;
 
@@ -34,7 +37,7 @@ pub fn same<T: Debug + PartialEq>(
     })
 }
 
-/// For a unit of more statements than this, only some of them are asked about.
+/// Of more statements or fields than this, only some are asked about.
 const ASKED_MOST: usize = 40;
 
 /// Compares all that can be asked about a case.
@@ -43,12 +46,16 @@ pub fn compare(case: &Case, reached: &mut Reached) -> Result<(), Difference> {
     let has_passed = check(case, reached)?;
     reached.case(case.kind, has_passed);
     fence(case, reached)?;
+    entries::compare(case, &mut reached.entries)?;
+    validity::compare(case, &mut reached.validities)?;
+    let rows = breaking::compare(case, has_passed, &mut reached.breakings)?;
+    promises::first_row(case, has_passed, &rows)?;
     let count = match has_passed {
         true => Sound::of(unit).statement_count(),
         false => 1,
     };
     for i in asked(case, count) {
-        let rule = breach(unit, i, reached)?;
+        let rule = breach(unit, i, &rows, reached)?;
         if has_passed {
             reached.formats.breach(&Sound::of(unit), i, rule);
             reached.loops.breach(unit, i, rule);
@@ -130,8 +137,9 @@ fn count_traps(case: &Case, ran: &Ran, traps: &[Trap], reached: &mut Reached) {
     }
 }
 
-/// The statements to ask about: all of a short unit, some of a long one, and one that is not there.
-fn asked(case: &Case, count: usize) -> impl Iterator<Item = usize> {
+/// The statements or fields to ask about, of so many: all if they are few, some of many, and one that is
+/// not there.
+pub fn asked(case: &Case, count: usize) -> impl Iterator<Item = usize> {
     let step = count / ASKED_MOST + 1;
     let first = case.unit.len() % step;
     let there = (first..count).step_by(step);
@@ -184,13 +192,20 @@ fn second_breach(unit: &[u8], i: usize) -> u64 {
     second::breach(unit, i).map_or(0, |breach| breach.number().into())
 }
 
-fn breach(unit: &[u8], i: usize, reached: &mut Reached) -> Result<u64, Difference> {
+/// Compares the rule that a statement breaks, which is that of its first row.
+fn breach(unit: &[u8], i: usize, rows: &[Row], reached: &mut Reached) -> Result<u64, Difference> {
     let number = library::breach(unit, i);
     reached.breach(number.min(6));
     same(
         || format!("breach of statement {i}"),
         number,
         second_breach(unit, i),
+    )?;
+    let first = rows.iter().find(|row| row[0] == i as u64);
+    same(
+        || format!("breach of statement {i}, and of its first reference"),
+        number,
+        first.map_or(0, |row| row[1]),
     )?;
     Ok(number)
 }

@@ -76,6 +76,27 @@ pub fn fill(random: &mut Random, fields: &[Field], data: &mut [u8], quality: Qua
     }
 }
 
+/// Changes a character of a decimal to another that mostly does not belong there: often the first or the
+/// last one, of the first or the last element, of the first or the last such field.
+pub fn spoil(random: &mut Random, fields: &[Field], data: &mut [u8]) {
+    let decimals: Vec<&Field> = fields.iter().filter(|field| field.is_decimal()).collect();
+    if decimals.is_empty() {
+        return;
+    }
+    let field = decimals[often_an_end(random, decimals.len())];
+    let element = often_an_end(random, field.count.into());
+    let at = field.start() + element * field.size() + often_an_end(random, field.size());
+    if let Some(character) = data.get_mut(at) {
+        *character = bad(random);
+    }
+}
+
+/// A number below `count`, often the first or the last.
+fn often_an_end(random: &mut Random, count: usize) -> usize {
+    let any = random.below(count);
+    random.pick(&[0, count - 1, any])
+}
+
 /// Fills the elements of a decimal field.
 fn numbers(random: &mut Random, elements: &mut [u8], size: usize, quality: Quality) {
     for element in elements.chunks_mut(size) {

@@ -13,9 +13,11 @@ pub struct Sound<'a> {
     statements: &'a [u8],
 }
 
-/// An item of an expression: its code, and the number and the length that follow it, if any.
+/// An item of an expression: where it stands, its code, and the number and the length that follow
+/// it, if any.
 #[derive(Clone, Copy, Debug, PartialEq, Eq)]
 pub struct Item {
+    at: usize,
     pub code: u8,
     number: usize,
     length: usize,
@@ -86,8 +88,9 @@ impl<'a> Sound<'a> {
     /// The items of the expression at `offset`, without the 00 that closes it.
     pub fn items(&self, offset: u16) -> Vec<Item> {
         let mut items = Vec::new();
-        let mut rest = &self.expressions[usize::from(offset)..];
-        while rest[0] != 0 {
+        let mut at = usize::from(offset);
+        while self.expressions[at] != 0 {
+            let rest = &self.expressions[at..];
             let code = rest[0];
             let (number, length, width) = match code {
                 0x01 => (word(rest, 1), u16::from(rest[3]), 4),
@@ -96,11 +99,12 @@ impl<'a> Sound<'a> {
                 _ => (0, 0, 1),
             };
             items.push(Item {
+                at,
                 code,
                 number: number.into(),
                 length: length.into(),
             });
-            rest = &rest[width..];
+            at += width;
         }
         items
     }
@@ -207,11 +211,15 @@ impl<'a> Sound<'a> {
                     let count = BOUNDS[usize::from(item.code) - 2];
                     let bounds = held.split_off(held.len() - count).into_iter();
                     let bounds: Option<Vec<i64>> = bounds.collect();
+                    let bounds = bounds.as_deref();
                     found.push(Reference {
+                        at: item.at,
+                        code: item.code,
                         field: self.field(item.number),
-                        span: bounds.and_then(|bounds| self.named(item, &bounds)),
-                        is_bounded: count > 0,
+                        stretch: bounds.and_then(|bounds| self.stretch(item, bounds)),
+                        span: bounds.and_then(|bounds| self.named(item, bounds)),
                         is_last: i + 1 == items.len(),
+                        is_bound: is_bound(&items[i + 1..]),
                     });
                     None
                 }
@@ -272,14 +280,13 @@ impl<'a> Sound<'a> {
                 return (met, false);
             };
             let bounds = held.split_off(held.len() - taken(item));
-            let taker = taker(&items[i + 1..]);
             met.push(Met {
                 code: item.code,
                 field: self.field(item.number),
                 stretch: self.stretch(item, &bounds),
                 bounds,
-                is_last: taker.is_none(),
-                is_bound: taker.is_some_and(|taker| (0x03..=0x05).contains(&taker.code)),
+                is_last: i + 1 == items.len(),
+                is_bound: is_bound(&items[i + 1..]),
             });
         }
         (met, true)
@@ -408,10 +415,14 @@ impl<'a> Sound<'a> {
         digits.iter().fold(0, value)
     }
 
+    /// All fields, in their order.
+    pub fn fields(&self) -> impl Iterator<Item = Field> + '_ {
+        (0..self.field_count()).map(|i| self.field(i))
+    }
+
     /// The elements of every decimal field.
     fn elements<'d>(&self, data: &'d [u8]) -> Vec<&'d [u8]> {
-        let fields = (0..self.field_count()).map(|i| self.field(i));
-        let decimals = fields.filter(Field::is_decimal);
+        let decimals = self.fields().filter(Field::is_decimal);
         decimals
             .flat_map(|field| data[field.start()..field.end()].chunks(field.size()))
             .collect()
@@ -422,6 +433,24 @@ impl<'a> Sound<'a> {
         self.elements(data)
             .into_iter()
             .all(|element| bad_character(element).is_none())
+    }
+
+    /// The elements of decimal fields that are invalid, each by its field and its number there, from 1.
+    pub fn invalid_elements(&self, data: &[u8]) -> Vec<(usize, usize)> {
+        let mut invalid = Vec::new();
+        for (i, field) in self
+            .fields()
+            .enumerate()
+            .filter(|(_, field)| field.is_decimal())
+        {
+            let elements = data[field.start()..field.end()].chunks(field.size());
+            for (element, characters) in (1..).zip(elements) {
+                if bad_character(characters).is_some() {
+                    invalid.push((i, element));
+                }
+            }
+        }
+        invalid
     }
 
     /// Whether an element of a decimal field begins with a space.
@@ -562,6 +591,11 @@ fn taker(items: &[Item]) -> Option<Item> {
     None
 }
 
+/// Whether one of some items takes the value that was held last before them as a bound.
+fn is_bound(items: &[Item]) -> bool {
+    taker(items).is_some_and(|taker| (0x03..=0x05).contains(&taker.code))
+}
+
 /// A reference with what it names over some data.
 pub struct Met {
     pub code: u8,
@@ -577,13 +611,26 @@ pub struct Met {
 
 /// A reference in an expression.
 pub struct Reference {
+    /// Where its item stands in the expressions.
+    pub at: usize,
+    pub code: u8,
     pub field: Field,
+    /// Where its bytes lie, counted from the first of the data, if its bounds are literals that are
+    /// not wrong in themselves.
+    pub stretch: Option<Range<i64>>,
     /// Where the bytes that it names stand in the data, if its bounds are literals.
     pub span: Option<Range<usize>>,
-    /// Whether it has bounds.
-    pub is_bounded: bool,
     /// Whether it is the last item.
     pub is_last: bool,
+    /// Whether its value is a bound of another.
+    pub is_bound: bool,
+}
+
+impl Reference {
+    /// Whether it has bounds.
+    pub fn is_bounded(&self) -> bool {
+        self.code != 0x02
+    }
 }
 
 /// What a formatted move has named.
@@ -876,6 +923,9 @@ mod tests {
         assert!(!sound.is_valid(b".abcde\t23456") && !sound.is_valid(b".abcde1234\x006"));
         assert!(!sound.is_valid(b".abcde1p3456"));
         assert!(!sound.is_valid(b".abcde12345z"));
+        assert_eq!(sound.invalid_elements(b".abcde12345p"), []);
+        assert_eq!(sound.invalid_elements(b".abcde1p345z"), [(1, 1), (1, 2)]);
+        assert_eq!(sound.invalid_elements(b"?abcde123??6"), [(1, 2)]);
         assert!(!sound.is_text_to_decimal(0) && !sound.is_text_to_decimal(3));
     }
 }

@@ -7,6 +7,9 @@ use std::fmt;
 /// How many guards stand on each side of a lent buffer.
 const GUARDS: usize = 4;
 
+/// The most numbers that are lent for an answer.
+pub const ROOM_MOST: usize = 8;
+
 /// What stands in a guard and in an answer before the call.
 const UNTOUCHED: u64 = 0xA5A5_A5A5_A5A5_A5A5;
 
@@ -66,6 +69,11 @@ impl Lent<u64> {
     pub fn numbers(part: &[u64]) -> Lent<u64> {
         Lent::guarded(part, UNTOUCHED)
     }
+
+    /// Room for so many numbers, of which none was touched yet.
+    pub fn room(length: usize) -> Lent<u64> {
+        Lent::numbers(&vec![UNTOUCHED; length])
+    }
 }
 
 /// What a call gives: its result, and the numbers where its answer is lent room.
@@ -73,14 +81,17 @@ impl Lent<u64> {
 pub struct Given {
     pub result: u64,
     /// The guards before, the answer, and guards behind it: all that is not lent is guards.
-    numbers: [u64; 3 * GUARDS],
+    numbers: Numbers,
 }
+
+/// The room for an answer with its guards.
+type Numbers = [u64; GUARDS + ROOM_MOST + GUARDS];
 
 impl Given {
     /// What a call should give that lends room for `room` numbers: as many of the answer as fit,
     /// and all else as it was.
     pub fn expected(result: u64, answer: &[u64], room: usize) -> Given {
-        let mut numbers = [UNTOUCHED; 3 * GUARDS];
+        let mut numbers: Numbers = [UNTOUCHED; GUARDS + ROOM_MOST + GUARDS];
         let lent = &mut numbers[GUARDS..GUARDS + room];
         lent.iter_mut()
             .zip(answer)
@@ -107,7 +118,7 @@ impl fmt::Debug for Given {
 
 /// Makes a call that lends room for an answer.
 fn given(room: usize, call: impl FnOnce(*mut u64, usize) -> u64) -> Given {
-    let mut numbers = [UNTOUCHED; 3 * GUARDS];
+    let mut numbers: Numbers = [UNTOUCHED; GUARDS + ROOM_MOST + GUARDS];
     let lent = &mut numbers[GUARDS..GUARDS + room];
     let result = call(lent.as_mut_ptr(), lent.len());
     Given { result, numbers }
@@ -136,6 +147,51 @@ pub fn fence(unit: &[u8], room: usize) -> Given {
 pub fn breach(unit: &[u8], statement: usize) -> u64 {
     // SAFETY: the pointer is that of a slice, lent for its length.
     unsafe { c::dibol_breach(unit.as_ptr(), unit.len(), statement) }
+}
+
+/// Puts the rows of the references that break a rule from number `skip` on into `rows`, and gives how
+/// many such references there are.
+pub fn breaches(unit: &[u8], skip: usize, rows: &mut Lent<u64>) -> u64 {
+    let rows = rows.part_mut();
+    // SAFETY: the pointers are those of slices, lent for their lengths, and none overlaps another.
+    unsafe {
+        c::dibol_breaches(
+            unit.as_ptr(),
+            unit.len(),
+            skip,
+            rows.as_mut_ptr(),
+            rows.len(),
+        )
+    }
+}
+
+pub fn invalid(unit: &[u8], data: &Lent<u8>, room: usize) -> Given {
+    let data = data.part();
+    // SAFETY: the pointers are those of slices, lent for their lengths, and none overlaps another.
+    given(room, |answer, len| unsafe {
+        c::dibol_invalid(
+            unit.as_ptr(),
+            unit.len(),
+            data.as_ptr(),
+            data.len(),
+            answer,
+            len,
+        )
+    })
+}
+
+pub fn parts(unit: &[u8], room: usize) -> Given {
+    // SAFETY: the pointers are those of slices, lent for their lengths.
+    given(room, |answer, len| unsafe {
+        c::dibol_parts(unit.as_ptr(), unit.len(), answer, len)
+    })
+}
+
+pub fn field(unit: &[u8], entry: usize, room: usize) -> Given {
+    // SAFETY: the pointers are those of slices, lent for their lengths.
+    given(room, |answer, len| unsafe {
+        c::dibol_field(unit.as_ptr(), unit.len(), entry, answer, len)
+    })
 }
 
 pub fn literal(unit: &[u8], statement: usize, room: usize) -> Given {

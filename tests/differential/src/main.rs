@@ -5,16 +5,18 @@
 //!
 //! The exit status is 0 when all answers are the same, 1 when some differ, and 2 when nothing was
 //! asked. With --reached it is also 1 when a stop, a statement, an item, a fence answer, a breach, or
-//! a way of a formatted move, of a blank-padded amount, of a loop, of a strict field or of a trapped error
-//! was not reached.
+//! a way of a formatted move, of a blank-padded amount, of a loop, of a strict field, of a trapped error, of
+//! a reference that breaks a rule, or of a question about validity, parts or fields was not reached.
 
 mod blanks;
+mod breaking;
 mod cases;
 mod compare;
 mod damage;
 mod data;
 mod decode;
 mod draft;
+mod entries;
 mod expressions;
 mod formats;
 mod letters;
@@ -35,6 +37,7 @@ mod trap_faults;
 mod trap_limits;
 mod traps;
 mod units;
+mod validity;
 mod ways;
 
 use std::env;

@@ -1,6 +1,7 @@
 //! Promises of the proved library that are held against its own answers, without the second
 //! interpreter. The law of pausing is held where a case goes on after a 30.
 
+use crate::breaking::Row;
 use crate::cases::Case;
 use crate::compare::{library_run, same, Difference, Ran};
 use crate::decode::{Sound, HANDLER, TRAPPED};
@@ -111,8 +112,28 @@ fn loosened(unit: &[u8]) -> Option<Vec<u8>> {
     (twin != unit).then_some(twin)
 }
 
-/// What strict fields change: the fence answers as it does for loose ones, and a run in which no 21
-/// was given, trapped or not, comes to the same with them.
+/// The references that break a rule are none exactly for a yes of the fence, and the first of them has the
+/// statement and the rule of its no.
+pub fn first_row(case: &Case, has_passed: bool, rows: &[Row]) -> Result<(), Difference> {
+    if !has_passed {
+        return Ok(());
+    }
+    let told = match rows.first() {
+        Some(&[i, rule, ..]) => Given::expected(1, &[i, rule], 2),
+        None => Given::expected(0, &[0, 0], 2),
+    };
+    let what = || "fence, and the first of the breaches".to_string();
+    same(what, library::fence(&case.unit, 2), told)
+}
+
+/// How many references break a rule, and the rows of the first of them.
+fn breaches(unit: &[u8]) -> (u64, Lent<u64>) {
+    let mut rows = Lent::room(80);
+    (library::breaches(unit, 0, &mut rows), rows)
+}
+
+/// What strict fields change: the fence answers as it does for loose ones, with the same breaches, and a
+/// run in which no 21 was given, trapped or not, comes to the same with them.
 pub fn loose_twin(
     case: &Case,
     ran: &Ran,
@@ -124,6 +145,9 @@ pub fn loose_twin(
     };
     let [fence, loose] = [&case.unit, &twin].map(|unit| library::fence(unit, case.room));
     same(|| "fence, and with loose fields".to_string(), fence, loose)?;
+    let [strict, loose] = [&case.unit, &twin].map(|unit| breaches(unit));
+    let what = || "breaches, and with loose fields".to_string();
+    same(what, strict, loose)?;
     let (mut data, mut state) = (Lent::bytes(&case.data), Lent::numbers(&case.state));
     let allowance = case.allowances[0];
     let given = library::run(&twin, &mut data, &mut state, allowance, case.room);
@@ -142,9 +166,10 @@ pub fn loose_twin(
     Ok(())
 }
 
-/// Demand 3: for a unit with a yes, valid data and a sound state, no byte outside the destinations
-/// has changed, every decimal element is valid, no 21 was given, and 22 only at a SET that moves
-/// alpha text to a decimal place. An error that was trapped was given as well.
+/// Demand 3, its premise being asked of the library: for a unit with a yes, data of which no decimal is
+/// invalid and a sound state, no byte outside the destinations has changed, every decimal element is
+/// valid, no 21 was given, and 22 only at a SET that moves alpha text to a decimal place. An error that was
+/// trapped was given as well.
 pub fn demand_3(
     case: &Case,
     ran: &Ran,
@@ -155,10 +180,8 @@ pub fn demand_3(
         return Ok(());
     }
     let unit = Sound::of(&case.unit);
-    let is_meant = case.data.len() == unit.image_len()
-        && unit.is_valid(&case.data)
-        && unit.is_sound_state(&case.state);
-    if !is_meant {
+    let invalid = library::invalid(&case.unit, &Lent::bytes(&case.data), 0).result;
+    if invalid != 0 || !unit.is_sound_state(&case.state) {
         return Ok(());
     }
     reached.fenced_run();

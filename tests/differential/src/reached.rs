@@ -1,13 +1,16 @@
 //! What the cases have reached, counted.
 
 use crate::blanks::Blanks;
+use crate::breaking::Breakings;
 use crate::cases::{Kind, KINDS};
 use crate::decode::Sound;
+use crate::entries::Entries;
 use crate::formats::Formats;
 use crate::letters::Letters;
 use crate::loops::Loops;
 use crate::strict::Stricts;
 use crate::traps::Traps;
+use crate::validity::Validities;
 use std::fmt;
 
 /// The stops of document 01, and those of loops.
@@ -61,6 +64,12 @@ pub struct Reached {
     pub stricts: Stricts,
     /// What handlers and trapped errors have reached.
     pub traps: Traps,
+    /// What references that break a rule have reached.
+    pub breakings: Breakings,
+    /// What questions for invalid decimals have reached.
+    pub validities: Validities,
+    /// What questions for parts and fields have reached.
+    pub entries: Entries,
 }
 
 impl Reached {
@@ -133,6 +142,23 @@ impl Reached {
         self.loops.add(&other.loops);
         self.stricts.add(&other.stricts);
         self.traps.add(&other.traps);
+        self.breakings.add(&other.breakings);
+        self.validities.add(&other.validities);
+        self.entries.add(&other.entries);
+    }
+
+    /// The ways of each feature, each with how often it was reached, behind its words.
+    pub fn ways(&self) -> Vec<(&'static str, Vec<(&str, u64)>)> {
+        vec![
+            ("formatted moves", self.formats.reached().collect()),
+            ("blank-padded amounts", self.blanks.reached().collect()),
+            ("loops", self.loops.reached().collect()),
+            ("strict fields", self.stricts.reached().collect()),
+            ("trapped errors", self.traps.reached().collect()),
+            ("breaking references", self.breakings.reached().collect()),
+            ("validity", self.validities.reached().collect()),
+            ("parts and fields", self.entries.reached().collect()),
+        ]
     }
 
     /// What was never reached.
@@ -159,10 +185,10 @@ impl Reached {
             &others,
             &range::<4>(0),
         );
-        let formats = self.formats.reached().filter(|(_, count)| *count == 0);
-        missing.extend(formats.map(|(way, _)| format!("of a formatted move: {way}")));
-        let blanks = self.blanks.reached().filter(|(_, count)| *count == 0);
-        missing.extend(blanks.map(|(way, _)| format!("of a blank-padded amount: {way}")));
+        for (what, ways) in self.ways() {
+            let never = ways.iter().filter(|(_, count)| *count == 0);
+            missing.extend(never.map(|(way, _)| format!("of {what}: {way}")));
+        }
         for (name, bytes) in self.letters.unmet() {
             missing.extend(
                 bytes
@@ -170,12 +196,6 @@ impl Reached {
                     .map(|byte| format!("{name} of byte {byte:02X}")),
             );
         }
-        let loops = self.loops.reached().filter(|(_, count)| *count == 0);
-        missing.extend(loops.map(|(way, _)| format!("of a loop: {way}")));
-        let stricts = self.stricts.reached().filter(|(_, count)| *count == 0);
-        missing.extend(stricts.map(|(way, _)| format!("of a strict field: {way}")));
-        let traps = self.traps.reached().filter(|(_, count)| *count == 0);
-        missing.extend(traps.map(|(way, _)| format!("of a trapped error: {way}")));
         missing
     }
 }
@@ -218,29 +238,15 @@ impl fmt::Display for Reached {
             f,
             "{fenced_runs} runs inside the fence, {completed} statements completed"
         )?;
-        write!(f, "\nformatted moves")?;
-        for (way, count) in self.formats.reached() {
-            write!(f, "  {way}: {count}")?;
-        }
-        write!(f, "\nblank-padded amounts")?;
-        for (way, count) in self.blanks.reached() {
-            write!(f, "  {way}: {count}")?;
+        for (what, ways) in self.ways() {
+            write!(f, "\n{what}")?;
+            for (way, count) in ways {
+                write!(f, "  {way}: {count}")?;
+            }
         }
         write!(f, "\nletters")?;
         for (name, bytes) in self.letters.unmet() {
             write!(f, "  {name} of {} bytes", 256 - bytes.len())?;
-        }
-        write!(f, "\nloops")?;
-        for (way, count) in self.loops.reached() {
-            write!(f, "  {way}: {count}")?;
-        }
-        write!(f, "\nstrict fields")?;
-        for (way, count) in self.stricts.reached() {
-            write!(f, "  {way}: {count}")?;
-        }
-        write!(f, "\ntrapped errors")?;
-        for (way, count) in self.traps.reached() {
-            write!(f, "  {way}: {count}")?;
         }
         Ok(())
     }

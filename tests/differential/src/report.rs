@@ -24,6 +24,9 @@ pub fn told(seed: u64, number: u64) -> String {
             case.room
         ),
     ];
+    for other in &case.others {
+        lines.push(format!("other data {:?}", Hex(other)));
+    }
     if let Some(great) = case.great {
         lines.push(format!("allowance {great} where these do not end in 30"));
     }

@@ -8,7 +8,7 @@ use crate::ways::Ways;
 use std::ops::Range;
 
 /// The kinds of fields, in words, by their codes.
-const KINDS: [&str; 3] = ["alpha", "decimal", "record"];
+pub const KINDS: [&str; 3] = ["alpha", "decimal", "record"];
 
 /// The forms with bounds, in words, from 03 on.
 const FORMS: [&str; 3] = ["(s)", "(start,end)", "(pos:length)"];
@@ -152,7 +152,7 @@ fn way_of(role: &str, kind: &str, rule: &str) -> String {
 }
 
 /// Whether what stands in a part is written.
-fn is_written(role: &str) -> bool {
+pub fn is_written(role: &str) -> bool {
     role.starts_with("destination") || role.starts_with("control")
 }
 
@@ -280,10 +280,9 @@ impl Stricts {
 
     /// A reference to a loose field, if its bytes are some of a strict one.
     fn loose(&mut self, unit: &Sound, field: &Field, span: &Range<usize>, role: &str) {
-        let others = (0..unit.field_count()).map(|i| unit.field(i));
         let is_over =
             |other: Field| other.is_strict() && shares(&(other.start()..other.end()), span);
-        if !others.into_iter().any(is_over) {
+        if !unit.fields().any(is_over) {
             return;
         }
         let how = if is_written(role) {
@@ -303,7 +302,7 @@ impl Stricts {
         let statements = (0..unit.statement_count()).map(|i| unit.statement(i));
         let uses = statements.flat_map(|statement| unit.uses(&statement));
         let mut references = uses.flat_map(|offset| unit.references(offset));
-        let has_one = references.any(|one| one.field.is_strict() && one.is_bounded);
+        let has_one = references.any(|one| one.field.is_strict() && one.is_bounded());
         self.0.count_if(has_one, "inside the fence");
     }
 
@@ -355,13 +354,24 @@ impl Stricts {
 /// The parts of statement `i` that hold expressions, in the order in which they are worked out in this
 /// state, each with its words.
 fn parts(unit: &Sound, i: usize, state: &[u64]) -> Vec<(&'static str, u16)> {
-    let Statement { code, a, b, c, .. } = unit.statement(i);
     let control = || {
         open_loops(state)
             .last()
             .map(|open| unit.statement(open.entry).a)
     };
     let found = |role| control().map(|control| (role, control));
+    match unit.statement(i).code {
+        code::FOR if open_loops(state).len() == LOOPS_MOST => vec![],
+        code::LOOP_END => found("control at a loop end").into_iter().collect(),
+        code::NEXTLOOP => found("control at NEXTLOOP").into_iter().collect(),
+        _ => own_parts(unit, i),
+    }
+}
+
+/// The parts of statement `i` itself that hold expressions, in the order in which they are worked out,
+/// each with its words.
+pub fn own_parts(unit: &Sound, i: usize) -> Vec<(&'static str, u16)> {
+    let Statement { code, a, b, c, .. } = unit.statement(i);
     match code {
         code::SET => vec![("destination of SET", a), ("source", b)],
         code::CLEAR => vec![("destination of CLEAR", a)],
@@ -376,7 +386,6 @@ fn parts(unit: &Sound, i: usize, state: &[u64]) -> Vec<(&'static str, u16)> {
             ("mask", b),
             ("number of a formatted move", c),
         ],
-        code::FOR if open_loops(state).len() == LOOPS_MOST => vec![],
         code::FOR => {
             let [start, limit, step] = unit.numbers(b);
             vec![
@@ -386,8 +395,6 @@ fn parts(unit: &Sound, i: usize, state: &[u64]) -> Vec<(&'static str, u16)> {
                 ("step", step),
             ]
         }
-        code::LOOP_END => found("control at a loop end").into_iter().collect(),
-        code::NEXTLOOP => found("control at NEXTLOOP").into_iter().collect(),
         _ => vec![],
     }
 }

@@ -78,25 +78,14 @@ impl Ways {
 #[cfg(test)]
 mod tests {
     use super::Ways;
-    use crate::blanks::Blanks;
-    use crate::formats::Formats;
-    use crate::loops::Loops;
-    use crate::strict::Stricts;
-    use crate::traps::Traps;
+    use crate::reached::Reached;
 
     #[test]
     fn each_way_is_listed_once() {
-        let (blanks, formats) = (Blanks::default(), Formats::default());
-        let (loops, stricts) = (Loops::default(), Stricts::default());
-        let traps = Traps::default();
-        let blanks: Vec<(&str, u64)> = blanks.reached().collect();
-        let formats: Vec<(&str, u64)> = formats.reached().collect();
-        let loops: Vec<(&str, u64)> = loops.reached().collect();
-        let stricts: Vec<(&str, u64)> = stricts.reached().collect();
-        let traps: Vec<(&str, u64)> = traps.reached().collect();
-        for ways in [blanks, formats, loops, stricts, traps] {
-            for (i, way) in ways.iter().enumerate() {
-                assert!(!ways[..i].contains(way), "{}", way.0);
+        for (what, ways) in Reached::default().ways() {
+            for (i, (way, _)) in ways.iter().enumerate() {
+                let is_again = ways[..i].iter().any(|(other, _)| other == way);
+                assert!(!is_again, "{what}: {way}");
             }
         }
     }
