@@ -1,5 +1,6 @@
-/* A host in C: it loads a unit from a file, checks it, asks the fence, and runs it in slices of a
- * few statements, as a host does that has a terminal or a printer to see to between them.
+/* A host in C: it loads a unit from a file, checks it, shows its fields, asks the fence and whether
+ * its data is valid, and runs it in slices of a few statements, as a host does that has a terminal or
+ * a printer to see to between them.
  *
  *     host FILE [SLICE]
  *
@@ -19,6 +20,9 @@
 
 /* The statements that the whole run may complete. */
 #define STATEMENTS_MOST UINT64_C(100000)
+
+/* The breaches that are shown; of the others there is the number. */
+#define BREACHES_MOST 5
 
 /* Prints bytes that come from outside, so that none of them commands a terminal: printable ASCII as
  * it is, but a backslash twice, and any other byte as \xHH. */
@@ -43,15 +47,61 @@ static void print_stop(const char *what, uint64_t stop, uint64_t place)
     printf("%s %" PRIu64 " at %" PRIu64 ": %.*s\n", what, stop, place, (int)length, (char *)words);
 }
 
-/* Prints what the fence says of a unit that has passed its check. */
-static void print_fence(const uint8_t *unit, size_t unit_len)
+/* Prints the fields of a unit that has passed its check. */
+static void print_fields(const uint8_t *unit, size_t unit_len)
 {
-    uint64_t answer[2]; /* for a no, the statement and the rule that it breaks */
+    static const char *const kinds[] = {"alpha", "decimal", "record"};
+    uint64_t answer[5]; /* kind, offset, size, count, whether it is strict */
 
-    if (dibol_fence(unit, unit_len, answer, 2) == DIBOL_YES)
-        printf("fence yes\n");
-    else
+    for (size_t i = 0; dibol_field(unit, unit_len, i, answer, 5); i++)
+        printf("field %zu: %s%s, at %" PRIu64 ", size %" PRIu64 ", count %" PRIu64 "\n", i,
+               answer[0] <= DIBOL_RECORD ? kinds[answer[0]] : "of another kind",
+               answer[4] ? " strict" : "", answer[1], answer[2], answer[3]);
+}
+
+/* Prints a reference that breaks a fence rule: its statement, its field, the bytes that it names, if
+ * its bounds fix any, and the library's words for the rule. */
+static void print_breach(const uint64_t *row)
+{
+    uint8_t words[64]; /* no words are longer */
+    uint64_t length = dibol_breach_words(row[1], words, sizeof words);
+
+    printf("statement %" PRIu64 ", field %" PRIu64 " %s", row[0], row[3], row[2] ? "written" : "read");
+    if (row[6] == 1)
+        printf(", byte %" PRIu64, row[5]);
+    else if (row[6] > 1)
+        printf(", bytes %" PRIu64 " to %" PRIu64, row[5], row[5] + row[6] - 1);
+    printf(": %.*s\n", (int)length, (char *)words);
+}
+
+/* Prints the first references of a unit that break a fence rule, and how many more there are. */
+static void print_breaches(const uint8_t *unit, size_t unit_len)
+{
+    uint64_t rows[BREACHES_MOST * DIBOL_ROW_LEN];
+    uint64_t count = dibol_breaches(unit, unit_len, 0, rows, BREACHES_MOST * DIBOL_ROW_LEN);
+
+    for (size_t i = 0; i < count && i < BREACHES_MOST; i++)
+        print_breach(rows + i * DIBOL_ROW_LEN);
+    if (count > BREACHES_MOST)
+        printf("and %" PRIu64 " more\n", count - BREACHES_MOST);
+}
+
+/* Prints what the fence says of a unit that has passed its check: for a no what breaks its rules, for
+ * a yes whether the data is what a yes asks for. A host that trusts a yes asks that first. */
+static void print_fence(const uint8_t *unit, size_t unit_len, const uint8_t *data, size_t data_len)
+{
+    uint64_t answer[4]; /* of a no the statement and the rule; of data that is not valid 22, the
+                         * field, the element and its offset */
+
+    if (dibol_fence(unit, unit_len, answer, 2) != DIBOL_YES) {
         printf("fence no %" PRIu64 ": rule %" PRIu64 "\n", answer[0], answer[1]);
+        print_breaches(unit, unit_len);
+    } else if (dibol_invalid(unit, unit_len, data, data_len, answer, 4) != 0) {
+        printf("fence yes, but not for this data: element %" PRIu64 " of field %" PRIu64
+               ", at byte %" PRIu64 ", is no number\n", answer[2], answer[1], answer[3]);
+    } else {
+        printf("fence yes\n");
+    }
 }
 
 /* Runs a unit over its data in slices, and prints how it stopped. A run that reached its end may have
@@ -99,7 +149,8 @@ static long read_file(const char *name, uint8_t *bytes)
     return length;
 }
 
-/* Checks a unit, asks the fence, runs it over a copy of its image and prints the data. */
+/* Checks a unit, shows its fields, asks the fence, runs it over a copy of its image and prints the
+ * data. */
 static int host(const uint8_t *unit, size_t unit_len, uint64_t slice)
 {
     uint64_t answer[3] = {0, 0, 0}; /* stop, place, D */
@@ -111,11 +162,12 @@ static int host(const uint8_t *unit, size_t unit_len, uint64_t slice)
         return 2;
     }
     printf("unit %zu bytes, data %" PRIu64 "\n", unit_len, answer[2]);
-    print_fence(unit, unit_len);
+    print_fields(unit, unit_len);
     data = (uint8_t *)malloc(answer[2]);
     if (!data)
         return 3;
     memcpy(data, unit, answer[2]); /* the data image stands first in a unit */
+    print_fence(unit, unit_len, data, answer[2]);
     stop = run_in_slices(unit, unit_len, data, answer[2], slice);
     print_bytes(stdout, (const char *)data, answer[2]);
     printf("\n");
