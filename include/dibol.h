@@ -21,8 +21,8 @@
    - A pointer is never null. If its length is 0, nothing is read or written
      through it, and any other pointer will do.
    - A pointer to numbers is aligned as uint64_t is. Bytes may lie anywhere.
-   - Memory that is not const (`bytes`, `state`, `answer`, `text`) overlaps
-     nothing else that the same call is lent.
+   - Memory that is not const (`bytes` of dibol_run, `state`, `answer`, `rows`,
+     `text`) overlaps nothing else that the same call is lent.
    - During the call nobody else writes to the lent memory, or reads what is
      not const.
 
@@ -40,14 +40,17 @@
 extern "C" {
 #endif
 
-#define DIBOL_VERSION "0.3.0"
+#define DIBOL_VERSION "0.4.0"
 
 /* Ten thousand for the first number, a hundred for the second, one for the
    third. */
-#define DIBOL_VERSION_NUMBER 300
+#define DIBOL_VERSION_NUMBER 400
 
 /* How many numbers a resume state has. */
 #define DIBOL_STATE_LEN 104
+
+/* How many numbers a row of dibol_breaches has. */
+#define DIBOL_ROW_LEN 8
 
 /* Why a call ended: the stop. Each has the words that dibol_words gives.
 
@@ -85,15 +88,23 @@ enum dibol_verdict {
     DIBOL_REFUSED = 2
 };
 
-/* The fence rule that a statement breaks first. */
+/* The fence rule that a statement, or a reference, breaks first. Each has the
+   words that dibol_breach_words gives. */
 enum dibol_breach {
     DIBOL_BREACH_NONE = 0,
-    DIBOL_BREACH_BOUND_NOT_LITERAL = 1, /* a bound is not a literal */
-    DIBOL_BREACH_BOUNDS_WRONG = 2,      /* the bounds give 21 */
-    DIBOL_BREACH_LEAVES_FIELD = 3,      /* a span leaves its field */
-    DIBOL_BREACH_OVER_ELEMENTS = 4,     /* a decimal span is not in one element */
-    DIBOL_BREACH_STOPS_MID_ELEMENT = 5, /* a decimal destination ends inside its element */
-    DIBOL_BREACH_ON_DECIMAL = 6         /* an alpha destination shares a byte with a decimal field */
+    DIBOL_BREACH_BOUND_NOT_LITERAL = 1, /* A bound is not a literal */
+    DIBOL_BREACH_BOUNDS_WRONG = 2,      /* The bounds give 21 */
+    DIBOL_BREACH_LEAVES_FIELD = 3,      /* A span leaves its field */
+    DIBOL_BREACH_OVER_ELEMENTS = 4,     /* A decimal span is not in one element */
+    DIBOL_BREACH_STOPS_MID_ELEMENT = 5, /* A decimal destination ends inside its element */
+    DIBOL_BREACH_ON_DECIMAL = 6         /* An alpha destination shares a byte with a decimal field */
+};
+
+/* The kind of a field. */
+enum dibol_kind {
+    DIBOL_ALPHA = 0,
+    DIBOL_DECIMAL = 1,
+    DIBOL_RECORD = 2
 };
 
 /* Runs a unit over a data buffer, from a resume state and for at most
@@ -108,8 +119,8 @@ enum dibol_breach {
    `state` with the next one. After DIBOL_SPENT, call again with the same unit,
    buffer and state, and the run goes on as if it had not stopped.
 
-   - Zero the state for a new run: a finished one, at the end, runs nothing and
-     gives DIBOL_END with the count 0.
+   - A state at N gives DIBOL_END and the count 0, and runs nothing; zero the
+     state for a new run.
    - Keep each state with its unit and its data. It bears no mark of its unit:
      any state that is sound for the unit is accepted.
    - An allowance is not a time, and each call checks the unit first:
@@ -153,19 +164,68 @@ uint64_t dibol_run(const uint8_t *unit, size_t unit_len,
 uint64_t dibol_check(const uint8_t *unit, size_t unit_len,
                      uint64_t *answer, size_t answer_len);
 
+/* Checks a unit, and gives the stop as dibol_check does. `answer` gets six
+   numbers: D, the length of the data; F, the number of field entries; E and P,
+   the lengths of the expressions and the literals; N, the number of statements;
+   and how many digits a decimal of the unit has at most, which is 18. All six
+   are 0 for a refused unit. */
+uint64_t dibol_parts(const uint8_t *unit, size_t unit_len,
+                     uint64_t *answer, size_t answer_len);
+
+/* Gives 1 if the unit is sound and has a field entry of this number, counted
+   from 0, else 0. `answer` gets five numbers: the kind (enum dibol_kind), the
+   offset in the data, the size of an element, the count of elements, and 1 if
+   the field is strict, else 0. All five are 0 if there is no such entry. */
+uint64_t dibol_field(const uint8_t *unit, size_t unit_len, size_t field,
+                     uint64_t *answer, size_t answer_len);
+
 /* Checks a unit, holds each of its statements to the fence rules, and gives a
    verdict. `answer` gets two numbers: for DIBOL_NO the first statement that
    breaks a rule and the number of the rule, for DIBOL_REFUSED the stop (1 to 5)
    and its place, for DIBOL_YES 0 and 0. OWNER.md says what a yes promises,
-   for data whose decimal fields are all valid. A unit with a no can still be
-   run. */
+   for data whose decimal fields are all valid: ask dibol_invalid of the data
+   that a run is to start with. A unit with a no can still be run. */
 uint64_t dibol_fence(const uint8_t *unit, size_t unit_len,
                      uint64_t *answer, size_t answer_len);
+
+/* Says whether the decimals of a data buffer are valid: 0 if all of them are,
+   else 1 to 5 if the unit is refused, DIBOL_WRONG_SIZE (6) if the buffer does
+   not have the unit's D bytes, and DIBOL_BAD_DIGIT (22) if an element of a
+   decimal field cannot be read as a number. `answer` gets four numbers: the
+   number that the call gives, and for 22 the first such element, by its field
+   entry, its number in the field, counted from 1 as a subscript counts, and
+   its offset in the data; otherwise these three are 0. Alpha and record entries
+   are not looked at. Nothing is written to `bytes`. */
+uint64_t dibol_invalid(const uint8_t *unit, size_t unit_len,
+                       const uint8_t *bytes, size_t bytes_len,
+                       uint64_t *answer, size_t answer_len);
 
 /* The number of the fence rule that a statement, counted from 0, breaks first.
    It is DIBOL_BREACH_NONE if the statement breaks none, if there is no such
    statement, and if the unit is refused: so ask dibol_fence first. */
 uint64_t dibol_breach(const uint8_t *unit, size_t unit_len, size_t statement);
+
+/* The number of references of a unit that break a fence rule; 0 for a yes, and
+   for a refused unit. `rows` gets a row of DIBOL_ROW_LEN numbers for each, from
+   the breach numbered `skip`, counted from 0, on: whole rows alone, as many as
+   fit; the rest of `rows` stays as it was. The numbers of a row are
+
+   0  the statement
+   1  the first rule that this reference breaks by itself (enum dibol_breach)
+   2  1 if the reference names what the statement writes, 0 if it is read
+   3  the field entry
+   4  the form of the reference, which is the code of its item: 2 field,
+      3 field(subscript), 4 field(start,end), 5 field(pos:length)
+   5  the offset in the data of the bytes that it names
+   6  their number; both are 0 for the rules 1 and 2, which fix no bytes
+   7  the offset of the item in the expressions
+
+   Statements come in their order, the expressions of a statement in the order
+   in which a run works them out, and the references of an expression from left
+   to right. So the first row has the statement and the rule of dibol_fence's
+   no. To go through all of them, call again with a greater `skip`. */
+uint64_t dibol_breaches(const uint8_t *unit, size_t unit_len, size_t skip,
+                        uint64_t *rows, size_t rows_len);
 
 /* The length of the alpha literal of a statement, counted from 0. There is one
    if the statement is a SET whose source is an alpha literal and nothing more;
@@ -181,6 +241,9 @@ uint64_t dibol_literal(const uint8_t *unit, size_t unit_len, size_t statement,
    gives their whole length, as snprintf does, and 0 for a number that is no
    stop. No words are longer than 63 bytes. */
 uint64_t dibol_words(uint64_t stop, uint8_t *text, size_t text_len);
+
+/* The same of a fence rule, 1 to 6; any other number has no words. */
+uint64_t dibol_breach_words(uint64_t rule, uint8_t *text, size_t text_len);
 
 /* The library's own DIBOL_VERSION_NUMBER and DIBOL_STATE_LEN, for a host to
    compare once with this header's. */

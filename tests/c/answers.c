@@ -1,6 +1,7 @@
 /* The exact answers of the C library: document 01's example, every refusal, every run error, a
  * formatted move, loops and their numbers in the state, trapped errors and theirs, states of earlier
- * versions, the fence and its rules, literals. */
+ * versions, parts and fields, the fence, its rules and the references that break them, data that is
+ * valid and data that is not, literals. */
 #include "expect.h"
 
 #define LENGTH(array) (sizeof(array) / sizeof *(array))
@@ -100,6 +101,7 @@ static const char LITERALS[] = "999999999999999999"
 #define FIELD(f) "\2\0" f
 #define SUBSCRIPT(f) "\3\0" f
 #define START_END(f) "\4\0" f
+#define POS_LENGTH(f) "\5\0" f
 #define AB "\6\0\34\0\2"
 #define AMOUNT "\6\0\36\0\4"
 #define MASK "\6\0\42\0\4"
@@ -143,11 +145,40 @@ static void ran(const coded *unit, uint64_t stop, uint64_t place, uint64_t count
         SAME(state[0], place);
 }
 
+/* Expects numbers, and as many as there are in an answer. */
+static void are(const uint64_t *found, const uint64_t *wanted, size_t count)
+{
+    for (size_t i = 0; i < count; i++)
+        SAME(found[i], wanted[i]);
+}
+
+#define ARE(found, ...)                                                                            \
+    are(found, (uint64_t[]){__VA_ARGS__}, sizeof((uint64_t[]){__VA_ARGS__}) / sizeof(uint64_t))
+
+/* Expects a refused unit to have no parts, no fields and no breaches, whatever is asked. */
+static void empty(const uint8_t *unit, size_t length, uint64_t stop)
+{
+    uint64_t answer[DIBOL_ROW_LEN] = {99, 99, 99, 99, 99, 99, 99, 99};
+
+    SAME(dibol_breaches(unit, length, 0, answer, DIBOL_ROW_LEN), 0);
+    ARE(answer, 99, 99, 99, 99, 99, 99, 99, 99);
+    SAME(dibol_parts(unit, length, answer, 6), stop);
+    ARE(answer, 0, 0, 0, 0, 0, 0, 99, 99);
+    memset(answer, 99, sizeof answer);
+    SAME(dibol_field(unit, length, 0, answer, 5), 0);
+    ARE(answer, 0, 0, 0, 0, 0);
+    memset(answer, 99, sizeof answer);
+    SAME(dibol_invalid(unit, length, (const uint8_t *)"x", 1, answer, 4), stop);
+    ARE(answer, stop, 0, 0, 0);
+}
+
 /* Expects check, fence and run to refuse a unit alike, and nothing else to be found in it. */
 static void refused(const uint8_t *unit, size_t length, uint64_t stop, uint64_t place)
 {
     uint64_t answer[3] = {99, 99, 99}, state[DIBOL_STATE_LEN] = {0};
     uint8_t data[1] = {'x'};
+
+    empty(unit, length, stop);
 
     SAME(dibol_check(unit, length, answer, 3), stop);
     SAME(answer[0], stop);
@@ -635,12 +666,103 @@ static void old_states(void)
     old_state(&loop, looping, 101, 2, 0, 3, "0102wxyz5");
 }
 
-/* Expects the fence to name statement 1, behind a STOP, and the number of a rule. */
-static void fenced_off(const char *expressions, size_t length, entry statement, uint64_t rule)
+/* Expects the parts and the fields that a unit tells of. */
+static void parts_and_fields(void)
+{
+    coded unit = ONE(FIELD("\1") CLOSE, 2, 0, 0, 0);
+    uint64_t answer[6];
+
+    SAME(dibol_parts(EXAMPLE, 42, answer, 6), 0);
+    ARE(answer, 2, 1, 4, 0, 2, 18);
+    SAME(dibol_parts(unit.bytes, unit.len, answer, 6), 0);
+    ARE(answer, sizeof IMAGE - 1, LENGTH(FIELDS), 4, sizeof LITERALS - 1, 1, 18);
+    for (size_t i = 0; i < LENGTH(FIELDS); i++) {
+        SAME(dibol_field(unit.bytes, unit.len, i, answer, 5), 1);
+        ARE(answer, FIELDS[i].first, FIELDS[i].a, FIELDS[i].b, FIELDS[i].c, 0);
+    }
+    unit.bytes[sizeof IMAGE - 1 + 8 + 1] = 0x80;
+    SAME(dibol_field(unit.bytes, unit.len, 1, answer, 5), 1);
+    ARE(answer, DIBOL_ALPHA, 4, 4, 1, 1);
+    SAME(dibol_field(unit.bytes, unit.len, 2, answer, 5), 1);
+    ARE(answer, DIBOL_RECORD, 0, 8, 1, 0);
+}
+
+/* Past the last field there is none, however far. */
+static void past_the_fields(void)
+{
+    static const size_t past[] = {4, 5, 512, 65535, 65536, 65537, SIZE_MAX};
+    const entry stop[] = {{11, 0, 0, 0}};
+    parts p = {"x", FIELDS, 0, "", 0, "", stop, 1};
+    coded unit = unit_with("", 0, stop, 1);
+    uint64_t answer[6];
+
+    for (size_t i = 0; i < LENGTH(past); i++) {
+        memset(answer, 99, sizeof answer);
+        SAME(dibol_field(unit.bytes, unit.len, past[i], answer, 5), 0);
+        ARE(answer, 0, 0, 0, 0, 0);
+    }
+    unit = unit_of(&p);
+    SAME(dibol_parts(unit.bytes, unit.len, answer, 6), 0);
+    ARE(answer, 1, 0, 0, 0, 1, 18);
+    SAME(dibol_field(unit.bytes, unit.len, 0, answer, 5), 0);
+    ARE(answer, 0, 0, 0, 0, 0);
+}
+
+/* Expects what is answered of data for the fields above: 0, or 22 with a field, an element and an
+ * offset. Nothing of the data is changed. */
+static void held(const char *data, uint64_t number, uint64_t field, uint64_t element,
+                 uint64_t offset)
+{
+    const coded unit = ONE(FIELD("\1") CLOSE, 2, 0, 0, 0);
+    uint8_t bytes[sizeof IMAGE - 1];
+    uint64_t answer[4] = {99, 99, 99, 99};
+
+    memcpy(bytes, data, sizeof bytes);
+    SAME(dibol_invalid(unit.bytes, unit.len, bytes, sizeof bytes, answer, 4), number);
+    ARE(answer, number, field, element, offset);
+    SAME_BYTES(bytes, data, sizeof bytes);
+}
+
+/* Elements in turn, each with its last character judged otherwise than the others, and spaces in
+ * front; alpha may hold anything, and of the record nothing is asked. */
+static void valid_data(void)
+{
+    const coded unit = ONE(FIELD("\1") CLOSE, 2, 0, 0, 0);
+    uint8_t bytes[16] = {0};
+    uint64_t answer[4];
+
+    held(IMAGE, 0, 0, 0, 0);
+    held("0p9y\0\377\n 9", 0, 0, 0, 0);
+    held("  " " 7" "...." " ", 0, 0, 0, 0);
+    held("P102" "wxyz" "0", 22, 0, 1, 0);
+    held("p102" "wxyz" "0", 22, 0, 1, 0);
+    held("1 02" "wxyz" "0", 22, 0, 1, 0);
+    held("01z2" "wxyz" "0", 22, 0, 2, 2);
+    held("010z" "wxyz" "0", 22, 0, 2, 2);
+    held("p1p1" "wxyz" "z", 22, 0, 1, 0);
+    held("0102" "wxyz" "z", 22, 3, 1, 8);
+    held("0102" "wxyz" "o", 22, 3, 1, 8);
+    held("0102" "wxyz" ":", 22, 3, 1, 8);
+    held("0102" "wxyz" "/", 22, 3, 1, 8);
+    for (size_t length = 0; length < sizeof bytes; length++)
+        if (length != sizeof IMAGE - 1) {
+            memset(answer, 99, sizeof answer);
+            SAME(dibol_invalid(unit.bytes, unit.len, bytes, length, answer, 4), DIBOL_WRONG_SIZE);
+            ARE(answer, DIBOL_WRONG_SIZE, 0, 0, 0);
+        }
+}
+
+/* Expects the fence to name statement 1, behind a STOP, and the number of a rule, and one reference to
+ * break it: its row is this. */
+static void fenced_off(const char *expressions, size_t length, entry statement, const uint64_t *row)
 {
     const entry both[] = {{11, 0, 0, 0}, statement};
     const coded unit = unit_with(expressions, length, both, 2);
-    uint64_t answer[2] = {99, 99};
+    const uint64_t rule = row[1];
+    uint64_t answer[2] = {99, 99}, rows[DIBOL_ROW_LEN];
+
+    SAME(dibol_breaches(unit.bytes, unit.len, 0, rows, DIBOL_ROW_LEN), 1);
+    are(rows, row, DIBOL_ROW_LEN);
 
     SAME(dibol_fence(unit.bytes, unit.len, answer, 2), 1);
     SAME(answer[0], 1);
@@ -651,18 +773,89 @@ static void fenced_off(const char *expressions, size_t length, entry statement, 
     SAME(dibol_breach(unit.bytes, unit.len, SIZE_MAX), 0);
 }
 
-#define OFF(rule, expressions, ...)                                                                \
-    fenced_off(expressions, sizeof(expressions) - 1, (entry){__VA_ARGS__}, rule)
+#define OFF(row, expressions, ...)                                                                 \
+    fenced_off(expressions, sizeof(expressions) - 1, (entry){__VA_ARGS__}, row)
+#define ROW(...) ((uint64_t[]){__VA_ARGS__})
 
-/* For each rule a place that breaks it. */
+/* For each rule a place that breaks it: statement, rule, written, field, form, start, length, item. */
 static void fence_rules(void)
 {
-    OFF(1, FIELD("\3") SUBSCRIPT("\0") CLOSE, 2, 0, 0, 0);
-    OFF(2, NUMBER_0 NUMBER_2 START_END("\1") CLOSE, 2, 0, 0, 0);
-    OFF(3, NUMBER_3 SUBSCRIPT("\0") CLOSE, 2, 0, 0, 0);
-    OFF(4, NUMBER_2 NUMBER_3 START_END("\0") CLOSE, 2, 0, 0, 0);
-    OFF(5, NUMBER_1 NUMBER_1 START_END("\0") CLOSE, 2, 0, 0, 0);
-    OFF(6, FIELD("\2") CLOSE, 5, 0, 0, 0);
+    OFF(ROW(1, 1, 1, 0, 3, 0, 0, 3), FIELD("\3") SUBSCRIPT("\0") CLOSE, 2, 0, 0, 0);
+    OFF(ROW(1, 2, 1, 1, 4, 0, 0, 8), NUMBER_0 NUMBER_2 START_END("\1") CLOSE, 2, 0, 0, 0);
+    OFF(ROW(1, 3, 1, 0, 3, 4, 2, 4), NUMBER_3 SUBSCRIPT("\0") CLOSE, 2, 0, 0, 0);
+    OFF(ROW(1, 4, 1, 0, 4, 1, 2, 8), NUMBER_2 NUMBER_3 START_END("\0") CLOSE, 2, 0, 0, 0);
+    OFF(ROW(1, 5, 1, 0, 4, 0, 1, 8), NUMBER_1 NUMBER_1 START_END("\0") CLOSE, 2, 0, 0, 0);
+    OFF(ROW(1, 6, 1, 2, 2, 0, 8, 0), FIELD("\2") CLOSE, 5, 0, 0, 0);
+    OFF(ROW(1, 3, 1, 1, 5, 2, 3, 9), NUMBER_1 NUMBER_3 NEGATE POS_LENGTH("\1") CLOSE, 2, 0, 0, 0);
+}
+
+/* A SET of field 0 by its own value from the sum of three references, of which the first leaves its
+ * field, the second keeps the rules, and the third is over two elements; then an UPCASE of the record,
+ * and the SET once more. */
+static const char BROKEN[] = FIELD("\0") SUBSCRIPT("\0") CLOSE                /* the place, at 0 */
+    NUMBER_3 SUBSCRIPT("\0") NUMBER_2 SUBSCRIPT("\0") ADD                    /* the source, at 7 */
+    NUMBER_2 NUMBER_3 START_END("\0") ADD CLOSE FIELD("\2") CLOSE;           /* the record, at 35 */
+
+static const uint64_t BROKEN_ROWS[7 * DIBOL_ROW_LEN] = {
+    0, 1, 1, 0, 3, 0, 0, 3,  /* the place, by rule 1; the reference in its bound is read */
+    0, 3, 0, 0, 3, 4, 2, 11, /* the others by their own rules */
+    0, 4, 0, 0, 4, 1, 2, 30,
+    2, 6, 1, 2, 2, 0, 8, 35, /* statement 1, a STOP, has none */
+    3, 1, 1, 0, 3, 0, 0, 3,  /* the same items, of another statement */
+    3, 3, 0, 0, 3, 4, 2, 11,
+    3, 4, 0, 0, 4, 1, 2, 30};
+
+/* Every reference that breaks a rule has a row, from any one on, and whole rows alone are written. */
+static void breaches(void)
+{
+    static const size_t skips[] = {0, 1, 2, 5, 6, 7, 8, 65536, SIZE_MAX / 8, SIZE_MAX};
+    const entry set = {1, 0, 7, 0};
+    const entry all[] = {set, {11, 0, 0, 0}, {5, 35, 0, 0}, set};
+    const coded unit = unit_with(BROKEN, sizeof BROKEN - 1, all, 4);
+    uint64_t rows[8 * DIBOL_ROW_LEN], wanted[8 * DIBOL_ROW_LEN];
+
+    for (size_t i = 0; i < LENGTH(skips); i++)
+        for (size_t length = 0; length <= LENGTH(rows); length++) {
+            size_t left = skips[i] < 7 ? 7 - skips[i] : 0, room = length / DIBOL_ROW_LEN;
+            size_t put = (left < room ? left : room) * DIBOL_ROW_LEN;
+
+            memset(rows, 99, sizeof rows);
+            memset(wanted, 99, sizeof wanted);
+            if (put > 0)
+                memcpy(wanted, BROKEN_ROWS + skips[i] * DIBOL_ROW_LEN, put * sizeof *rows);
+            SAME(dibol_breaches(unit.bytes, unit.len, skips[i], rows, length), 7);
+            SAME_BYTES(rows, wanted, sizeof rows);
+        }
+}
+
+/* Expects one reference that breaks a rule, the first of a unit of one statement, and its row. */
+static void first_row(const coded *unit, uint64_t count, const uint64_t *row)
+{
+    uint64_t rows[DIBOL_ROW_LEN];
+
+    SAME(dibol_breaches(unit->bytes, unit->len, 0, rows, DIBOL_ROW_LEN), count);
+    are(rows, row, DIBOL_ROW_LEN);
+}
+
+/* Lent where no row is wanted. */
+static uint64_t no_rows[1];
+
+/* What is written of each statement that has more than one expression: a mask and the numbers of a FOR
+ * are read, in the order in which a run works them out; an alpha source may cover decimals. */
+static void written_and_read(void)
+{
+    coded unit = ONE(FIELD("\1") CLOSE FIELD("\2") CLOSE, 1, 0, 4, 0);
+
+    SAME(dibol_breaches(unit.bytes, unit.len, 0, no_rows, 0), 0);
+    unit = ONE(FIELD("\2") CLOSE NUMBER_9 NUMBER_9 START_END("\1") CLOSE FIELD("\3") CLOSE, 13, 0, 4,
+               16);
+    first_row(&unit, 2, ROW(0, 6, 1, 2, 2, 0, 8, 0));
+    unit = ONE(FIELD("\1") CLOSE NUMBER_9 NUMBER_9 START_END("\1") CLOSE FIELD("\3") CLOSE, 13, 0, 4,
+               16);
+    first_row(&unit, 1, ROW(0, 2, 0, 1, 4, 0, 0, 12));
+    unit = LOOP_OF(NUMBER_3 SUBSCRIPT("\0"), FIELD("\3") SUBSCRIPT("\0"), NUMBER_1);
+    first_row(&unit, 2, ROW(1, 3, 0, 0, 3, 4, 2, 8));
+    SAME(dibol_breaches(EXAMPLE, 42, 0, no_rows, 0), 0);
 }
 
 static void literals(void)
@@ -684,7 +877,7 @@ static void literals(void)
 
 static void versions(void)
 {
-    SAME(dibol_version(), 300);
+    SAME(dibol_version(), 400);
     SAME(dibol_state_len(), DIBOL_STATE_LEN);
     SAME(DIBOL_STATE_LEN, 104);
 }
@@ -708,7 +901,12 @@ int main(void)
     starting_anew();
     foreign_states();
     old_states();
+    parts_and_fields();
+    past_the_fields();
+    valid_data();
     fence_rules();
+    breaches();
+    written_and_read();
     literals();
     versions();
     return told("answers");

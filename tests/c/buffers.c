@@ -7,7 +7,8 @@
 #define WORDS_MOST 64
 #define UNTOUCHED 0xA5A5A5A5A5A5A5A5u
 
-static const size_t LENGTHS[] = {0, 1, 2, 3, 4, 51, 52, 53, 100, 101, 102, 103, 104, 105};
+static const size_t LENGTHS[] = {0,  1,  2,  3,  4,  5,  6,   7,   8,   9,   10,  15, 16,
+                                 17, 23, 24, 51, 52, 53, 100, 101, 102, 103, 104, 105};
 #define LENGTH_COUNT (sizeof LENGTHS / sizeof *LENGTHS)
 
 /* Numbers to lend, between two red zones. */
@@ -59,6 +60,71 @@ static void answers(size_t length)
     holds(length, ran, 3);
 }
 
+/* The same of parts and fields, of data, and of rows. */
+static void told_numbers(size_t length)
+{
+    const uint64_t all[] = {2, 1, 4, 0, 2, 18}, field[] = {1, 0, 2, 1, 0}, zeros[6] = {0};
+    const uint64_t refused[] = {1, 0, 0, 0}, size[] = {6, 0, 0, 0}, digit[] = {22, 0, 1, 0};
+
+    clean();
+    SAME(dibol_parts(EXAMPLE, 42, lent, length), 0);
+    holds(length, all, 6);
+    clean();
+    SAME(dibol_parts(EXAMPLE, 41, lent, length), 1);
+    holds(length, zeros, 6);
+    clean();
+    SAME(dibol_field(EXAMPLE, 42, 0, lent, length), 1);
+    holds(length, field, 5);
+    clean();
+    SAME(dibol_field(EXAMPLE, 42, 1, lent, length), 0);
+    holds(length, zeros, 5);
+    clean();
+    SAME(dibol_field(EXAMPLE, 41, 0, lent, length), 0);
+    holds(length, zeros, 5);
+    clean();
+    SAME(dibol_invalid(EXAMPLE, 42, EXAMPLE, 2, lent, length), 0);
+    holds(length, zeros, 4);
+    clean();
+    SAME(dibol_invalid(EXAMPLE, 42, (const uint8_t *)"4U", 2, lent, length), 22);
+    holds(length, digit, 4);
+    clean();
+    SAME(dibol_invalid(EXAMPLE, 42, EXAMPLE, 3, lent, length), 6);
+    holds(length, size, 4);
+    clean();
+    SAME(dibol_invalid(EXAMPLE, 41, EXAMPLE, 2, lent, length), 1);
+    holds(length, refused, 4);
+}
+
+/* Rows of every length: whole ones alone. The example breaks no rule; in the other unit both statements
+ * are an INCR of a span over two elements. */
+static void rows(size_t length)
+{
+    const uint64_t both[] = {0, 4, 1, 0, 4, 0, 2, 8, 1, 4, 1, 0, 4, 0, 2, 8};
+    static const uint8_t two[] = {
+        0x34, 0x31,                                     /* data image: "41" */
+        0x01, 0x00, 0x00, 0x00, 0x00, 0x01, 0x00, 0x02, /* field 0: two decimals */
+        0x01, 0x00, 0x00, 0x01, 0x01, 0x00, 0x01, 0x01, /* expression at 0: 1, 2, */
+        0x04, 0x00, 0x00, 0x00,                         /* field 0 (start,end) */
+        0x31, 0x32,                                     /* literals */
+        0x03, 0x00, 0x00, 0x00, 0x00, 0x00, 0x00, 0x00, /* statement 0: INCR */
+        0x03, 0x00, 0x00, 0x00, 0x00, 0x00, 0x00, 0x00, /* statement 1: INCR */
+        0x00, 0x02, 0x00, 0x01, 0x00, 0x0C, 0x00, 0x02, 0x00, 0x02, 0x44, 0x42};
+
+    for (size_t skip = 0; skip < 4; skip++) {
+        size_t left = skip < 2 ? 2 - skip : 0, room = length / DIBOL_ROW_LEN;
+
+        clean();
+        SAME(dibol_breaches(two, sizeof two, skip, lent, length), 2);
+        holds(length, both + (2 - left) * DIBOL_ROW_LEN, (left < room ? left : room) * DIBOL_ROW_LEN);
+        clean();
+        SAME(dibol_breaches(EXAMPLE, 42, skip, lent, length), 0);
+        holds(length, both, 0);
+        clean();
+        SAME(dibol_breaches(two, sizeof two - 1, skip, lent, length), 0);
+        holds(length, both, 0);
+    }
+}
+
 /* A state of every length, all zero: 104 numbers are run from, and any other length is 7. */
 static void states(size_t length)
 {
@@ -77,18 +143,21 @@ static void states(size_t length)
     SAME_BYTES(data, sound ? "[42]" : "[41]", 4);
 }
 
-/* The words of a stop with room for none, some and all of them. */
-static void words_of(uint64_t stop)
+/* Writes the words of a number: of a stop, or of a fence rule. */
+typedef uint64_t writes(uint64_t number, uint8_t *text, size_t text_len);
+
+/* The words of a number with room for none, some and all of them. */
+static void words_of(writes *words, uint64_t number)
 {
     uint8_t whole[WORDS_MOST], some[ZONE + WORDS_MOST + ZONE], expected_bytes[sizeof some];
-    size_t length = dibol_words(stop, whole, sizeof whole);
+    size_t length = words(number, whole, sizeof whole);
 
     SAME(length < sizeof whole, 1);
     for (size_t room = 0; room <= length + 2 && room <= WORDS_MOST; room++) {
         memset(some, 0xA5, sizeof some);
         memset(expected_bytes, 0xA5, sizeof expected_bytes);
         memcpy(expected_bytes + ZONE, whole, room < length ? room : length);
-        SAME(dibol_words(stop, some + ZONE, room), length);
+        SAME(words(number, some + ZONE, room), length);
         SAME_BYTES(some, expected_bytes, sizeof some);
     }
     for (size_t i = 0; i < length; i++)
@@ -116,7 +185,7 @@ static void words(void)
 
         next += (size_t)is_stop;
         SAME(dibol_words(stop, text, 0) > 0, is_stop);
-        words_of(stop);
+        words_of(dibol_words, stop);
     }
     SAME(dibol_words(UINT64_MAX, text, WORDS_MOST), 0);
     SAME(dibol_words((1ULL << 32) + 20, text, WORDS_MOST), 0);
@@ -126,12 +195,38 @@ static void words(void)
     }
 }
 
+/* The fence rules have these words, and no other number has any. */
+static void breach_words(void)
+{
+    static const char *const wanted[] = {"",
+                                         "A bound is not a literal",
+                                         "The bounds give 21",
+                                         "A span leaves its field",
+                                         "A decimal span is not in one element",
+                                         "A decimal destination ends inside its element",
+                                         "An alpha destination shares a byte with a decimal field"};
+    uint8_t text[WORDS_MOST];
+
+    for (uint64_t rule = 0; rule < 300; rule++) {
+        const char *own = rule <= 6 ? wanted[rule] : "";
+
+        SAME(dibol_breach_words(rule, text, WORDS_MOST), strlen(own));
+        SAME_BYTES(text, own, strlen(own));
+        words_of(dibol_breach_words, rule);
+    }
+    SAME(dibol_breach_words(UINT64_MAX, text, WORDS_MOST), 0);
+    SAME(dibol_breach_words((1ULL << 32) + 1, text, WORDS_MOST), 0);
+}
+
 int main(void)
 {
     for (size_t i = 0; i < LENGTH_COUNT; i++) {
         answers(LENGTHS[i]);
+        told_numbers(LENGTHS[i]);
+        rows(LENGTHS[i]);
         states(LENGTHS[i]);
     }
     words();
+    breach_words();
     return told("buffers");
 }

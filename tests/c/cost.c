@@ -1,6 +1,7 @@
 /* The times that docs/HOST.md speaks of, taken anew and printed: of a call before its first
- * statement, and of statements; FORs that share a long row of numbers among them. What is expected
- * of them leaves room for a busy machine.
+ * statement, of statements, FORs that share a long row of numbers among them, and of the list of
+ * breaches, also where thousands of references break a rule in each statement. What is expected of
+ * them leaves room for a busy machine.
  *
  *     cost [FILES..]     of these units as well
  */
@@ -36,7 +37,12 @@ static void put_words(size_t count, const size_t *words)
 
 /* Kinds and codes, each with the zero byte behind it. */
 enum { ALPHA = 0x0000, DECIMAL = 0x0100, MARK = 0x4442 };
-enum { SET = 0x0100, GOTO = 0x0700, FOR = 0x0E00, LOOP_END = 0x0F00 };
+enum { SET = 0x0100, GOTO = 0x0700, TEST = 0x0800, FOR = 0x0E00, LOOP_END = 0x0F00 };
+
+/* The statements of a unit at the most, and the references with a subscript that an expression has room
+ * for. */
+#define STATEMENTS 2048
+#define REFERENCES 2340
 
 /* A SET of A from a sum of so many terms B, and a GOTO back to it; both have seven digits. */
 static void loop_of(size_t terms)
@@ -92,6 +98,22 @@ static void loops_by_rows(size_t first, size_t stride)
     WORDS(279, 273, 16379, 9, 2048, MARK);
 }
 
+/* 2,048 tests of one sum of amounts, each of which is found by its own subscript alone: all of them
+ * break rule 1 in every statement. */
+static void breaking(void)
+{
+    unit_len = 0;
+    put("1", 1);
+    WORDS(DECIMAL, 0, 1, 1);
+    put("\2\0\0" "\3\0\0", 6);
+    for (size_t i = 1; i < REFERENCES; i++)
+        put("\2\0\0" "\3\0\0" "\20", 7);
+    put("\0", 1);
+    for (size_t i = 0; i < STATEMENTS; i++)
+        WORDS(TEST, 0, 0, 0);
+    WORDS(1, 1, 7 * REFERENCES, 0, STATEMENTS, MARK);
+}
+
 static void read_file(const char *name)
 {
     FILE *file = fopen(name, "rb");
@@ -116,6 +138,24 @@ static void fence(void)
     uint64_t answer[2];
 
     dibol_fence(unit, unit_len, answer, 2);
+}
+
+/* The references that break a rule. */
+static uint64_t broken;
+
+static void breaches(void)
+{
+    uint64_t row[DIBOL_ROW_LEN];
+
+    broken = dibol_breaches(unit, unit_len, 0, row, DIBOL_ROW_LEN);
+}
+
+static void invalid(void)
+{
+    uint64_t answer[4];
+    size_t data_len = (size_t)unit[unit_len - 12] << 8 | unit[unit_len - 11];
+
+    dibol_invalid(unit, unit_len, unit, data_len, answer, 4);
 }
 
 /* The statements that a run completed. */
@@ -158,7 +198,8 @@ static void print_times(const char *name)
     SAME(dibol_check(unit, unit_len, answer, 3), DIBOL_END);
     printf("%s, %zu bytes: check %.1f microseconds, fence %.1f", name, unit_len, fastest(check),
            fastest(fence));
-    printf(", a run %.1f", fastest(run));
+    printf(", breaches %.1f, valid data %.1f, a run %.1f", fastest(breaches), fastest(invalid),
+           fastest(run));
     printf(" with %" PRIu64 " statements\n", completed);
 }
 
@@ -187,6 +228,10 @@ int main(int argc, char **argv)
         SAME(fastest(check) < 20 * long_check, 1);
         SAME(fastest(fence) < 20 * long_check, 1);
     }
+    breaking();
+    print_times("tests that break a rule");
+    SAME(broken, STATEMENTS * REFERENCES);
+    SAME(fastest(breaches) < 10000 * long_check, 1);
     for (int i = 1; i < argc; i++) {
         read_file(argv[i]);
         print_times(argv[i]);

@@ -15,6 +15,9 @@
 #define SLICE 7
 #define SLICES_MOST 200
 
+/* The longest answer is a row of a breach. */
+#define ROOMS (DIBOL_ROW_LEN + 1)
+
 /* A stretch of memory between two pages that cannot be touched. */
 typedef struct {
     uint8_t *start;
@@ -64,8 +67,27 @@ typedef struct {
     uint8_t *data;
     size_t data_len;
     uint64_t *state;
-    uint64_t *answers[4]; /* room for 0, 1, 2 and 3 numbers */
+    uint64_t *answers[ROOMS]; /* room for no number, for one, and so on */
 } lent;
+
+static size_t least(size_t a, size_t b)
+{
+    return a < b ? a : b;
+}
+
+/* Asks for the first breaches of a unit, one by one, and past the last. */
+static void ask_rows(const lent *l, record *r)
+{
+    uint64_t *row = l->answers[DIBOL_ROW_LEN];
+    uint64_t count = dibol_breaches(l->unit, l->unit_len, 0, l->answers[0], 0);
+
+    note(r, count);
+    for (size_t i = 0; i <= count && i < 40; i++) {
+        memset(row, 0, DIBOL_ROW_LEN * sizeof *row);
+        note(r, dibol_breaches(l->unit, l->unit_len, i, row, DIBOL_ROW_LEN));
+        note_all(r, row, DIBOL_ROW_LEN);
+    }
+}
 
 /* Asks all about a unit but its runs. */
 static void ask(const lent *l, record *r)
@@ -73,19 +95,27 @@ static void ask(const lent *l, record *r)
     size_t n =
         l->unit_len < 12 ? 0 : (size_t)l->unit[l->unit_len - 4] << 8 | l->unit[l->unit_len - 3];
 
-    for (size_t room = 0; room < 4; room++) {
+    memcpy(l->data, l->unit, l->data_len);
+    for (size_t room = 0; room < ROOMS; room++) {
         uint64_t *answer = l->answers[room];
 
         note(r, dibol_check(l->unit, l->unit_len, answer, room));
-        note_all(r, answer, room);
+        note_all(r, answer, least(room, 3));
+        note(r, dibol_parts(l->unit, l->unit_len, answer, room));
+        note_all(r, answer, least(room, 6));
         note(r, dibol_fence(l->unit, l->unit_len, answer, room));
-        note_all(r, answer, room < 2 ? room : 2);
+        note_all(r, answer, least(room, 2));
+        note(r, dibol_invalid(l->unit, l->unit_len, l->data, l->data_len, answer, room));
+        note_all(r, answer, least(room, 4));
     }
     for (size_t i = 0; i <= n && i < 40; i++) {
         note(r, dibol_breach(l->unit, l->unit_len, i));
         note(r, dibol_literal(l->unit, l->unit_len, i, l->answers[2], 2));
         note_all(r, l->answers[2], 2);
+        note(r, dibol_field(l->unit, l->unit_len, i, l->answers[5], 5));
+        note_all(r, l->answers[5], 5);
     }
+    ask_rows(l, r);
 }
 
 /* Runs a unit in slices and notes how each of them ended. */
@@ -126,9 +156,11 @@ static size_t read_file(const char *name, uint8_t *bytes)
 static void in_memory(const uint8_t *unit, size_t length, size_t data_len, record *r)
 {
     static uint8_t data[UNIT_MOST];
-    static uint64_t state[DIBOL_STATE_LEN], answer[3];
-    lent l = {unit, length, data, data_len, state, {answer, answer, answer, answer}};
+    static uint64_t state[DIBOL_STATE_LEN], answer[ROOMS];
+    lent l = {unit, length, data, data_len, state, {0}};
 
+    for (size_t room = 0; room < ROOMS; room++)
+        l.answers[room] = answer;
     r->count = 0;
     ask(&l, r);
     run(&l, r);
@@ -137,10 +169,10 @@ static void in_memory(const uint8_t *unit, size_t length, size_t data_len, recor
 /* Asks all about a unit with every buffer at an end of its arena. */
 static void at_an_end(const uint8_t *unit, size_t length, size_t data_len, int is_last, record *r)
 {
-    static arena arenas[7];
+    static arena arenas[3 + ROOMS];
     lent l;
 
-    for (size_t i = 0; i < 7 && arenas[i].start == NULL; i++)
+    for (size_t i = 0; i < 3 + ROOMS && arenas[i].start == NULL; i++)
         arenas[i] = arena_of(i == 0 ? UNIT_MOST + 1 : i == 1 ? UNIT_MOST : 1);
     memcpy(place(&arenas[0], length, is_last), unit, length);
     mprotect(arenas[0].start, arenas[0].length, PROT_READ);
@@ -149,7 +181,7 @@ static void at_an_end(const uint8_t *unit, size_t length, size_t data_len, int i
     l.data = place(&arenas[1], data_len, is_last);
     l.data_len = data_len;
     l.state = place(&arenas[2], DIBOL_STATE_LEN * sizeof *l.state, is_last);
-    for (size_t room = 0; room < 4; room++)
+    for (size_t room = 0; room < ROOMS; room++)
         l.answers[room] = place(&arenas[3 + room], room * sizeof *l.state, is_last);
     r->count = 0;
     ask(&l, r);

@@ -16,13 +16,24 @@
 #define ASKED 40
 
 /* The unit that is asked about, and what is lent beside it. */
-static uint8_t unit[UNIT_MOST + 1], data[UNIT_MOST];
+static uint8_t unit[UNIT_MOST + 1], data[UNIT_MOST], text[64];
 static size_t unit_len, data_len;
-static uint64_t state[DIBOL_STATE_LEN], answer[3];
+static uint64_t state[DIBOL_STATE_LEN], answer[DIBOL_ROW_LEN];
 
 static void check(void)
 {
     dibol_check(unit, unit_len, answer, 3);
+}
+
+static void parts(void)
+{
+    dibol_parts(unit, unit_len, answer, 6);
+}
+
+static void field(void)
+{
+    for (size_t i = 0; i < ASKED; i++)
+        dibol_field(unit, unit_len, i, answer, 5);
 }
 
 static void run(void)
@@ -33,6 +44,16 @@ static void run(void)
 static void fence(void)
 {
     dibol_fence(unit, unit_len, answer, 3);
+}
+
+static void invalid(void)
+{
+    dibol_invalid(unit, unit_len, data, data_len, answer, 4);
+}
+
+static void breaches(void)
+{
+    dibol_breaches(unit, unit_len, 0, answer, DIBOL_ROW_LEN);
 }
 
 static void breach(void)
@@ -50,7 +71,13 @@ static void literal(void)
 static void words(void)
 {
     for (uint64_t stop = 0; stop < ASKED; stop++)
-        dibol_words(stop, data, sizeof data);
+        dibol_words(stop, text, sizeof text);
+}
+
+static void breach_words(void)
+{
+    for (uint64_t rule = 0; rule < ASKED; rule++)
+        dibol_breach_words(rule, text, sizeof text);
 }
 
 static void version(void)
@@ -69,10 +96,13 @@ static struct {
     void (*call)(void);
     size_t told, seen;
 } calls[] = {
-    {"dibol_check", check, 0, 0},     {"dibol_run", run, 0, 0},
-    {"dibol_fence", fence, 0, 0},     {"dibol_breach", breach, 0, 0},
-    {"dibol_literal", literal, 0, 0}, {"dibol_words", words, 0, 0},
-    {"dibol_version", version, 0, 0}, {"dibol_state_len", state_len, 0, 0},
+    {"dibol_check", check, 0, 0},       {"dibol_parts", parts, 0, 0},
+    {"dibol_field", field, 0, 0},       {"dibol_run", run, 0, 0},
+    {"dibol_fence", fence, 0, 0},       {"dibol_invalid", invalid, 0, 0},
+    {"dibol_breach", breach, 0, 0},     {"dibol_breaches", breaches, 0, 0},
+    {"dibol_literal", literal, 0, 0},   {"dibol_words", words, 0, 0},
+    {"dibol_breach_words", breach_words, 0, 0},
+    {"dibol_version", version, 0, 0},   {"dibol_state_len", state_len, 0, 0},
 };
 #define CALLS (sizeof calls / sizeof *calls)
 

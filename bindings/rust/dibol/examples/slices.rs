@@ -1,11 +1,12 @@
-//! Loads a unit from a file, checks it, asks the fence, and runs it in slices of a few statements, as
-//! a host does that has a terminal or a printer to see to between them.
+//! Loads a unit from a file, checks it, shows its fields, asks the fence and whether its data is
+//! valid, and runs it in slices of a few statements, as a host does that has a terminal or a printer
+//! to see to between them.
 //!
 //! After `make lib`, in bindings/rust:
 //!
 //!     DIBOL_LIB_DIR=$PWD/../../build/lib cargo run --example slices -- FILE [SLICE]
 
-use dibol::{Outcome, State, Stop, Trapped, Unit, Verdict};
+use dibol::{Field, Kind, Outcome, State, Stop, Trapped, Unit, Validity, Verdict};
 use std::ffi::OsStr;
 use std::os::unix::ffi::OsStrExt;
 use std::process::ExitCode;
@@ -13,6 +14,9 @@ use std::{env, fs};
 
 /// The statements that the whole run may complete.
 const STATEMENTS_MOST: u64 = 100_000;
+
+/// The breaches that are shown; of the others there is the number.
+const BREACHES_MOST: usize = 5;
 
 fn main() -> ExitCode {
     let words: Vec<_> = env::args_os().skip(1).collect();
@@ -30,20 +34,18 @@ fn main() -> ExitCode {
     }
 }
 
-/// Checks the unit in a file, asks the fence, runs it over a copy of its image and prints the data;
-/// or gives in words what is wrong.
+/// Checks the unit in a file, shows its fields, asks the fence, runs it over a copy of its image and
+/// prints the data; or gives in words what is wrong.
 fn host(file: &OsStr, slice: u64) -> Result<(), String> {
     let name = shown(file.as_bytes());
     let bytes = fs::read(file).map_err(|error| format!("{name}: {error}"))?;
     let unit = Unit::check(&bytes).map_err(|error| format!("{name}: {error}"))?;
     println!("unit {} bytes, data {}", bytes.len(), unit.image().len());
-    match unit.fence() {
-        Verdict::Yes => println!("fence yes"),
-        Verdict::No { statement, breach } => {
-            println!("fence no {statement}: rule {}", breach.number());
-        }
+    for (number, field) in unit.fields().enumerate() {
+        println!("field {number}: {}", told(field));
     }
     let mut data = unit.image().to_vec();
+    print_fence(&unit, &data);
     let outcome = run_in_slices(&unit, &mut data, slice);
     let (number, place) = (outcome.stop.number(), outcome.place);
     println!("stop {number} at {place}: {}", outcome.stop);
@@ -54,6 +56,44 @@ fn host(file: &OsStr, slice: u64) -> Result<(), String> {
     }
     println!("{}", shown(&data));
     Ok(())
+}
+
+/// A field in words.
+fn told(field: Field) -> String {
+    let kind = match field.kind {
+        Kind::Alpha => "alpha",
+        Kind::Decimal => "decimal",
+        Kind::Record => "record",
+        _ => "of another kind",
+    };
+    let strict = if field.strict { " strict" } else { "" };
+    let Field {
+        offset,
+        size,
+        count,
+        ..
+    } = field;
+    format!("{kind}{strict}, at {offset}, size {size}, count {count}")
+}
+
+/// Prints what the fence says: for a yes whether the data is what it asks for, for a no what breaks
+/// its rules.
+fn print_fence(unit: &Unit, data: &[u8]) {
+    let (valid, breaches) = (unit.invalid(data), unit.breaches());
+    match unit.fence() {
+        Verdict::Yes if valid == Validity::AllValid => println!("fence yes"),
+        Verdict::Yes => println!("fence yes, but not for this data: {valid}"),
+        Verdict::No { statement, breach } => {
+            println!("fence no {statement}: rule {}", breach.number());
+        }
+    }
+    let left = breaches.len().saturating_sub(BREACHES_MOST);
+    for broken in breaches.take(BREACHES_MOST) {
+        println!("{broken}");
+    }
+    if left > 0 {
+        println!("and {left} more");
+    }
 }
 
 fn number(word: &OsStr) -> Result<u64, String> {

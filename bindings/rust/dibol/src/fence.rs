@@ -1,5 +1,7 @@
-//! What the fence check answers.
+//! What the fence check answers, and what is answered of data.
 
+use crate::ffi;
+use crate::words;
 use std::fmt;
 
 /// The answer of the fence check for a unit that passes checks 1 to 5.
@@ -32,27 +34,80 @@ impl fmt::Display for Verdict {
     }
 }
 
-/// Why a statement breaks the fence rules.
+/// Whether the decimals of a data buffer are valid, as [`Unit::invalid`](crate::Unit::invalid)
+/// answers it.
+///
+/// ```
+/// use dibol::Validity;
+/// let (field, element, offset) = (1, 3, 16);
+/// let invalid = Validity::Invalid { field, element, offset };
+/// assert_eq!(invalid.to_string(), "element 3 of field 1, at byte 16, is no number");
+/// assert!(!invalid.is_all_valid());
+/// ```
+#[derive(Clone, Copy, Debug, PartialEq, Eq, Hash)]
+pub enum Validity {
+    /// The buffer does not have the unit's D bytes.
+    WrongSize,
+    /// Every element of every decimal field is valid.
+    AllValid,
+    /// An element of a decimal field cannot be read as a number.
+    Invalid {
+        /// The first field that has such an element.
+        field: usize,
+        /// Its first such element, counted from 1 as a subscript counts.
+        element: usize,
+        /// Where that element starts in the data.
+        offset: usize,
+    },
+}
+
+impl Validity {
+    /// Whether every decimal is valid, as a yes of the fence asks of the data.
+    pub fn is_all_valid(self) -> bool {
+        self == Validity::AllValid
+    }
+}
+
+impl fmt::Display for Validity {
+    fn fmt(&self, f: &mut fmt::Formatter<'_>) -> fmt::Result {
+        match self {
+            Validity::WrongSize => f.write_str("the data is not of the unit's length"),
+            Validity::AllValid => f.write_str("all decimals are valid"),
+            Validity::Invalid {
+                field,
+                element,
+                offset,
+            } => write!(
+                f,
+                "element {element} of field {field}, at byte {offset}, is no number"
+            ),
+        }
+    }
+}
+
+/// Why a statement or a reference breaks the fence rules.
+///
+/// Shown by `{}`, it is the library's own words for the rule.
 ///
 /// ```
 /// use dibol::Breach;
 /// assert_eq!(Breach::LeavesField.number(), 3);
-/// assert_eq!(Breach::LeavesField.to_string(), "a span leaves its field");
+/// assert_eq!(Breach::LeavesField.to_string(), "A span leaves its field");
 /// ```
 #[derive(Clone, Copy, Debug, PartialEq, Eq, Hash)]
 #[non_exhaustive]
 pub enum Breach {
-    /// 1: a bound is not a literal.
+    /// 1: A bound is not a literal.
     BoundNotLiteral,
-    /// 2: the bounds give 21.
+    /// 2: The bounds give 21.
     BoundsWrong,
-    /// 3: a span leaves its field.
+    /// 3: A span leaves its field.
     LeavesField,
-    /// 4: a decimal span is not in one element.
+    /// 4: A decimal span is not in one element.
     OverElements,
-    /// 5: a decimal destination ends inside its element.
+    /// 5: A decimal destination ends inside its element.
     StopsMidElement,
-    /// 6: an alpha destination shares a byte with a decimal field.
+    /// 6: An alpha destination shares a byte with a decimal field.
     OnDecimal,
     /// A number that this version of the crate has no name for.
     Other(u64),
@@ -89,14 +144,41 @@ impl Breach {
 
 impl fmt::Display for Breach {
     fn fmt(&self, f: &mut fmt::Formatter<'_>) -> fmt::Result {
-        f.write_str(match self {
-            Breach::BoundNotLiteral => "a bound is not a literal",
-            Breach::BoundsWrong => "the bounds give 21",
-            Breach::LeavesField => "a span leaves its field",
-            Breach::OverElements => "a decimal span is not in one element",
-            Breach::StopsMidElement => "a decimal destination ends inside its element",
-            Breach::OnDecimal => "an alpha destination shares a byte with a decimal field",
-            Breach::Other(number) => return write!(f, "breach {number}"),
-        })
+        let words = words::of(self.number(), ffi::dibol_breach_words);
+        if words.is_empty() {
+            return write!(f, "rule {}", self.number());
+        }
+        f.pad(&words)
+    }
+}
+
+#[cfg(test)]
+mod tests {
+    use super::*;
+
+    #[test]
+    fn numbers_and_names_go_both_ways() {
+        assert_eq!(Breach::from_number(0), None);
+        for number in 1..=100 {
+            assert_eq!(
+                Breach::from_number(number).map(Breach::number),
+                Some(number)
+            );
+        }
+        let is_named =
+            |number: &u64| !matches!(Breach::from_number(*number), Some(Breach::Other(_)));
+        let named: Vec<u64> = (1..=100).filter(is_named).collect();
+        assert_eq!(named, [1, 2, 3, 4, 5, 6]);
+    }
+
+    #[test]
+    fn each_rule_has_words_of_its_own() {
+        let words = |number| Breach::from_number(number).map(|breach| breach.to_string());
+        let mut all: Vec<String> = (1..=6).filter_map(words).collect();
+        assert!(all.iter().all(|words| words.len() > 5 && words.is_ascii()));
+        all.sort();
+        all.dedup();
+        assert_eq!(all.len(), 6);
+        assert_eq!(words(7), Some("rule 7".to_string()));
     }
 }

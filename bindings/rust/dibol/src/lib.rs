@@ -5,6 +5,10 @@
 //! cannot change under a run. [`Unit::run`] works over the host's buffer for at most as many
 //! statements as it is allowed, and hands back the [`State`] to go on from.
 //!
+//! [`Unit::fence`] says beforehand whether a unit can slip. Its yes is for data whose decimals are all
+//! valid, as [`Unit::invalid`] says; after a no [`Unit::breaches`] has every reference that breaks a
+//! rule. [`Unit::parts`] and [`Unit::fields`] tell what a unit has, so that no host reads its bytes.
+//!
 //! ```
 //! use dibol::{State, Stop, Unit};
 //!
@@ -28,21 +32,26 @@
 
 #![warn(missing_docs)]
 
+mod breaches;
 mod fence;
+mod field;
 mod state;
 mod stop;
 mod unit;
+mod words;
 
+pub use breaches::{Breaches, Broken, Form};
 pub use dibol_sys as ffi;
-pub use fence::{Breach, Verdict};
+pub use fence::{Breach, Validity, Verdict};
+pub use field::{Field, Fields, Kind};
 pub use state::{Loop, State, Trapped};
 pub use stop::{Refusal, Stop};
-pub use unit::{Outcome, Unit};
+pub use unit::{Outcome, Parts, Unit};
 
-/// The version of the library that is linked: 300 is 0.3.0.
+/// The version of the library that is linked: 400 is 0.4.0.
 ///
 /// ```
-/// assert_eq!(dibol::version() / 100, 3);
+/// assert_eq!(dibol::version() / 100, 4);
 /// ```
 pub fn version() -> u64 {
     // SAFETY: the function takes nothing and reads nothing.

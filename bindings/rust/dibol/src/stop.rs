@@ -1,6 +1,7 @@
 //! Why a call ended: the stops of the papers, with their numbers and words.
 
 use crate::ffi;
+use crate::words;
 use std::error::Error;
 use std::fmt;
 
@@ -113,26 +114,12 @@ impl From<u64> for Stop {
 
 impl fmt::Display for Stop {
     fn fmt(&self, f: &mut fmt::Formatter<'_>) -> fmt::Result {
-        let words = words(self.number());
+        let words = words::of(self.number(), ffi::dibol_words);
         if words.is_empty() {
             return write!(f, "stop {}", self.number());
         }
         f.pad(&words)
     }
-}
-
-/// The library's words for a stop number; none for a number that is no stop.
-fn words(stop: u64) -> String {
-    let mut text = vec![0; words_into(stop, &mut [])];
-    words_into(stop, &mut text);
-    String::from_utf8_lossy(&text).into_owned()
-}
-
-/// Writes as much of the words as fits, and gives their whole length.
-fn words_into(stop: u64, text: &mut [u8]) -> usize {
-    // SAFETY: the pointer is that of a slice, lent for its length.
-    let length = unsafe { ffi::dibol_words(stop, text.as_mut_ptr(), text.len()) };
-    length as usize
 }
 
 /// A unit that is refused: the stop, 1 to 5, and the place it names.

@@ -1,7 +1,9 @@
 //! A checked unit, and what can be asked of it.
 
-use crate::fence::{Breach, Verdict};
-use crate::ffi;
+use crate::breaches::Breaches;
+use crate::fence::{Breach, Validity, Verdict};
+use crate::ffi::{self, DIBOL_ROW_LEN};
+use crate::field::{Field, Fields, Kind};
 use crate::state::State;
 use crate::stop::{Refusal, Stop};
 
@@ -9,7 +11,24 @@ use crate::stop::{Refusal, Stop};
 #[derive(Clone, Copy, Debug, PartialEq, Eq)]
 pub struct Unit<'a> {
     bytes: &'a [u8],
-    image_len: usize,
+    parts: Parts,
+}
+
+/// What a unit has of each part, and how many digits a decimal of it has at most.
+#[derive(Clone, Copy, Debug, PartialEq, Eq, Hash)]
+pub struct Parts {
+    /// D, the length of the data.
+    pub data: usize,
+    /// F, the number of field entries.
+    pub fields: usize,
+    /// E, the length of the expressions.
+    pub expressions: usize,
+    /// P, the length of the literals.
+    pub literals: usize,
+    /// N, the number of statements.
+    pub statements: usize,
+    /// The most digits of a decimal.
+    pub digits: usize,
 }
 
 /// How a run stopped.
@@ -28,21 +47,30 @@ pub struct Outcome {
 impl<'a> Unit<'a> {
     /// Checks a unit by the rules 1 to 5 of document 01, in their order.
     pub fn check(bytes: &'a [u8]) -> Result<Unit<'a>, Refusal> {
-        let mut answer = [0; 3];
+        let mut answer = [0; 6];
         // SAFETY: both pointers are those of slices, lent for their lengths.
         let stop = unsafe {
-            ffi::dibol_check(
+            ffi::dibol_parts(
                 bytes.as_ptr(),
                 bytes.len(),
                 answer.as_mut_ptr(),
                 answer.len(),
             )
         };
-        let [_, place, image_len] = answer.map(|number| number as usize);
-        match Stop::from(stop) {
-            Stop::End => Ok(Unit { bytes, image_len }),
-            stop => Err(Refusal { stop, place }),
+        if Stop::from(stop) != Stop::End {
+            return Err(refusal(bytes));
         }
+        let [data, fields, expressions, literals, statements, digits] =
+            answer.map(|number| number as usize);
+        let parts = Parts {
+            data,
+            fields,
+            expressions,
+            literals,
+            statements,
+            digits,
+        };
+        Ok(Unit { bytes, parts })
     }
 
     /// The bytes that the unit was made from.
@@ -52,13 +80,56 @@ impl<'a> Unit<'a> {
 
     /// The data image. A data buffer has as many bytes, and mostly begins as a copy of them.
     pub fn image(&self) -> &'a [u8] {
-        &self.bytes[..self.image_len]
+        &self.bytes[..self.parts.data]
+    }
+
+    /// What the unit has of each part.
+    pub fn parts(&self) -> Parts {
+        self.parts
     }
 
     /// N, the number of statements.
     pub fn statements(&self) -> usize {
-        let trailer = &self.bytes[self.bytes.len() - 12..];
-        usize::from(trailer[8]) << 8 | usize::from(trailer[9])
+        self.parts.statements
+    }
+
+    /// The field entries, in their order.
+    ///
+    /// ```
+    /// # let bytes = *b"41\x01\0\0\0\0\x02\0\x01\x02\0\0\0\
+    /// #     \x03\0\0\0\0\0\0\0\x0B\0\0\0\0\0\0\0\0\x02\0\x01\0\x04\0\0\0\x02DB";
+    /// use dibol::{Kind, Unit};
+    /// let unit = Unit::check(&bytes)?;
+    /// for field in unit.fields().filter(|field| field.kind == Kind::Decimal) {
+    ///     assert_eq!(&unit.image()[field.bytes()], b"41");
+    /// }
+    /// # Ok::<(), dibol::Refusal>(())
+    /// ```
+    pub fn fields(&self) -> Fields<'a> {
+        Fields::of(*self)
+    }
+
+    /// A field entry, counted from 0; none past the last.
+    pub fn field(&self, field: usize) -> Option<Field> {
+        let mut answer = [0; 5];
+        // SAFETY: both pointers are those of slices, lent for their lengths.
+        let found = unsafe {
+            ffi::dibol_field(
+                self.bytes.as_ptr(),
+                self.bytes.len(),
+                field,
+                answer.as_mut_ptr(),
+                answer.len(),
+            )
+        };
+        let [kind, offset, size, count, strict] = answer;
+        (found != 0).then_some(Field {
+            kind: Kind::from(kind),
+            offset: offset as usize,
+            size: size as usize,
+            count: count as usize,
+            strict: strict != 0,
+        })
     }
 
     /// Runs the unit over a data buffer, from a resume state and for at most `allowance` statements.
@@ -111,7 +182,8 @@ impl<'a> Unit<'a> {
         }
     }
 
-    /// The fence check: yes if the unit cannot slip.
+    /// The fence check: yes if the unit cannot slip, over data whose decimals are all valid, as
+    /// [`Unit::invalid`] says.
     ///
     /// ```
     /// # let bytes = *b"41\x01\0\0\0\0\x02\0\x01\x02\0\0\0\
@@ -142,6 +214,68 @@ impl<'a> Unit<'a> {
         }
     }
 
+    /// Whether the decimals of a data buffer are valid. A yes of the fence is for such data alone, so
+    /// a host asks this of the data that a run is to start with.
+    ///
+    /// ```
+    /// # let bytes = *b"41\x01\0\0\0\0\x02\0\x01\x02\0\0\0\
+    /// #     \x03\0\0\0\0\0\0\0\x0B\0\0\0\0\0\0\0\0\x02\0\x01\0\x04\0\0\0\x02DB";
+    /// use dibol::{Unit, Validity};
+    /// let unit = Unit::check(&bytes)?;
+    /// assert!(unit.invalid(unit.image()).is_all_valid());
+    /// let (field, element, offset) = (0, 1, 0);
+    /// assert_eq!(unit.invalid(b"4U"), Validity::Invalid { field, element, offset });
+    /// # Ok::<(), dibol::Refusal>(())
+    /// ```
+    pub fn invalid(&self, data: &[u8]) -> Validity {
+        let mut answer = [0; 4];
+        // SAFETY: every pointer is that of a slice, lent for its length.
+        let number = unsafe {
+            ffi::dibol_invalid(
+                self.bytes.as_ptr(),
+                self.bytes.len(),
+                data.as_ptr(),
+                data.len(),
+                answer.as_mut_ptr(),
+                answer.len(),
+            )
+        };
+        let [_, field, element, offset] = answer.map(|number| number as usize);
+        match Stop::from(number) {
+            Stop::End => Validity::AllValid,
+            Stop::WrongSize => Validity::WrongSize,
+            Stop::BadDigit => Validity::Invalid {
+                field,
+                element,
+                offset,
+            },
+            _ => unreachable!("a unit that has passed its check is not refused"),
+        }
+    }
+
+    /// The references that break a fence rule, each with its own rule, in the order of the statements
+    /// and in each statement in the order in which a run works them out. There are none exactly where
+    /// the fence says yes. They are asked for as they are taken, and `len` has their number.
+    pub fn breaches(&self) -> Breaches<'a> {
+        Breaches::of(*self)
+    }
+
+    /// Fills rows from a breach on, as many as there are, and gives the number of all breaches.
+    pub(crate) fn breach_rows(&self, skip: usize, rows: &mut [[u64; DIBOL_ROW_LEN]]) -> usize {
+        let numbers = rows.as_flattened_mut();
+        // SAFETY: both pointers are those of slices, lent for their lengths.
+        let count = unsafe {
+            ffi::dibol_breaches(
+                self.bytes.as_ptr(),
+                self.bytes.len(),
+                skip,
+                numbers.as_mut_ptr(),
+                numbers.len(),
+            )
+        };
+        count as usize
+    }
+
     /// The fence rule that a statement, counted from 0, breaks first. There is none for one that
     /// keeps the rules or is not there.
     pub fn breach(&self, statement: usize) -> Option<Breach> {
@@ -167,5 +301,23 @@ impl<'a> Unit<'a> {
         };
         let [offset, length] = answer.map(|number| number as usize);
         &self.bytes[offset..offset + length]
+    }
+}
+
+/// Why a unit that is not sound is refused.
+fn refusal(bytes: &[u8]) -> Refusal {
+    let mut answer = [0; 2];
+    // SAFETY: both pointers are those of slices, lent for their lengths.
+    let stop = unsafe {
+        ffi::dibol_check(
+            bytes.as_ptr(),
+            bytes.len(),
+            answer.as_mut_ptr(),
+            answer.len(),
+        )
+    };
+    Refusal {
+        stop: Stop::from(stop),
+        place: answer[1] as usize,
     }
 }

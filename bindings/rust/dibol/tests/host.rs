@@ -1,6 +1,7 @@
 //! The binding against the linked library: exact answers, as a host sees them.
 
-use dibol::{ffi, Breach, Loop, Refusal, State, Stop, Trapped, Unit, Verdict};
+use dibol::{ffi, Breach, Broken, Field, Form, Kind, Loop, Parts, Refusal};
+use dibol::{State, Stop, Trapped, Unit, Validity, Verdict};
 
 /// The 42 bytes of document 01's example: INCR of "41", then STOP.
 const EXAMPLE: [u8; 42] = *b"41\x01\0\0\0\0\x02\0\x01\x02\0\0\0\
@@ -52,7 +53,7 @@ fn the_state_has_the_librarys_length() {
     // SAFETY: the function takes nothing.
     assert_eq!(unsafe { ffi::dibol_state_len() }, 104);
     assert_eq!(<[u64; 104]>::from(State::START).len(), ffi::DIBOL_STATE_LEN);
-    assert_eq!(dibol::version(), 300);
+    assert_eq!(dibol::version(), 400);
 }
 
 #[test]
@@ -345,8 +346,139 @@ fn the_fence_names_statement_and_rule() {
     assert!(!verdict.is_yes());
     assert_eq!(unit.breach(0), Some(breach));
     assert_eq!(unit.breach(1), None);
-    let words = "no 0: an alpha destination shares a byte with a decimal field";
+    let words = "no 0: An alpha destination shares a byte with a decimal field";
     assert_eq!(verdict.to_string(), words);
+}
+
+#[test]
+fn a_unit_tells_its_parts_and_fields() {
+    let bytes = one((2, 0, 0, 0), b"\x02\0\x01\0");
+    let unit = Unit::check(&bytes).unwrap();
+    let parts = Parts {
+        data: 8,
+        fields: 3,
+        expressions: 4,
+        literals: 9,
+        statements: 1,
+        digits: 18,
+    };
+    assert_eq!((unit.parts(), unit.statements()), (parts, 1));
+    let field = |kind, offset, size, count| Field {
+        kind,
+        offset,
+        size,
+        count,
+        strict: false,
+    };
+    let fields = [
+        field(Kind::Decimal, 0, 2, 2),
+        field(Kind::Alpha, 4, 4, 1),
+        field(Kind::Record, 0, 8, 1),
+    ];
+    assert_eq!(unit.fields().len(), 3);
+    assert!(unit.fields().eq(fields));
+    assert_eq!(fields.map(|field| field.bytes()), [0..4, 4..8, 0..8]);
+    assert_eq!((unit.field(2), unit.field(3)), (Some(fields[2]), None));
+    assert_eq!(unit.field(usize::MAX), None);
+}
+
+#[test]
+fn a_strict_field_tells_that_it_is() {
+    let mut bytes = one((2, 0, 0, 0), b"\x02\0\x01\0");
+    bytes[8 + 8 + 1] = 0x80;
+    let unit = Unit::check(&bytes).unwrap();
+    let strict: Vec<bool> = unit.fields().map(|field| field.strict).collect();
+    assert_eq!(strict, [false, true, false]);
+}
+
+#[test]
+fn a_unit_without_fields_tells_none() {
+    let bytes = calls();
+    let unit = Unit::check(&bytes).unwrap();
+    assert_eq!((unit.fields().count(), unit.parts().fields), (0, 0));
+    assert!(unit.invalid(b"x").is_all_valid());
+}
+
+#[test]
+fn data_is_valid_or_the_first_element_that_is_not_is_named() {
+    let bytes = one((2, 0, 0, 0), b"\x02\0\x01\0");
+    let unit = Unit::check(&bytes).unwrap();
+    let invalid = |element, offset| Validity::Invalid {
+        field: 0,
+        element,
+        offset,
+    };
+    assert_eq!(unit.invalid(unit.image()), Validity::AllValid);
+    assert_eq!(unit.invalid(b"    \xFF\0\n "), Validity::AllValid);
+    assert_eq!(unit.invalid(b"010P...."), invalid(2, 2));
+    assert_eq!(unit.invalid(b"p10P...."), invalid(1, 0));
+    assert_eq!(unit.invalid(b"1 02...."), invalid(1, 0));
+    for length in (0..10).filter(|length| *length != 8) {
+        let data = vec![b'?'; length];
+        assert_eq!(unit.invalid(&data), Validity::WrongSize);
+    }
+    let words = "element 2 of field 0, at byte 2, is no number";
+    assert_eq!(invalid(2, 2).to_string(), words);
+}
+
+#[test]
+fn each_reference_that_breaks_a_rule_is_told_with_its_own() {
+    // A SET of the record, which covers the decimals, from the alpha; then a SET of the decimal's first
+    // character from the sum of its element 3 and of the one that its own value names.
+    let expressions = b"\x02\0\x02\0\x02\0\x01\0\
+        \x01\0\0\x01\x01\0\0\x01\x04\0\0\0\
+        \x01\0\x03\x01\x03\0\0\x02\0\0\x03\0\0\x10\0";
+    let statements = [(1, 0, 4, 0), (1, 8, 20, 0)];
+    let fields = [(DECIMAL, 0, 2, 2), (ALPHA, 4, 4, 1), (RECORD, 0, 8, 1)];
+    let bytes = coded(b"0102wxyz", &fields, expressions, b"1203", &statements);
+    let unit = Unit::check(&bytes).unwrap();
+    let row = |b: Broken| (b.statement, b.rule, b.written, b.field, b.form, b.item);
+    let rows = [
+        (0, Breach::OnDecimal, true, 2, Form::First, 0),
+        (1, Breach::StopsMidElement, true, 0, Form::StartEnd, 16),
+        (1, Breach::LeavesField, false, 0, Form::Subscript, 24),
+        (1, Breach::BoundNotLiteral, false, 0, Form::Subscript, 30),
+    ];
+    let spans = [Some(0..8), Some(0..1), Some(4..6), None];
+    assert_eq!(unit.breaches().len(), 4);
+    assert!(unit.breaches().map(row).eq(rows));
+    assert!(unit.breaches().map(|broken| broken.span).eq(spans));
+    let words: Vec<String> = unit.breaches().map(|broken| broken.to_string()).collect();
+    let told = [
+        "statement 0, field 2 written, bytes 0 to 7: \
+         An alpha destination shares a byte with a decimal field",
+        "statement 1, field 0 written, byte 0: \
+         A decimal destination ends inside its element",
+        "statement 1, field 0 read, bytes 4 to 5: A span leaves its field",
+        "statement 1, field 0 read: A bound is not a literal",
+    ];
+    assert_eq!(words, told);
+}
+
+#[test]
+fn many_breaches_come_one_by_one() {
+    // CLEAR of the record, over and over.
+    let statements = [(2, 0, 0, 0); 100];
+    let fields = [(DECIMAL, 0, 2, 1), (RECORD, 0, 2, 1)];
+    let bytes = coded(b"01", &fields, b"\x02\0\x01\0", b"", &statements);
+    let unit = Unit::check(&bytes).unwrap();
+    let mut breaches = unit.breaches();
+    for statement in 0..100 {
+        assert_eq!(breaches.len(), 100 - statement);
+        assert_eq!(breaches.next().unwrap().statement, statement);
+    }
+    assert_eq!((breaches.next(), breaches.next()), (None, None));
+    let none = Unit::check(&EXAMPLE).unwrap();
+    assert_eq!((none.breaches().len(), none.breaches().next()), (0, None));
+}
+
+#[test]
+fn the_first_breach_is_that_of_the_verdict() {
+    let bytes = one((5, 0, 0, 0), b"\x02\0\x02\0");
+    let unit = Unit::check(&bytes).unwrap();
+    let first = unit.breaches().next().unwrap();
+    let (statement, breach) = (first.statement, first.rule);
+    assert_eq!(unit.fence(), Verdict::No { statement, breach });
 }
 
 #[test]
