@@ -1,4 +1,6 @@
 // Letters in bytes: alpha to alpha, case, filling.
+#![tactic(auto)]
+
 ghost use Rattle.std.specs.Prelude.{◌≡◌, min, length, replicate};
 ghost use Rattle.rules.specs.Charts.{Charts};
 ghost use Rattle.rules.specs.Moves.{fitted, upper, lower, upcased, locased};

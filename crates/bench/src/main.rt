@@ -1,5 +1,7 @@
 // The bench program of document 01: it reads a unit from standard input, runs it from its image at statement 0 with an allowance of 100,000, and
 // writes the stop number, the place and the completed count, then the data.
+#![tactic(auto)]
+
 use rules_unit::Checked;
 
 // Writes to standard output. A failure to write is not told.

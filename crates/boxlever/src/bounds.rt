@@ -17,14 +17,14 @@ const NO_END: u8 = 2;
 const NO_LENGTH: u8 = 3;
 
 // A bound: whether it is below 0, and its magnitude.
-#[derive(Drop)]
+#[derive(Clone, Copy)]
 struct Bound {
     below: bool,
     size: usize,
 }
 
 // The last two bounds before an item.
-#[derive(Drop)]
+#[derive(Clone, Copy)]
 struct Bounds {
     first: Bound,
     last: Bound,
@@ -32,7 +32,7 @@ struct Bounds {
 
 // Where a reference would be: why it names no bytes, or NAMED; whether they are too far off to be told; where they start, as an offset and what is to be
 // taken from it; and how many they are.
-#[derive(Drop)]
+#[derive(Clone, Copy)]
 pub struct Aim {
     pub none: u8,
     pub far: bool,

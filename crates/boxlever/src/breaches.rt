@@ -50,7 +50,7 @@ const TEXT: usize = 60;
 
 // A reference that breaks a rule, in the numbers of the library: its statement, the rule, whether it is written, its field and form, where its bytes start and
 // how many they are, and its offset in the expressions; and the offset at which its text starts, that of its first bound.
-#[derive(Drop)]
+#[derive(Clone, Copy)]
 pub struct Breaking {
     pub statement: u16,
     pub rule: u16,
@@ -64,7 +64,7 @@ pub struct Breaking {
 }
 
 // What a unit has: breaches, statements with one, references that are not the same as one before, and breaches of each rule; and how many times references were compared.
-#[derive(Drop)]
+#[derive(Clone, Copy)]
 pub struct Tally {
     pub breaches: usize,
     pub statements: usize,
@@ -74,7 +74,7 @@ pub struct Tally {
 }
 
 // Where the values start that are held after an item of an expression.
-#[derive(Drop)]
+#[derive(Clone, Copy)]
 struct Begun {
     count: usize,
     starts: [usize; 17],

@@ -29,7 +29,7 @@ const FIRST: usize = 33;
 const REASON: usize = 35;
 
 // How the rows are written: how many columns the names take, whether fields have none, whether each unit has its own data, and how names are shown.
-#[derive(Drop)]
+#[derive(Clone, Copy)]
 struct Table {
     width: usize,
     plain: bool,
@@ -38,14 +38,14 @@ struct Table {
 }
 
 // A row in the making, and where the columns behind its name begin.
-#[derive(Drop)]
+#[derive(Clone, Copy)]
 struct Row {
     line: Line,
     from: usize,
 }
 
 // A number of a row, if it has one.
-#[derive(Drop)]
+#[derive(Clone, Copy)]
 enum Cell {
     Nothing,
     Number(u64),
@@ -53,7 +53,7 @@ enum Cell {
 
 // How many units the fence says yes and no of, are refused, have data of another size and could not be read; how many of the first have a warning, and how many
 // references break a rule.
-#[derive(Drop)]
+#[derive(Clone, Copy)]
 struct Tally {
     yes: usize,
     no: usize,

@@ -41,7 +41,7 @@ const MANY: usize = 100;
 const LINES: usize = 52;
 
 // A line, and how many decimal fields it names, or would name.
-#[derive(Drop)]
+#[derive(Clone, Copy)]
 struct Hits {
     line: Line,
     count: usize,

@@ -9,7 +9,7 @@ use rules_unit::{Field, Parts, Rule};
 
 // The columns of the table: where a field's kind and its bytes begin, where its size and its count end, where what is stored begins, and where its value in
 // figures does.
-#[derive(Drop)]
+#[derive(Clone, Copy)]
 struct Columns {
     kind: usize,
     span: usize,

@@ -72,7 +72,7 @@ fn say_parts(parts: Parts) -> usize {
 // ---- the statements
 
 // The columns of the statements: where their numbers end, or those of their source lines if there are any; and where their texts begin.
-#[derive(Drop)]
+#[derive(Clone, Copy)]
 struct Columns {
     at: usize,
     reads: usize,

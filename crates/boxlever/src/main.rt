@@ -1,4 +1,6 @@
 // The owner's program. Its first argument is a word: `boxlever --help` tells which there are.
+#![tactic(auto)]
+
 mod bounds;
 mod breaches;
 mod check;
@@ -58,7 +60,7 @@ const STATUS: i32 = 3;
 
 // A call as far as it is understood: its word; what its options say, the file of the data being named by an argument, or by none, which is 0; the argument that comes
 // next, what is wrong with it, and whether it is no option.
-#[derive(Drop)]
+#[derive(Clone, Copy)]
 struct Call {
     word: u8,
     show: Show,

@@ -42,7 +42,7 @@ const TWICE: u8 = 4;
 const UNENDED: u8 = 5;
 
 // A stretch of the rows in which one is looked for: where it begins and ends.
-#[derive(Drop)]
+#[derive(Clone, Copy)]
 struct Stretch {
     from: usize,
     to: usize,
@@ -50,7 +50,7 @@ struct Stretch {
 
 // How far a names file is looked through: where its next row begins, the number of that line, the least key that it may have, and what is
 // wrong with the line before, if something is.
-#[derive(Drop)]
+#[derive(Clone, Copy)]
 struct Walk {
     at: usize,
     line: usize,

@@ -5,7 +5,7 @@ use rules::Num;
 use rules_unit::{Field, Kind, Parts, Statement};
 
 // A number in figures: whether it is one, whether it is below 0, and its magnitude.
-#[derive(Drop)]
+#[derive(Clone, Copy)]
 pub struct Figures {
     pub good: bool,
     pub below: bool,

@@ -13,7 +13,7 @@ use rules_unit::{Field, Form, Item, Kind, Op, Parts, Role, Statement};
 const TIGHTEST: u8 = 7;
 
 // The texts of the values held: the line that ends with them, how many, where each starts and the last ends, and how tightly each binds.
-#[derive(Drop)]
+#[derive(Clone, Copy)]
 pub struct Held {
     pub line: Line,
     pub count: usize,

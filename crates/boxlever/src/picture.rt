@@ -30,7 +30,7 @@ const RECORD: u8 = 2;
 
 // What a picture is of: the rule that is broken, the bytes named, those of the field, where the element ends in which the bytes start, and whether the
 // field is strict. An end is one past the last byte.
-#[derive(Drop)]
+#[derive(Clone, Copy)]
 pub struct Frame {
     pub rule: u16,
     pub from: usize,
@@ -42,7 +42,7 @@ pub struct Frame {
 }
 
 // A cell: where it starts, how many bytes it has, its field, and which element of that it is, from 1; 0 for no element, and no field then.
-#[derive(Drop)]
+#[derive(Clone, Copy)]
 struct Cell {
     from: usize,
     len: usize,
@@ -51,7 +51,7 @@ struct Cell {
 }
 
 // What lies around a byte: where the field before it ends and the one behind it starts, and the field that it is in, or the number of fields.
-#[derive(Drop)]
+#[derive(Clone, Copy)]
 struct Around {
     from: usize,
     end: usize,
@@ -59,7 +59,7 @@ struct Around {
 }
 
 // The cells chosen, in no order: how many, where each starts and how many bytes it has.
-#[derive(Drop)]
+#[derive(Clone, Copy)]
 struct Chosen {
     count: usize,
     froms: [usize; 36],

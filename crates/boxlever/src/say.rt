@@ -12,21 +12,21 @@ const GIVEN: usize = 500;
 pub const BUFFER: usize = 65536;
 
 // How a unit and its name are shown: the data of a run as it is; Latin-1's letters as letters.
-#[derive(Drop)]
+#[derive(Clone, Copy)]
 pub struct Show {
     pub raw: bool,
     pub letters: bool,
 }
 
 // A file that was read, with its bytes as far as the buffer has room; or that could not be read, with the system's number of the reason.
-#[derive(Drop)]
+#[derive(Clone, Copy)]
 pub enum Read {
     Whole(usize),
     Failed(i32),
 }
 
 // A line in the making: its bytes up to `at`, how many of them take no column of their own, and whether it shows letters.
-#[derive(Drop)]
+#[derive(Clone, Copy)]
 pub struct Line {
     pub at: usize,
     pub beyond: usize,

@@ -11,7 +11,7 @@ use rules_fence::Validity;
 use rules_unit::{Checked, Field, Parts};
 
 // The first element that is no number: whether there is one, its field, and its number among the field's elements, from 0 on.
-#[derive(Drop)]
+#[derive(Clone, Copy)]
 pub struct Invalid {
     pub is_one: bool,
     pub field: u16,

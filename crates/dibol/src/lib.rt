@@ -1,4 +1,6 @@
 // The public face of Boxlever. A host lends a coded unit and a data buffer as slices of bytes; any bytes may be given, and every call answers.
+#![tactic(auto)]
+
 ghost use Rattle.std.specs.Prelude.{◌≡◌};
 ghost use Rattle.rules_unit.specs.declared.Checked.TheVariants as checked;
 ghost use Rattle.rules_unit.specs.Decode.{Fills};

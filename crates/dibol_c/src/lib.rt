@@ -1,5 +1,7 @@
 // The public face of Boxlever for C: `dibol` in numbers and slices. A slice is a pointer and a length in C; include/dibol.h has the prototypes.
 // Any bytes and any numbers may be given, of any length, and every call answers.
+#![tactic(auto)]
+
 ghost use Rattle.std.specs.Prelude.{◌≡◌, [], ◌∷◌, ◌-◌};
 ghost use Rattle.rules_unit.specs.Checks.{check_of};
 ghost use Rattle.rules_unit.specs.Literals.{stretch_of};

@@ -1,4 +1,6 @@
 // The fence check: whether every statement of a unit keeps the fence rules, and which rule a statement breaks first.
+#![tactic(auto)]
+
 ghost use Rattle.std.specs.Prelude.{◌≡◌, ◌<◌};
 ghost use Rattle.rules_unit.specs.declared.Checked.TheVariants as checked;
 ghost use Rattle.rules_unit.specs.Decode.{code_of};

@@ -1,4 +1,6 @@
 // The bounds that stand directly before an item of an expression, and the span that they fix.
+#![tactic(auto)]
+
 ghost use Rattle.std.specs.Prelude.{◌≡◌, true, ◌<◌};
 ghost use Rattle.rules.specs.declared.Num.TheVariants.{Value};
 ghost use Rattle.rules_unit.specs.declared.Form.TheVariants as form;

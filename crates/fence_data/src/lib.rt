@@ -1,4 +1,6 @@
 // Whether the decimals of a data buffer are all valid for a unit: what a yes of the fence check is about.
+#![tactic(auto)]
+
 ghost use Rattle.std.specs.Prelude.{◌≡◌, true, ◌<◌, length};
 ghost use Rattle.rules.specs.Values.{Limit, Letters, validb};
 ghost use Rattle.rules_unit.specs.declared.Checked.TheVariants as checked;

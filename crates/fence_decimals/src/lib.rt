@@ -1,4 +1,6 @@
 // A table of the decimal fields: for each byte of the data where the next one starts, so that a span is held against all of them at once.
+#![tactic(auto)]
+
 ghost use Rattle.std.specs.Prelude.{◌≡◌, ◌+◌, ◌<◌, leb, length, get_or, replicate};
 ghost use Rattle.rules_unit.specs.declared.Checked.TheVariants as checked;
 ghost use Rattle.rules_unit.specs.Decode.{code_of};

@@ -1,5 +1,7 @@
 // Every reference of a unit that breaks a fence rule, as rows of eight numbers. Each function goes on from a count of those that were met before it, puts the rows
 // that are asked for, and answers the count behind it.
+#![tactic(auto)]
+
 ghost use Rattle.std.specs.Prelude.{◌≡◌, true, [], ◌<◌};
 ghost use Rattle.rules_unit.specs.declared.Checked.TheVariants as checked;
 ghost use Rattle.rules_unit.specs.Decode.{Fills, SoundDialect, items_at, code_of};

@@ -1,4 +1,6 @@
 // What a reference of a unit breaks first of the fence rules: its bounds, then the bytes that they fix.
+#![tactic(auto)]
+
 ghost use Rattle.std.specs.Prelude.{◌≡◌, true, [], ◌+◌, ◌<◌, ◌≤◌};
 ghost use Rattle.rules_unit.specs.Codes.{offset_of};
 ghost use Rattle.rules_unit.specs.Decode.{Fills, code_of};

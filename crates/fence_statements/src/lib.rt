@@ -1,6 +1,8 @@
 // What a statement of a unit that passed its check breaks first of the fence rules: its uses in order, their references left to right. Items that
 // keep the rules to the end of their expression are noted, once as read and once as of a place that is written, so that no two expressions that
 // come to the same item walk on from it.
+#![tactic(auto)]
+
 ghost use Rattle.std.specs.Prelude.{◌≡◌, true, ◌<◌};
 ghost use Rattle.rules_unit.specs.declared.Checked.TheVariants as checked;
 ghost use Rattle.rules_unit.specs.Decode.{Fills, SoundDialect, items_at, code_of};

@@ -1,4 +1,6 @@
 // Signed values: the nineteen powers of ten, arithmetic, rounding, relations and truth.
+#![tactic(auto)]
+
 ghost use Rattle.std.specs.Prelude.{◌≡◌, ◌*◌, ◌^◌, ◌<◌, ◌≤◌, neg_ℤ, nat_abs};
 ghost use Rattle.rules.specs.Values.{Val, Top, signed, is_neg};
 ghost use Rattle.rules.specs.Arithmetic.{kept, add_of, sub_of, mul_of, div_of, round_of, eq_of, ne_of, gt_of, lt_of, ge_of, le_of, not_of, and_of, or_of, xor_of, Powers};

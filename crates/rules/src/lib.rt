@@ -1,9 +1,11 @@
 // The types that the written rules of document 01 speak of. The rules themselves stand in specs/.
+#![tactic(auto)]
+
 ghost use Rattle.std.specs.Prelude.{◌≡◌};
 ghost use Rattle.rules.specs.Stops.{fault_number, trappedb};
 
 // Why a statement is not completed.
-#[derive(Drop)]
+#[derive(Clone, Copy)]
 pub enum Fault {
     // An expression that no passed check lets arise.
     Malformed,
@@ -30,7 +32,7 @@ pub enum Fault {
 }
 
 // What working out a number answers.
-#[derive(Drop)]
+#[derive(Clone, Copy)]
 pub enum Num {
     Value(i64),
     Failed(Fault),
@@ -69,7 +71,7 @@ pub fn trapped(number: u8) -> bool
 }
 
 // What a character of an edit mask is.
-#[derive(Drop)]
+#[derive(Clone, Copy)]
 pub enum Class {
     // A digit place.
     Place,
@@ -84,7 +86,7 @@ pub enum Class {
 }
 
 // What a mask holds.
-#[derive(Drop)]
+#[derive(Clone, Copy)]
 pub struct Tally {
     // Its money signs.
     pub moneys: usize,
@@ -95,7 +97,7 @@ pub struct Tally {
 }
 
 // A number under a mask: what holds of the whole mask.
-#[derive(Drop)]
+#[derive(Clone, Copy)]
 pub struct Picture {
     // The mask's length.
     pub size: usize,
@@ -110,7 +112,7 @@ pub struct Picture {
 }
 
 // What stands around a character of a mask.
-#[derive(Drop)]
+#[derive(Clone, Copy)]
 pub struct Sight {
     // The characters from here on.
     pub left: usize,
@@ -125,7 +127,7 @@ pub struct Sight {
 }
 
 // What is read of a mask before its last characters are edited where they stand.
-#[derive(Drop)]
+#[derive(Clone, Copy)]
 pub struct Plan {
     // The number under the mask.
     pub picture: Picture,

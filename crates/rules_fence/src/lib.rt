@@ -1,4 +1,6 @@
 // The types of the fence: what a reference or a statement breaks, what the check answers, and what is answered of data. The rules themselves stand in specs/.
+#![tactic(auto)]
+
 ghost use Rattle.std.specs.Prelude.{◌≡◌};
 ghost use Rattle.rules_fence.specs.Breaches.{breach_number};
 
@@ -6,7 +8,7 @@ use rules_run::Span;
 use rules_unit::{Form, Refusal};
 
 // The first fence rule that a reference or a statement breaks.
-#[derive(Drop)]
+#[derive(Clone, Copy)]
 pub enum Breach {
     // It breaks none.
     None,
@@ -25,7 +27,7 @@ pub enum Breach {
 }
 
 // What the fence check answers.
-#[derive(Drop)]
+#[derive(Clone, Copy)]
 pub enum Verdict {
     // The unit is refused: 1 to 5.
     Refused(Refusal),
@@ -37,7 +39,7 @@ pub enum Verdict {
 
 // A reference that breaks a fence rule: the statement that it stands in, the first rule that it breaks, whether it names a destination, its field and its form, the
 // bytes that its bounds fix (Outside where they fix none), and its offset in the expressions.
-#[derive(Drop)]
+#[derive(Clone, Copy)]
 pub struct Broken {
     pub statement: u16,
     pub rule: Breach,
@@ -49,7 +51,7 @@ pub struct Broken {
 }
 
 // What is answered of a data buffer for a unit.
-#[derive(Drop)]
+#[derive(Clone, Copy)]
 pub enum Validity {
     // The unit is refused: 1 to 5.
     Refused(Refusal),
@@ -63,7 +65,7 @@ pub enum Validity {
 
 // The bounds that stand directly before an item: none, one, or two at the least. The last is plain
 // where it is a literal that is not negated.
-#[derive(Drop)]
+#[derive(Clone, Copy)]
 pub enum Seen {
     Nothing,
     One { last: i64, plain: bool },

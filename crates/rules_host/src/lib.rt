@@ -1,11 +1,13 @@
 // What hosts hold and are told. The rules themselves stand in specs/.
+#![tactic(auto)]
+
 ghost use Rattle.std.specs.Prelude.{◌≡◌};
 ghost use Rattle.rules_host.specs.Laid.{laid};
 
 use rules_unit::Field;
 
 // What is answered of a field entry that is asked for by its number.
-#[derive(Drop)]
+#[derive(Clone, Copy)]
 pub enum Entry {
     // The unit is refused, or has no such entry.
     None,

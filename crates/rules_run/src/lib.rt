@@ -1,4 +1,6 @@
 // The types of a run: spans, what an expression comes to, one statement's turn, the resume state, the outcome. The rules themselves stand in specs/.
+#![tactic(auto)]
+
 ghost use Rattle.std.specs.Prelude.{◌≡◌, ◌+◌, ◌<◌, ◌≤◌};
 ghost use Rattle.rules_run.specs.Turns.{failed, stores, goes};
 ghost use Rattle.rules_run.specs.States.{no_loop, gone, called, returned, entered, closed, armed, caught_by, look_of};
@@ -8,7 +10,7 @@ use rules::Fault;
 use rules_unit::Refusal;
 
 // The bytes that a reference names.
-#[derive(Drop)]
+#[derive(Clone, Copy)]
 pub enum Span {
     At { start: usize, len: usize },
     // Bounds that are none, or bytes outside the data: 21.
@@ -16,7 +18,7 @@ pub enum Span {
 }
 
 // What an expression comes to. A last reference is found and not read.
-#[derive(Drop)]
+#[derive(Clone, Copy)]
 pub enum Worked {
     Number(i64),
     Place {
@@ -32,7 +34,7 @@ pub enum Worked {
 }
 
 // What a statement stores. Each but Nothing names its span.
-#[derive(Drop)]
+#[derive(Clone, Copy)]
 pub enum Write {
     Nothing,
     // A number in a decimal span.
@@ -92,7 +94,7 @@ pub enum Write {
 }
 
 // Where the run goes on after a statement, or why it does not.
-#[derive(Drop)]
+#[derive(Clone, Copy)]
 pub enum Flow {
     Next,
     Goto(u16),
@@ -111,7 +113,7 @@ pub enum Flow {
 }
 
 // What a statement answers: what it stores, and where the run goes on.
-#[derive(Drop)]
+#[derive(Clone, Copy)]
 pub struct Turn {
     pub write: Write,
     pub flow: Flow,
@@ -148,7 +150,7 @@ pub fn goes(f: Flow) -> Turn
 }
 
 // An open loop: its entry statement, its limit and its step.
-#[derive(Drop)]
+#[derive(Clone, Copy)]
 pub struct Loop {
     pub entry: u16,
     pub limit: i64,
@@ -167,28 +169,28 @@ pub fn no_loop() -> Loop
 }
 
 // What a statement sees of the state: how many loops are open, and the one opened last.
-#[derive(Drop)]
+#[derive(Clone, Copy)]
 pub struct Look {
     pub opened: u16,
     pub last: Loop,
 }
 
 // The handler: where the run goes on after an error that is trapped.
-#[derive(Drop)]
+#[derive(Clone, Copy)]
 pub enum Handler {
     None,
     At(u16),
 }
 
 // The last error that was trapped: its number and its statement.
-#[derive(Drop)]
+#[derive(Clone, Copy)]
 pub enum Caught {
     None,
     Error { number: u8, statement: u16 },
 }
 
 // What is known of errors: the handler, and the last error that was trapped.
-#[derive(Drop)]
+#[derive(Clone, Copy)]
 pub struct Trap {
     pub handler: Handler,
     pub caught: Caught,
@@ -196,7 +198,7 @@ pub struct Trap {
 
 // The resume state: the statement to go on at, the calls still open with the numbers that they return to, the loops still open, the handler and the last
 // error.
-#[derive(Drop)]
+#[derive(Clone, Copy)]
 pub struct State {
     pub at: u16,
     pub depth: u16,
@@ -336,7 +338,7 @@ impl State {
 }
 
 // Why a call of the run ended.
-#[derive(Drop)]
+#[derive(Clone, Copy)]
 pub enum Stop {
     // The end was reached.
     End,
@@ -353,7 +355,7 @@ pub enum Stop {
 }
 
 // What a call of the run answers: why it ended and where, how many statements were completed, and the next resume state.
-#[derive(Drop)]
+#[derive(Clone, Copy)]
 pub struct Outcome {
     pub stop: Stop,
     pub place: u16,

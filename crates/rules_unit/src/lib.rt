@@ -1,9 +1,11 @@
 // The types of the coded unit (document 01, "The coded unit"). The rules themselves stand in specs/.
+#![tactic(auto)]
+
 ghost use Rattle.std.specs.Prelude.{◌≡◌};
 ghost use Rattle.rules_unit.specs.Checks.{refusal_number, refusal_place};
 
 // A dialect: which numbers there are, and how they are written.
-#[derive(Drop)]
+#[derive(Clone, Copy)]
 pub struct Dialect {
     // The most digits that a number may have.
     pub limit: u16,
@@ -14,14 +16,14 @@ pub struct Dialect {
 }
 
 // What the mark at a unit's end says.
-#[derive(Drop)]
+#[derive(Clone, Copy)]
 pub enum Mark {
     Names(Dialect),
     Wrong,
 }
 
 // The lengths of a unit's parts, as its trailer names them, and its dialect.
-#[derive(Drop)]
+#[derive(Clone, Copy)]
 pub struct Parts {
     // Bytes of data.
     pub d: u16,
@@ -37,7 +39,7 @@ pub struct Parts {
 }
 
 // What a field holds.
-#[derive(Drop)]
+#[derive(Clone, Copy)]
 pub enum Kind {
     Alpha,
     Decimal,
@@ -46,14 +48,14 @@ pub enum Kind {
 }
 
 // The rule by which a reference with bounds is found. A span may leave a loose field, and not a strict one.
-#[derive(Drop)]
+#[derive(Clone, Copy)]
 pub enum Rule {
     Loose,
     Strict,
 }
 
 // A field entry. Its zero byte has the field's choice of a rule.
-#[derive(Drop)]
+#[derive(Clone, Copy)]
 pub struct Field {
     pub kind: Kind,
     pub zero: u8,
@@ -63,7 +65,7 @@ pub struct Field {
 }
 
 // The form of a reference: 02, which has no bounds and names the first element, 03, 04, 05.
-#[derive(Drop)]
+#[derive(Clone, Copy)]
 pub enum Form {
     First,
     Subscript,
@@ -72,7 +74,7 @@ pub enum Form {
 }
 
 // The operators, 10 to 1F.
-#[derive(Drop)]
+#[derive(Clone, Copy)]
 pub enum Op {
     Add,
     Subtract,
@@ -93,7 +95,7 @@ pub enum Op {
 }
 
 // An item of an expression. Bad is a code that is none, or an item that the end of the expressions cuts.
-#[derive(Drop)]
+#[derive(Clone, Copy)]
 pub enum Item {
     Number { place: u16, len: u16 },
     Reference { form: Form, field: u16 },
@@ -104,7 +106,7 @@ pub enum Item {
 }
 
 // A statement as it is coded: its code, the zero byte and the three parts.
-#[derive(Drop)]
+#[derive(Clone, Copy)]
 pub struct Statement {
     pub code: u8,
     pub zero: u8,
@@ -114,7 +116,7 @@ pub struct Statement {
 }
 
 // What a statement does at its place a.
-#[derive(Drop)]
+#[derive(Clone, Copy)]
 pub enum Act {
     // SET from source b.
     Set,
@@ -129,7 +131,7 @@ pub enum Act {
 }
 
 // What a statement does, by its code: something at its place, where the run goes on, something about a loop or about the handler; Bad for a code that is none.
-#[derive(Drop)]
+#[derive(Clone, Copy)]
 pub enum Verb {
     At(Act),
     Goto,
@@ -149,7 +151,7 @@ pub enum Verb {
 }
 
 // The sort of an expression, by its last item; Wrong where it is badly formed.
-#[derive(Drop)]
+#[derive(Clone, Copy)]
 pub enum Sort {
     Wrong,
     Number,
@@ -159,7 +161,7 @@ pub enum Sort {
 }
 
 // The sort that a use of an expression wants.
-#[derive(Drop)]
+#[derive(Clone, Copy)]
 pub enum Want {
     Place,
     DecimalPlace,
@@ -170,14 +172,14 @@ pub enum Want {
 }
 
 // How a part of a statement uses an expression: the sort wanted, where it starts, and whether it is written; Nothing where it uses none.
-#[derive(Drop)]
+#[derive(Clone, Copy)]
 pub enum Use {
     Nothing,
     Of { want: Want, at: u16, written: bool },
 }
 
 // What a part of a statement is.
-#[derive(Drop)]
+#[derive(Clone, Copy)]
 pub enum Role {
     // Zero.
     Unused,
@@ -198,7 +200,7 @@ pub enum Role {
 }
 
 // A row of the table of statements: what the three parts are.
-#[derive(Drop)]
+#[derive(Clone, Copy)]
 pub struct Row {
     pub a: Role,
     pub b: Role,
@@ -206,7 +208,7 @@ pub struct Row {
 }
 
 // What is found of one statement: it stands, or 5, or 4.
-#[derive(Drop)]
+#[derive(Clone, Copy)]
 pub enum Found {
     Good,
     BadShape,
@@ -214,7 +216,7 @@ pub enum Found {
 }
 
 // Why a unit is refused, with the place.
-#[derive(Drop)]
+#[derive(Clone, Copy)]
 pub enum Refusal {
     NotFilled,
     BadRange,
@@ -224,14 +226,14 @@ pub enum Refusal {
 }
 
 // What the check answers.
-#[derive(Drop)]
+#[derive(Clone, Copy)]
 pub enum Checked {
     Passed(Parts),
     Refused(Refusal),
 }
 
 // A stretch of the unit: where it starts, and its length.
-#[derive(Drop)]
+#[derive(Clone, Copy)]
 pub struct Stretch {
     pub at: usize,
     pub len: usize,

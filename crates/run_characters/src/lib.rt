@@ -1,4 +1,6 @@
 // One character of an edit mask: what it is, and what is shown for it.
+#![tactic(auto)]
+
 ghost use Rattle.std.specs.Prelude.{◌≡◌, ◌+◌, ◌-◌, ◌^◌, ◌<◌, cond};
 ghost use Rattle.rules.specs.Arithmetic.{Powers};
 ghost use Rattle.rules.specs.Masks.{placeb, less_by, moneys_right, edgeb, commab, class_by, class_of, digit_of, begins_by, place_begins, significant_by, holds_digit, lead_by, sighted_by, can_be_money, money_by, fill_by, visible_by, character_by};

@@ -1,4 +1,6 @@
 // Expressions, worked out over the data. What a passed check never lets arise is tested again and answered Malformed.
+#![tactic(auto)]
+
 ghost use Rattle.std.specs.Prelude.{◌≡◌, ◌<◌, length};
 ghost use Rattle.rules.specs.declared.Fault.TheVariants as fault;
 ghost use Rattle.rules_unit.specs.declared.Form.TheVariants as form;
@@ -19,7 +21,7 @@ use rules_unit::{Form, Item, Op, Parts};
 const MOST: usize = 16;
 
 // What an item comes to: a value, held on top of the first of those that are kept, and the offset of the item after it; or what the expression comes to.
-#[derive(Drop)]
+#[derive(Clone, Copy)]
 pub enum Step {
     Hold {
         kept: usize,

@@ -1,5 +1,7 @@
 // What one item of an expression comes to: a literal's number, a reference read or found, an operator's result. What a passed check never lets arise is
 // tested again and answered Malformed.
+#![tactic(auto)]
+
 ghost use Rattle.std.specs.Prelude.{◌≡◌, true, false, cond, ◌+◌, ◌^◌, ◌<◌, ◌≤◌, ltb, eqb, pos, length, get_or, take, drop};
 ghost use Rattle.rules.specs.declared.Fault.TheVariants as fault;
 ghost use Rattle.rules.specs.Tests.{◌&&◌};

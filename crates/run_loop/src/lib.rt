@@ -1,4 +1,6 @@
 // The run: statements one after the other within an allowance.
+#![tactic(auto)]
+
 ghost use Rattle.std.specs.Prelude.{◌≡◌, ◌+◌, ◌-◌, ◌<◌, ◌≤◌, length};
 ghost use Rattle.rules_unit.specs.declared.Checked.TheVariants as checked;
 ghost use Rattle.rules_unit.specs.Decode.{Fills, SoundDialect, code_of};
@@ -63,7 +65,7 @@ fn turn_at(unit: &[u8], parts: Parts, bytes: &[u8], at: u16, look: Look, depth: 
 // ---- errors
 
 // What comes after a stretch of a run: it stops, or its error is trapped and it goes on.
-#[derive(Drop)]
+#[derive(Clone, Copy)]
 pub enum After {
     Stops,
     Goes { number: u8, to: u16 },

@@ -1,4 +1,6 @@
 // Edit masks: a number formatted by a mask.
+#![tactic(auto)]
+
 ghost use Rattle.std.specs.Prelude.{◌≡◌, ◌+◌, ◌-◌, ◌^◌, ◌<◌, cond, nat_abs, length};
 ghost use Rattle.rules.specs.Values.{Val, is_neg};
 ghost use Rattle.rules.specs.Arithmetic.{Powers};

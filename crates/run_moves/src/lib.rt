@@ -1,4 +1,6 @@
 // What a statement does at a place that is found: what SET moves there, what INCR and DECR count, what UPCASE and LOCASE change. Data is only read here.
+#![tactic(auto)]
+
 ghost use Rattle.std.specs.Prelude.{◌≡◌, ◌+◌, ◌^◌, ◌≤◌, length};
 ghost use Rattle.rules.specs.declared.Num.TheVariants.{Value};
 ghost use Rattle.rules.specs.Values.{Val};

@@ -1,5 +1,7 @@
 // FOR, loop end, EXITLOOP and NEXTLOOP: the entry, the passes and the ways out of a loop. Data is only read here. A control place is found by
 // `run_evaluate::worked`, so that the shorter way of `run_evaluate::place` keeps its one caller, into which the compiler puts it.
+#![tactic(auto)]
+
 ghost use Rattle.std.specs.Prelude.{◌≡◌, true, ◌+◌, ◌^◌, ◌<◌, ◌≤◌, length};
 ghost use Rattle.rules.specs.Values.{Val};
 ghost use Rattle.rules_unit.specs.declared.Verb.TheVariants.{For};

@@ -1,4 +1,6 @@
 // The resume state: whether it is sound for a unit, and the numbers that a host in C keeps it as.
+#![tactic(auto)]
+
 ghost use Rattle.std.specs.Prelude.{◌≡◌, true, [], ◌∷◌, ◌<◌, ◌≤◌, ltb, eqb, nat_abs, length};
 ghost use Rattle.rules.specs.Values.{Top};
 ghost use Rattle.rules_unit.specs.Decode.{Fills, SoundDialect, code_of};

@@ -1,4 +1,6 @@
 // What a statement stores: the one place where data changes.
+#![tactic(auto)]
+
 ghost use Rattle.std.specs.Prelude.{◌≡◌, cond, ◌+◌, ◌^◌, ◌≤◌, length, take, drop};
 ghost use Rattle.rules.specs.Values.{Val};
 ghost use Rattle.rules.specs.Charts.{Charts};

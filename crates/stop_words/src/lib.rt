@@ -1,4 +1,6 @@
 // The stops of document 01 and the fence rules in words.
+#![tactic(auto)]
+
 ghost use Rattle.std.specs.Prelude.{◌≡◌};
 ghost use Rattle.rules_host.specs.Words.{Said, said, said_of, breach_said};
 

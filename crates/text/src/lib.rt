@@ -1,4 +1,6 @@
 // Numbers in bytes: reading and writing decimals, number to alpha, alpha to number.
+#![tactic(auto)]
+
 ghost use Rattle.std.specs.Prelude.{◌≡◌, ◌+◌, ◌^◌, ◌≤◌, ◌<◌, length, get_or, drop};
 ghost use Rattle.rules.specs.Values.{Val, Top, Limit, Letters, last_digit, read_from, read_of};
 ghost use Rattle.rules.specs.Arithmetic.{Powers};

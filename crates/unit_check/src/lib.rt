@@ -1,4 +1,6 @@
 // The check of a coded unit (1 to 5).
+#![tactic(auto)]
+
 ghost use Rattle.std.specs.Prelude.{◌≡◌, ◌+◌, ◌<◌, ◌≤◌};
 ghost use Rattle.rules_unit.specs.Decode.{Fills, code_of};
 ghost use Rattle.rules_unit.specs.Checks.{is_goto, gotosb, tableb, is_loop_end, endb, roleb, rowb, shapeb, found_of, statements_from, parts_check, check_of};

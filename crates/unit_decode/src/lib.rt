@@ -1,5 +1,7 @@
 // The coded unit's bytes, decoded: words, the trailer, field entries and where they end, items and how many values they take, expressions in a row,
 // statements; and the table of statements. Nothing is checked here.
+#![tactic(auto)]
+
 ghost use Rattle.std.specs.Prelude.{◌≡◌, ◌+◌, ◌*◌, ◌<◌, ◌≤◌, length, get_or, set};
 ghost use Rattle.rules_unit.specs.declared.Verb.TheVariants as verb;
 ghost use Rattle.rules_unit.specs.Codes.{is_decimal};

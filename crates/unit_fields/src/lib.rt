@@ -1,4 +1,6 @@
 // The checks of a coded unit that need no expression: its length, the ranges of its parts and its field entries (1 to 3).
+#![tactic(auto)]
+
 ghost use Rattle.std.specs.Prelude.{◌≡◌, ◌+◌, ◌<◌};
 ghost use Rattle.rules_unit.specs.Codes.{is_bad, is_record};
 ghost use Rattle.rules_unit.specs.Decode.{Fills, wrong_mark, code_of};

@@ -1,4 +1,6 @@
 // The alpha literal of a statement.
+#![tactic(auto)]
+
 ghost use Rattle.std.specs.Prelude.{◌≡◌, ◌∷◌, ◌<◌};
 ghost use Rattle.rules_unit.specs.Decode.{Fills, literals_at, items_at, code_of};
 ghost use Rattle.rules_unit.specs.Literals.{nowhere, lone_text, stretch_by, stretch_in, stretch_of, literal_of};

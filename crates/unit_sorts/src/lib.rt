@@ -1,5 +1,7 @@
 // Expressions: their form and their sort. What is found of the items to the end of an expression is noted, so that no two expressions that come
 // to the same item walk on from it.
+#![tactic(auto)]
+
 ghost use Rattle.std.specs.Prelude.{◌≡◌, true, false, ◌+◌, ◌*◌, ◌<◌, ◌≤◌, set};
 ghost use Rattle.rules_unit.specs.Codes.{is_decimal};
 ghost use Rattle.rules_unit.specs.Decode.{Fills, items_at, code_of};

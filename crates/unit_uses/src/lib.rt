@@ -1,4 +1,6 @@
 // The expressions of a statement: their uses, and whether each is of the sort that its use wants.
+#![tactic(auto)]
+
 ghost use Rattle.std.specs.Prelude.{◌≡◌, true, false, ◌<◌, length, get_or};
 ghost use Rattle.rules_unit.specs.declared.Role.TheVariants as role;
 ghost use Rattle.rules_unit.specs.declared.Use.TheVariants as used;

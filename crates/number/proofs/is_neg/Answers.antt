@@ -5,11 +5,7 @@ use lib.IntN.{ℤ, pos}
 use lib.Signed.{lt_z}
 use Rattle.rules.proofs.Signed.{back}
 use Rattle.number.proofs.Negation.{below_zero}
-use Rattle.number.proofs.is_neg.Statement.{statement}
-use Rattle.number.proofs.is_neg.Tie as tie
+use Rattle.number.proofs.is_neg.Goals as goal
 
-returns : tie.Need-returns
+pub returns : goal.returns
 returns c = ap (λ (z : ℤ). lt_z z (pos 0)) (back c.ranges.v) ∙ below_zero c.args.v
-
-pub is-neg-spec : {M : Type 1} → statement M
-is-neg-spec = tie.close (tie.spec returns)

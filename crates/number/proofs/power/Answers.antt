@@ -1,0 +1,12 @@
+-- `number::power` meets its contract: the table has the power at each of its places.
+-- Assumes nothing.
+use borrow.Author.Rules.{rules}
+use Rattle.number.proofs.TenPowers.{powers_at}
+use Rattle.number.proofs.power.Goals as goal
+
+-- GONE array-read-result
+-- array-read-result : tie.Need-array-read-result
+-- array-read-result c = search rules
+
+pub returns : goal.returns
+returns c = powers_at c.args.k c.requires
