@@ -7,18 +7,15 @@ use lib.IntN.{nat_abs}
 use Rattle.rules.proofs.Signed.{back}
 use Rattle.number.proofs.keep.Goals as goal
 
-m_is : (c : goal.After-magnitude) → c.magnitude.result ≡ nat_abs c.args.s
-m_is c = c.magnitude.ensures ∙ ap nat_abs (back c.ranges.s)
-
 pub magnitude-requires : goal.magnitude-requires
 magnitude-requires c = rw (back c.ranges.s) c.requires
 
 pub returns-then-magnitude-top : goal.returns-then-magnitude-top
 returns-then-magnitude-top c =
     let s = c.before in
-    simp (back s.ranges.s, lt-ltb (nat_abs s.args.s) s.args.top (omega (arith, m_is c.before)))
+    simp (back s.ranges.s, lt-ltb (nat_abs s.args.s) s.args.top (omega (arith, c.magnitude.ensures ∙ ap nat_abs (back c.ranges.s))))
 
 pub returns : goal.returns
 returns c =
     let s = c.before in
-    simp (le-ltb (nat_abs s.args.s) s.args.top (omega (arith, m_is c.before)))
+    simp (le-ltb (nat_abs s.args.s) s.args.top (omega (arith, c.magnitude.ensures ∙ ap nat_abs (back c.ranges.s))))

@@ -13,12 +13,6 @@ use Rattle.rules.proofs.Signed.{back, op_fits, op_back, abs_fits}
 use Rattle.number.proofs.Products.{product_zero, product_over, product_under}
 use Rattle.number.proofs.multiply.Goals as goal
 
-m_is : (c : goal.After-magnitude-n) → c.magnitude-m.result ≡ nat_abs c.args.a
-m_is c = c.magnitude-m.ensures ∙ ap nat_abs (back c.ranges.a)
-
-n_is : (c : goal.After-magnitude-n) → c.magnitude-n.result ≡ nat_abs c.args.b
-n_is c = c.magnitude-n.ensures ∙ ap nat_abs (back c.ranges.b)
-
 pub magnitude-m-requires : goal.magnitude-m-requires
 magnitude-m-requires c = rw (back c.ranges.a) (omega (arith, c.requires.val.small))
 
@@ -28,20 +22,21 @@ magnitude-n-requires c = rw (back c.ranges.b) (omega (arith, c.requires.val_2.sm
 pub returns-then-m-eq0 : goal.returns-then-m-eq0
 returns-then-m-eq0 c =
     let s = c.before in
-    sym (product_zero s.args.top s.args.a s.args.b (omega (arith, s.requires.top.some)) (sym (m_is c.before) ∙ c.if-m-eq0.true))
+    let m : c.magnitude-m.result ≡ nat_abs c.args.a = c.magnitude-m.ensures ∙ ap nat_abs (back c.ranges.a) in
+    sym (product_zero s.args.top s.args.a s.args.b (omega (arith, s.requires.top.some)) (sym m ∙ c.if-m-eq0.true))
 
 pub returns-then-most-m : goal.returns-then-most-m
 returns-then-most-m c =
     let s = c.before in
-    let m = m_is c.before in
-    let n = n_is c.before in
+    let m : c.magnitude-m.result ≡ nat_abs c.args.a = c.magnitude-m.ensures ∙ ap nat_abs (back c.ranges.a) in
+    let n : c.magnitude-n.result ≡ nat_abs c.args.b = c.magnitude-n.ensures ∙ ap nat_abs (back c.ranges.b) in
     simp (product_over s.args.top s.args.a s.args.b _ (rw m at c.if-m-eq0.false) (rw (m, n) at c.if-most-m.true) (omega (arith, s.requires.top.some)))
 
 under : (c : goal.Else-most-m) → nat_abs (c.args.a *ℤ c.args.b) < c.args.top
 under c =
     let s = c.before in
-    let m = m_is c.before in
-    let n = n_is c.before in
+    let m : c.magnitude-m.result ≡ nat_abs c.args.a = c.magnitude-m.ensures ∙ ap nat_abs (back c.ranges.a) in
+    let n : c.magnitude-n.result ≡ nat_abs c.args.b = c.magnitude-n.ensures ∙ ap nat_abs (back c.ranges.b) in
     product_under s.args.top s.args.a s.args.b _ (rw m at c.if-m-eq0.false) (rw (m, n) at c.if-most-m.false) (omega (arith, s.requires.top.some))
 
 fit : (c : goal.Else-most-m) → SFits w64 (c.args.a *ℤ c.args.b)

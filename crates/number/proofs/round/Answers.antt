@@ -18,6 +18,7 @@ use Rattle.rules.proofs.Signed.{back, tested, pow_pos10, pow_le18}
 use Rattle.rules.proofs.Range.{round_le}
 use Rattle.number.proofs.Negation.{zero_fits}
 use Rattle.number.proofs.Rounding.{Count, counted, count_below, count_above}
+use Rattle.number.proofs.round.Goals.{Else-k-gt18}
 use Rattle.number.proofs.round.Goals as goal
 
 most_fits : SFits w64 (pos 18)
@@ -61,7 +62,7 @@ m_small : (c : goal.After-magnitude) → c.magnitude.result < 10 ^ 18
 m_small c = rw (m_is c) c.requires.small
 
 pub overflow_add-magnitude : goal.overflow_add-magnitude
-overflow_add-magnitude c = omega (arith, m_small c, p_is c, pow_le18 (count c.before).below)
+overflow_add-magnitude c = omega (arith, m_small c, p_is c, pow_le18 (count (goal.at.overflow_add-magnitude c).Else-k-gt18).below)
 
 pub nonzero_div-magnitude : goal.nonzero_div-magnitude
 nonzero_div-magnitude c = p_pos c
@@ -75,4 +76,4 @@ returns c =
     let s = a.before in
     let n : a.is_neg.result ≡ is_neg s.args.v = a.is_neg.ensures ∙ ap is_neg (back s.ranges.v) in
     let r : c.with_sign.result ≡ rounded s.args.v (nat_abs s.args.k) = c.with_sign.ensures ∙ rw (n, m_is a, p_is a) in
-    ap Value (back (record { sfits = c.with_sign.type_inv }) ∙ r) ∙ sym (count a.before).means
+    ap Value (back (record { sfits = c.with_sign.type_inv }) ∙ r) ∙ sym (count (goal.at.returns c).Else-k-gt18).means

@@ -1,0 +1,17 @@
+-- `alpha::fit` meets its contract: what fits is copied byte by byte, and `fill` puts spaces in the rest.
+-- The invariant: the first i bytes are those of the text given.
+-- The measure: the bytes still to be copied.
+-- Assumes nothing.
+use mathlib.Core.Path.{◌≡◌, refl, ◌∙◌}
+use Prim.Native.Nat.{◌-◌, ◌≤◌}
+use native.Mathlib.Omega.{arith}
+use borrow.Author.Rules.{rules}
+use lib.ListN.{length, take, length-set}
+use Rattle.alpha.proofs.Fitting.{copy_next, fit_end}
+use Rattle.alpha.proofs.fit.Given as goal
+
+abbrev pub invariant-loop-i : goal.invariant-loop-i
+invariant-loop-i l = (l.i ≤ l.m) × (length l.s ≡ l.n) × (take l.i l.s ≡ take l.i l.from)
+
+abbrev pub decreases-loop-i : goal.decreases-loop-i
+decreases-loop-i l = l.m - l.i

@@ -1,0 +1,10 @@
+-- `run_state::pair_good` meets its contract: it tests what `pairb` tests.
+-- Assumes nothing.
+use Rattle.rules.proofs.Walk.{walk}
+use Rattle.run_state.proofs.pair_good.Goals as goal
+
+pub returns-then-number-eq0 : goal.returns-then-number-eq0
+returns-then-number-eq0 c = search walk depth 4
+
+pub returns : goal.returns
+returns c = search walk depth 4

@@ -1,0 +1,19 @@
+-- `unit_fields::good_fields` meets its contract: the entries passed are good, and the one at which it returns is not.
+-- The invariant: what is left, from the floor in hand, gives the answer of the whole. The measure: the entries left.
+-- Assumes nothing.
+use Prim.Native.Nat.{◌≤◌, ◌-◌}
+use mathlib.Core.Path.{◌≡◌}
+use borrow.Author.Rules.{rules}
+use Rattle.rules.proofs.Walk.{seen_yes, seen_no}
+use Rattle.rules_unit.specs.Decode.{code_of}
+use Rattle.rules_unit.specs.Checks.{good_fields}
+use Rattle.rules_unit.proofs.Statements.{left_all}
+use Rattle.unit_fields.proofs.Entries.{fields_on, fields_stop, fields_end}
+use Rattle.unit_fields.proofs.good_fields.Given as goal
+
+abbrev pub invariant-loop-i : goal.invariant-loop-i
+invariant-loop-i l =
+    (l.i ≤ l.parts.f) × (good_fields (code_of l.unit l.parts) (l.parts.f - l.i) l.i l.floor ≡ good_fields (code_of l.unit l.parts) l.parts.f 0 0)
+
+abbrev pub decreases-loop-i : goal.decreases-loop-i
+decreases-loop-i l = l.parts.f - l.i
