@@ -1,0 +1,8 @@
+-- `run_masks::finish` meets its contract: what is lent from the gap on is the right end, and comes back edited.
+-- Assumes nothing.
+use borrow.Author.Rules.{rules}
+use Rattle.run_masks.proofs.Plans.{finish_end}
+use Rattle.run_masks.proofs.finish.Goals as goal
+
+pub returns : goal.returns
+returns c = let a = c.args in finish_end a.g a.s.now _ c.without-gap.result c.without-gap.ensures c.edit.ensures

@@ -1,0 +1,11 @@
+-- `run_masks::lay` meets its contract: the spaces are put in front, and the mask's last characters fill the rest.
+-- Assumes nothing.
+use mathlib.Core.Path.{refl}
+use borrow.Author.Rules.{rules}
+use Rattle.run_masks.proofs.Laying.{lay_end}
+use Rattle.run_masks.proofs.lay.Goals as goal
+
+pub returns : goal.returns
+returns c =
+    let a = c.args in
+    lay_end a.s.now _ c.fill.new.s c.fit.new.s a.m.now c.without-gap.result c.without-cut.result c.without-gap.ensures c.without-cut.ensures c.fill.ensures refl c.fit.ensures

@@ -1,0 +1,11 @@
+-- `run_masks::more_if` meets its contract: the test picks the arm.
+-- Assumes nothing.
+use borrow.Author.Rules.{rules}
+use Rattle.rules.proofs.Walk.{walk, walk_if}
+use Rattle.run_masks.proofs.more_if.Goals as goal
+
+pub returns-then-yes : goal.returns-then-yes
+returns-then-yes c = search (walk, walk_if) depth 14
+
+pub returns : goal.returns
+returns c = search (walk, walk_if) depth 14

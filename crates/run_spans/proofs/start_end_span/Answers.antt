@@ -1,0 +1,53 @@
+-- `run_spans::start_end_span` meets its contract: bounds that are none are told by their signs and their order, and all others count from the field's start.
+-- Assumes nothing.
+use mathlib.Core.Path.{◌≡◌, ◌∙◌, ap}
+use lib.IntN.{pos}
+use lib.Signed.{le_z}
+use borrow.Author.Rules.{rules}
+use native.Mathlib.Omega.{arith}
+use Rattle.rules.proofs.Signed.{again}
+use Rattle.rules_run.proofs.Located.{start_end_low, start_end_turned, start_end_end, start_end_is}
+use Rattle.run_spans.proofs.Finding.{told, told_none, told_below}
+use Rattle.run_spans.proofs.start_end_span.Goals as goal
+
+pub returns-then-is_neg : goal.returns-then-is_neg
+returns-then-is_neg c =
+    let s = c.args in
+    start_end_low s.size s.offset s.s s.e (told_none c.ranges.s c.is_neg.ensures c.if-is_neg.true)
+
+pub returns-then-is_neg-2 : goal.returns-then-is_neg-2
+returns-then-is_neg-2 c =
+    let s = c.args in
+    start_end_end s.size s.offset s.s s.e (told_none c.ranges.e c.is_neg-2.ensures c.if-is_neg-2.true)
+
+pub magnitude-a-requires : goal.magnitude-a-requires
+magnitude-a-requires c = omega (arith, (again c.requires.val).small)
+
+pub magnitude-b-requires : goal.magnitude-b-requires
+magnitude-b-requires c = omega (arith, (again c.requires.val_2).small)
+
+pub returns-then-a-eq0 : goal.returns-then-a-eq0
+returns-then-a-eq0 c =
+    let first : c.args.s ≡ pos c.magnitude-a.result = told c.ranges.s c.is_neg.ensures c.if-is_neg.false c.magnitude-a.ensures in
+    let s = c.args in
+    start_end_low s.size s.offset s.s s.e (ap (le_z (pos 1)) (first ∙ ap pos c.if-a-eq0.true))
+
+pub returns-then-b-a : goal.returns-then-b-a
+returns-then-b-a c =
+    let first : c.args.s ≡ pos c.magnitude-a.result = told c.ranges.s c.is_neg.ensures c.if-is_neg.false c.magnitude-a.ensures in
+    let last : c.args.e ≡ pos c.magnitude-b.result = told c.ranges.e c.is_neg-2.ensures c.if-is_neg-2.false c.magnitude-b.ensures in
+    let s = c.args in
+    start_end_turned s.size s.offset (first) (last) (omega arith)
+
+pub overflow_add-offset : goal.overflow_add-offset
+overflow_add-offset c = omega (arith, told_below c.requires.val c.magnitude-a.ensures)
+
+pub overflow_add-b : goal.overflow_add-b
+overflow_add-b c = omega (arith, told_below c.requires.val_2 c.magnitude-b.ensures)
+
+pub returns : goal.returns
+returns c =
+    let first : c.args.s ≡ pos c.magnitude-a.result = told c.ranges.s c.is_neg.ensures c.if-is_neg.false c.magnitude-a.ensures in
+    let last : c.args.e ≡ pos c.magnitude-b.result = told c.ranges.e c.is_neg-2.ensures c.if-is_neg-2.false c.magnitude-b.ensures in
+    let s = c.args in
+    c.inside.ensures ∙ start_end_is s.size s.offset (first) (last) (omega arith) (omega arith)

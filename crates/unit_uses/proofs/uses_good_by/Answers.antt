@@ -1,0 +1,25 @@
+-- `unit_uses::uses_good_by` meets its contract: each turn tests the next use.
+-- Assumes nothing.
+use borrow.Author.Rules.{rules}
+use Prim.Native.Nat.{◌-◌}
+use mathlib.Core.Path.{◌≡◌, refl}
+use lib.ListN.{length, drop}
+use Rattle.rules_unit.specs.Table.{uses_by}
+use Rattle.rules_unit.specs.Decode.{code_of}
+use Rattle.rules_unit.specs.Expressions.{usesb}
+use Rattle.unit_decode.specs.Rows.{RowsOf}
+use Rattle.unit_sorts.specs.Notes.{NotedOf}
+use Rattle.unit_uses.proofs.Uses.{uses_refused, uses_on, uses_over}
+use Rattle.unit_uses.proofs.uses_good_by.Goals as goal
+
+pub loop-k-init : goal.loop-k-init
+loop-k-init c = (refl, search rules, search rules, search rules, search rules)
+
+pub returns-then-not-use_good-clause-value : goal.returns-then-not-use_good-clause-value
+returns-then-not-use_good-clause-value c = search uses_refused depth 3
+
+pub loop-k-preserved : goal.loop-k-preserved
+loop-k-preserved c = (search uses_on depth 3, search rules, search rules, search rules, search rules)
+
+pub returns-clause-value : goal.returns-clause-value
+returns-clause-value c = search uses_over depth 3
