@@ -1,0 +1,14 @@
+-- `run_items::place_by` meets its contract: the tests are the rule's own, in its order, and the span that was found, by the rule that the field chooses,
+-- becomes the place. Assumes nothing.
+use borrow.Author.Rules.{rules}
+use Rattle.run_items.proofs.Places.{found_by, place_none, place_found, place_outside}
+use Rattle.run_items.proofs.place_by.Goals as goal
+
+pub returns-then-parts-field : goal.returns-then-parts-field
+returns-then-parts-field c = search place_none depth 3
+
+pub returns-in-At : goal.returns-in-At
+returns-in-At c = search (place_found, found_by) depth 4
+
+pub returns-in-Outside : goal.returns-in-Outside
+returns-in-Outside c = search (place_outside, found_by) depth 4

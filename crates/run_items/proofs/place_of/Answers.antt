@@ -1,0 +1,18 @@
+-- `run_items::place_of` meets its contract: the values held are the bounds exactly where they are as many as the reference takes.
+-- Assumes nothing.
+use borrow.Author.Rules.{rules}
+use Rattle.rules.proofs.Signed.{again}
+use Rattle.run_items.proofs.Places.{place_bounds, place_unbound}
+use Rattle.run_items.proofs.place_of.Goals as goal
+
+pub place_by-requires-clause-val : goal.place_by-requires-clause-val
+place_by-requires-clause-val c = search again depth 3
+
+pub place_by-requires-clause-val_2 : goal.place_by-requires-clause-val_2
+place_by-requires-clause-val_2 c = search again depth 3
+
+pub returns-then-n-taken : goal.returns-then-n-taken
+returns-then-n-taken c = search place_bounds depth 3
+
+pub returns : goal.returns
+returns c = search place_unbound depth 3

@@ -1,0 +1,21 @@
+-- `run_stores::move_text` meets its contract: text that fills the room is moved and cut, and spaces go behind any other once it is moved.
+-- Assumes nothing.
+use mathlib.Core.Path.{◌∙◌}
+use borrow.Author.Rules.{rules}
+use native.Mathlib.Omega.{arith}
+use Rattle.run_stores.proofs.Moving.{cut, filled}
+use Rattle.run_stores.proofs.move_text.Goals as goal
+
+pub returns-then-len-count : goal.returns-then-len-count
+returns-then-len-count c =
+    let s = c.args in
+    c.shift.ensures ∙ cut s.bytes.now s.start s.len s.from s.count (omega arith) (omega arith)
+
+pub returns : goal.returns
+returns c =
+    let s = c.args in
+    let x = c.shift-2 in
+    let y = c.fill in
+    rw x.ensures
+    (filled s.bytes.now s.start s.len s.from s.count y.new.s (omega arith) (omega arith) (omega arith)
+    (rw x.ensures at y.ensures))

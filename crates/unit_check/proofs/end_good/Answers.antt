@@ -1,0 +1,14 @@
+-- `unit_check::end_good` meets its contract: the tests are those of `endb`, in its order.
+-- Assumes nothing.
+use borrow.Author.Rules.{rules}
+use Rattle.unit_check.proofs.Scans.{end_before, end_past, end_is}
+use Rattle.unit_check.proofs.end_good.Goals as goal
+
+pub returns-then-end-i : goal.returns-then-end-i
+returns-then-end-i c = search end_before depth 3
+
+pub returns-then-parts-end : goal.returns-then-parts-end
+returns-then-parts-end c = search end_past depth 3
+
+pub returns : goal.returns
+returns c = search end_is depth 3
