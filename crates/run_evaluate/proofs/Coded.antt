@@ -8,15 +8,12 @@ use native.Mathlib.Omega.{arith}
 use lib.Dec.{eqb}
 use lib.ListN.{length, get_or}
 use borrow.Author.Tests.{lt-ltb, le-ltb, ne_eqb}
-use denote.Enum.Declared.{tag_of}
-use types.Run.{OneOf, miss}
 use Rattle.rules_unit.specs.declared.Form.{Form}
 use Rattle.rules_unit.specs.declared.Form.TheVariants as form
 use Rattle.rules_unit.specs.declared.Op.{Op}
 use Rattle.rules_unit.specs.declared.Item.{Item}
 use Rattle.rules_unit.specs.declared.Item.TheVariants as item
 use Rattle.rules_unit.specs.Decode.{word_at, reference_at, number_at, text_at, item_by, item_at}
-use Rattle.rules_unit.specs.contracts.Item.{the_type}
 use Rattle.run_evaluate.specs.Steps.{form_of}
 
 module _ (s : List ℕ) (i : ℕ) (there : i < length s) where
@@ -92,17 +89,17 @@ upper_code s i code h =
     (otherwise (eqb code 6) (text_at s i) _ (ne_eqb code 6 (λ e. omega arith))
     (search (either, operator, bad) depth 40)))))))
 
--- what the code's `if let Item::Operator` leaves: the item's tag is one of the others
-not_operator : (it : Item) → OneOf (0 ∷ (1 ∷ (2 ∷ (4 ∷ (5 ∷ []))))) (tag_of the_type it) → upperb it ≡ true → it ≡ item.Bad
+-- what the code's `if let Item::Operator` leaves: the item is no operator
+not_operator : (it : Item) → ((x : Op) → it ≡ item.Operator x → ⊥) → upperb it ≡ true → it ≡ item.Bad
 not_operator (item.Number place len) o e = let z : ◌≡◌ {A = ℕ} 0 1 = cc in absurd (omega arith)
 not_operator (item.Reference h f) o e = let z : ◌≡◌ {A = ℕ} 0 1 = cc in absurd (omega arith)
 not_operator (item.Text place len) o e = let z : ◌≡◌ {A = ℕ} 0 1 = cc in absurd (omega arith)
-not_operator (item.Operator p) o e = absurd (miss (0 ∷ (1 ∷ (2 ∷ (4 ∷ (5 ∷ []))))) 3 tt o)
+not_operator (item.Operator p) o e = absurd (o p refl)
 not_operator item.End o e = let z : ◌≡◌ {A = ℕ} 0 1 = cc in absurd (omega arith)
 not_operator item.Bad o e = refl
 
 pub code_none : (s : List ℕ) (i code : ℕ) (it : Item) → item_at s i ≡ item_by s i code → it ≡ item_by s i code → 6 ≤ code → (code ≡ 6 → ⊥)
-    → OneOf (0 ∷ (1 ∷ (2 ∷ (4 ∷ (5 ∷ []))))) (tag_of the_type it) → item_at s i ≡ item.Bad
+    → ((x : Op) → it ≡ item.Operator x → ⊥) → item_at s i ≡ item.Bad
 code_none s i code it e f h k o = e ∙ sym f ∙ not_operator it o (ap upperb f ∙ (upper_code s i code (omega arith)).upper)
 
 -- ---- an item that the end of the expressions cuts, and one that they hold

@@ -1,0 +1,11 @@
+-- `fence_bounds::seen_number` meets its contract: a literal that is a number is one more bound.
+-- Assumes nothing.
+use borrow.Author.Rules.{rules}
+use Rattle.fence_bounds.proofs.Seeing.{number_value, number_failed}
+use Rattle.fence_bounds.proofs.seen_number.Goals as goal
+
+pub returns-in-Value : goal.returns-in-Value
+returns-in-Value c = search number_value depth 3
+
+pub returns-in-Failed : goal.returns-in-Failed
+returns-in-Failed c = search number_failed depth 3

@@ -1,0 +1,19 @@
+-- `fence_decimals::note_decimals` meets its contract: each turn fills the table from the end of the decimal fields before up to the end of this one.
+-- The invariant: what is noted, with what the fields left give, is the whole table, and nothing is noted behind the floor. The measure: the
+-- fields left.
+-- Assumes nothing.
+use borrow.Author.Rules.{rules}
+use mathlib.Core.Path.{◌≡◌}
+use Prim.Native.Nat.{◌-◌, ◌≤◌}
+use lib.ListN.{length}
+use Rattle.rules_unit.specs.Decode.{code_of}
+use Rattle.rules_unit.proofs.Sound.{passed_fills}
+use Rattle.fence_decimals.proofs.Filling.{Half, half_start, half_end, half_next, turn_low, turn_high, turn_inside}
+use Rattle.fence_decimals.proofs.note_decimals.Given as goal
+
+abbrev pub invariant-loop-g : goal.invariant-loop-g
+invariant-loop-g l =
+    Half (code_of l.unit l.parts) l.g l.floor l.ahead × (l.floor ≤ l.parts.d) × (length l.ahead ≡ length l.initial.ahead)
+
+abbrev pub decreases-loop-g : goal.decreases-loop-g
+decreases-loop-g l = l.parts.f - l.g
