@@ -1,0 +1,20 @@
+-- `fence_data::elements_validity` meets its contract: the elements passed are valid, and the one at which it stops is not.
+-- The invariant: what is left gives the answer of the whole. The measure: the elements left.
+-- Assumes nothing.
+use Prim.Native.Nat.{◌+◌, ◌<◌}
+use mathlib.Core.Path.{◌≡◌}
+use borrow.Author.Rules.{rules}
+use Rattle.rules_unit.specs.Codes.{count_of}
+use Rattle.rules_unit.specs.Decode.{code_of}
+use Rattle.rules_unit.proofs.Sound.{passed_fills}
+use Rattle.rules_fence.specs.Validity.{elements_from}
+use Rattle.fence_data.proofs.Decimals.{elements_count, elements_start, element_within, elements_over, elements_stop, elements_on}
+use Rattle.fence_data.proofs.elements_validity.Given as goal
+
+abbrev pub invariant-loop-left : goal.invariant-loop-left
+invariant-loop-left l =
+    (l.k + l.left ≡ count_of (code_of l.unit l.parts) l.f) × (l.k + l.left < 65536)
+    × (elements_from (code_of l.unit l.parts) l.bytes l.f l.left l.k ≡ elements_from (code_of l.unit l.parts) l.bytes l.f (count_of (code_of l.unit l.parts) l.f) 0)
+
+abbrev pub decreases-loop-left : goal.decreases-loop-left
+decreases-loop-left l = l.left

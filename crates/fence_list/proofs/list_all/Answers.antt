@@ -1,0 +1,23 @@
+-- `fence_list::list_all` meets its contract: each turn lists the next statement.
+-- Assumes nothing.
+use borrow.Author.Rules.{rules}
+use Prim.Native.Nat.{◌-◌, ◌≤◌}
+use mathlib.Core.Path.{◌≡◌}
+use lib.ListN.{length}
+use Rattle.rules_unit.specs.Decode.{code_of}
+use Rattle.rules_unit.proofs.Statements.{left_all}
+use Rattle.rules_fence.specs.Listed.{statements_broken}
+use Rattle.unit_decode.specs.Rows.{RowsOf}
+use Rattle.fence_list.specs.Gathered.{gathered}
+use Rattle.fence_list.proofs.Gathering.{G}
+use Rattle.fence_list.proofs.Statements.{statements_over, statements_on}
+use Rattle.fence_list.proofs.list_all.Goals as goal
+
+pub loop-i-init : goal.loop-i-init
+loop-i-init c = (search rules, rw left_all, search rules, search rules, search rules)
+
+pub loop-i-preserved : goal.loop-i-preserved
+loop-i-preserved c = (search rules, search statements_on depth 3, search rules, search rules, search rules)
+
+pub returns : goal.returns
+returns c = search statements_over depth 3

@@ -1,0 +1,27 @@
+-- `fence_list::list_item` meets its contract: an item that is no reference is none of the list.
+-- Assumes nothing.
+use borrow.Author.Rules.{rules}
+use Rattle.rules_unit.proofs.Items.{known_field}
+use Rattle.fence_list.proofs.Turns.{item_number, item_reference, item_text, item_operator, item_end, item_bad}
+use Rattle.fence_list.proofs.list_item.Goals as goal
+
+pub list_reference-requires-clause-field_lt_f : goal.list_reference-requires-clause-field_lt_f
+list_reference-requires-clause-field_lt_f c = search known_field depth 3
+
+pub returns-in-Number : goal.returns-in-Number
+returns-in-Number c = search item_number depth 3
+
+pub returns-in-Reference : goal.returns-in-Reference
+returns-in-Reference c = search item_reference depth 3
+
+pub returns-in-Text : goal.returns-in-Text
+returns-in-Text c = search item_text depth 3
+
+pub returns-in-Operator : goal.returns-in-Operator
+returns-in-Operator c = search item_operator depth 3
+
+pub returns-in-End : goal.returns-in-End
+returns-in-End c = search item_end depth 3
+
+pub returns-in-Bad : goal.returns-in-Bad
+returns-in-Bad c = search item_bad depth 3

@@ -1,0 +1,28 @@
+-- `run_loop::go_on` meets its contract: each stretch is a part of the run, and the error that ends one and is trapped is one step more.
+-- The invariant: what is left of the run from here comes to what it came to at the beginning; the count is within the allowance, which is a number of the code; the
+-- unit passed its check; the state is sound; the data has the length that it had, which is the unit's. The measure: the allowance left.
+-- Assumes nothing.
+use Prim.Native.Nat.{◌-◌, ◌<◌, ◌≤◌}
+use mathlib.Core.Path.{◌≡◌}
+use lib.ListN.{length}
+use borrow.Author.Rules.{rules}
+use Rattle.rules_unit.specs.declared.Checked.TheVariants as checked
+use Rattle.rules_unit.specs.Decode.{code_of}
+use Rattle.rules_unit.specs.Checks.{check_of}
+use Rattle.rules_run.specs.States.{Sound}
+use Rattle.rules_run.specs.Runs.{run_from}
+use Rattle.run_loop.proofs.Stretches.{next_length, last_stops, next_count, next_fits, next_less, stretch_on}
+use Rattle.run_loop.proofs.go_on.Given as goal
+
+abbrev pub invariant-loop-out : goal.invariant-loop-out
+invariant-loop-out l =
+    (run_from (code_of l.unit l.parts) (l.allowance - l.count) l.s l.bytes l.count ≡ run_from (code_of l.unit l.parts) (l.allowance - l.initial.count) l.initial.s l.initial.bytes l.initial.count)
+    × (l.count ≤ l.allowance)
+    × (l.allowance < 18446744073709551616)
+    × (check_of l.unit ≡ checked.Passed l.parts)
+    × Sound (code_of l.unit l.parts) l.s
+    × (length l.bytes ≡ length l.initial.bytes)
+    × (length l.bytes ≡ l.parts.d)
+
+abbrev pub decreases-loop-out : goal.decreases-loop-out
+decreases-loop-out l = l.allowance - l.count

@@ -1,0 +1,33 @@
+-- `run_loop::stretch` meets its contract: each turn of the loop is one step of `run_from`, and each way out is the end of a stretch.
+-- The invariant: what is left of the run from here comes to what the whole run comes to; the count and the allowance left make those of the beginning, which is a
+-- number of the code; the unit passed its check; the state is sound, and look is what is seen of it; the data has the length that it had, which is the
+-- unit's. The measure: the allowance left. Where a loop is opened or closed, the invariant lies too far back to be searched for, and is named; so are
+-- the loop's own test and that of the allowance.
+-- Assumes nothing.
+use Prim.Native.Nat.{◌+◌, ◌<◌, ◌≤◌}
+use mathlib.Core.Path.{◌≡◌}
+use lib.ListN.{length}
+use borrow.Author.Rules.{rules}
+use Rattle.rules_unit.specs.declared.Checked.TheVariants as checked
+use Rattle.rules_unit.specs.Decode.{code_of}
+use Rattle.rules_unit.specs.Checks.{check_of}
+use Rattle.rules_run.specs.States.{Sound, look_of}
+use Rattle.rules_run.specs.Runs.{run_from}
+use Rattle.run_loop.proofs.Flows.{never_bad}
+use Rattle.run_loop.proofs.Loop.{passed_laws, turn_ways, turn_on, turn_sounds, Still_seen, entered_loops, closed_loops, turn_call, turn_return, turn_enter, turn_leave, sound_calls, sound_loops, passed_place, passed_applied}
+use Rattle.run_loop.proofs.stretch.Given as goal
+
+abbrev pub invariant-loop-s : goal.invariant-loop-s
+invariant-loop-s l =
+    (run_from (code_of l.unit l.parts) l.left l.s l.bytes l.count ≡ run_from (code_of l.unit l.parts) l.allowance l.initial.s l.initial.bytes l.done)
+    × (l.done ≤ l.count)
+    × (l.count + l.left ≡ l.done + l.allowance)
+    × (l.done + l.allowance < 18446744073709551616)
+    × (check_of l.unit ≡ checked.Passed l.parts)
+    × Sound (code_of l.unit l.parts) l.s
+    × (l.look ≡ look_of l.s)
+    × (length l.bytes ≡ length l.initial.bytes)
+    × (length l.bytes ≡ l.parts.d)
+
+abbrev pub decreases-loop-s : goal.decreases-loop-s
+decreases-loop-s l = l.left
