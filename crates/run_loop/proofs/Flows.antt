@@ -11,8 +11,6 @@ use lib.IntN.{ℤ}
 use mir.Syntax.{w64}
 use mir.Val.{SFits, to_z, of_z}
 use borrow.Author.Tests.{ltb-true, eqb-false}
-use denote.Enum.Declared.{tag_of}
-use types.Run.{OneOf, miss}
 use Rattle.rules.specs.declared.Fault.{Fault}
 use Rattle.rules.specs.declared.Fault.TheVariants as fault
 use Rattle.rules.proofs.Walk.{cond_either}
@@ -25,7 +23,6 @@ use Rattle.rules_run.specs.declared.Turn.{Turn}
 use Rattle.rules_run.specs.States.{gone, called, returned, entered, closed, armed}
 use Rattle.rules_run.specs.Turns.{failed}
 use Rattle.rules_run.specs.Runs.{Moved, to, stuck, on_error, moved_by}
-use Rattle.rules_run.specs.contracts.Flow.{the_type}
 use Rattle.run_loop.specs.Flows.{under_by, turn_under}
 
 -- ---- where a flow leads
@@ -131,13 +128,6 @@ to_as s s' e = rw e
 -- s' is what the code made of its own copies of the limit and the step.
 pub entered_as : (s s' : State) {limit step : ℤ} → SFits w64 limit → SFits w64 step → s' ≡ entered s (to_z w64 (of_z w64 limit)) (to_z w64 (of_z w64 step)) → s' ≡ entered s limit step
 entered_as s s' f g e = rw (back f, back g) at e
-
--- What the code's `if let Flow::Bad` leaves: the flow's tag is one of the others.
-abbrev others : List ℕ
-others = 0 ∷ (1 ∷ (2 ∷ (3 ∷ (4 ∷ (5 ∷ (6 ∷ (7 ∷ (8 ∷ []))))))))
-
-pub never_bad : (f : Flow) (e : Fault) → OneOf others (tag_of the_type f) → f ≡ flow.Bad e → ⊥
-never_bad f e o h = miss others 9 tt (rw h at o)
 
 -- ---- the calls of a flow that is followed
 

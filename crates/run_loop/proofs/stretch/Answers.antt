@@ -12,7 +12,7 @@ use Rattle.rules_unit.specs.Decode.{code_of}
 use Rattle.rules_unit.specs.Checks.{check_of}
 use Rattle.rules_run.specs.States.{Sound, look_of}
 use Rattle.rules_run.specs.Runs.{run_from}
-use Rattle.run_loop.proofs.Flows.{never_bad}
+use Rattle.run_loop.proofs.Flows.{}
 use Rattle.run_loop.proofs.Loop.{passed_laws, turn_ways, turn_on, turn_sounds, Still_seen, entered_loops, closed_loops, turn_call, turn_return, turn_enter, turn_leave, sound_calls, sound_loops, passed_place, passed_applied}
 use Rattle.run_loop.proofs.stretch.Goals as goal
 
@@ -127,7 +127,7 @@ pub loop-s-preserved-in-Disarm : goal.loop-s-preserved-in-Disarm
 loop-s-preserved-in-Disarm c = (search turn_on depth 4, search rules, search rules, search rules, search rules, search turn_sounds depth 4, search Still_seen depth 3, search passed_applied depth 4, search passed_applied depth 4)
 
 pub loop-s-preserved : goal.loop-s-preserved
-loop-s-preserved c = absurd (search never_bad depth 3)
+loop-s-preserved c = absurd (c.in_default.not-Bad c.in-Bad-flow.field-0 c.in-Bad-flow.is)
 
 pub returns : goal.returns
 returns c = search turn_ways depth 3
