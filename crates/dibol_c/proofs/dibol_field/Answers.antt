@@ -1,0 +1,11 @@
+-- `dibol_c::dibol_field` meets its contract: it tells what `dibol::field` answers, in numbers.
+-- Assumes nothing.
+use borrow.Author.Rules.{rules}
+use Rattle.dibol_c.proofs.Told.{tells_field}
+use Rattle.dibol_c.proofs.dibol_field.Goals as goal
+
+pub returns-in-None : goal.returns-in-None
+returns-in-None c = search tells_field depth 3
+
+pub returns-in-Of : goal.returns-in-Of
+returns-in-Of c = search tells_field depth 3
