@@ -99,7 +99,8 @@ pub fn write(sign: u8, s: &mut [u8], v: i64)
     let m = number::magnitude(v);
     put_digits(s, m);
     if number::is_neg(v) {
-        if 0 < m % number::power(n) {
+        let kept = m % number::power(n);
+        if 0 < kept {
             s[n - 1] = sign + (m % 10) as u8;
         }
     }
@@ -165,7 +166,8 @@ pub fn from_alpha(top: u64, s: &[u8]) -> Num
     while i < s.len() {
         let b = number::of_byte(s[i]);
         if b == 45 {
-            if minus {
+            let twice = minus;
+            if twice {
                 return Num::Failed(Fault::BadDigit);
             }
             minus = true;

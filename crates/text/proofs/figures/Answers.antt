@@ -1,13 +1,12 @@
 -- `text::figures` meets its contract: each character is read as the rule reads it, and each way out answers what the rule answers there.
 -- Assumes nothing.
 use mathlib.Core.Path.{◌≡◌, refl, ap, sym, ◌∙◌}
-use Prim.Native.Nat.{◌+◌, ◌-◌, ◌^◌, ◌≤◌, ◌<◌}
+use Prim.Native.Nat.{◌-◌, ◌^◌, ◌<◌}
 use native.Mathlib.Nat.{pow-le-pow_right, lt_of_lt_of_le}
 use native.Mathlib.Omega.{arith}
-use borrow.Author.Rules.{rules}
 use lib.Dec.{lit<}
-use lib.ListN.{length, get_or, drop}
-use Rattle.rules.specs.Values.{last_digit, read_from}
+use lib.ListN.{length, get_or}
+use Rattle.rules.specs.Values.{last_digit}
 use Rattle.rules.proofs.Signed.{pow_pos10}
 use Rattle.rules.proofs.Decimals.{from_yes, from_low, from_high, more_digits}
 use Rattle.text.proofs.Reading.{read_bad, read_more, read_last}

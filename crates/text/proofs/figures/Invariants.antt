@@ -2,17 +2,10 @@
 -- The invariant: what is still to be read, after the digits of acc, answers as the whole does, and acc has at most i digits.
 -- The measure: the characters before the last that are still to be read.
 -- Assumes nothing.
-use mathlib.Core.Path.{◌≡◌, refl, ap, sym, ◌∙◌}
+use mathlib.Core.Path.{◌≡◌}
 use Prim.Native.Nat.{◌+◌, ◌-◌, ◌^◌, ◌≤◌, ◌<◌}
-use native.Mathlib.Nat.{pow-le-pow_right, lt_of_lt_of_le}
-use native.Mathlib.Omega.{arith}
-use borrow.Author.Rules.{rules}
-use lib.Dec.{lit<}
-use lib.ListN.{length, get_or, drop}
-use Rattle.rules.specs.Values.{last_digit, read_from}
-use Rattle.rules.proofs.Signed.{pow_pos10}
-use Rattle.rules.proofs.Decimals.{from_yes, from_low, from_high, more_digits}
-use Rattle.text.proofs.Reading.{read_bad, read_more, read_last}
+use lib.ListN.{get_or, drop}
+use Rattle.rules.specs.Values.{read_from}
 use Rattle.text.proofs.figures.Given as goal
 
 abbrev pub invariant-loop-i : goal.invariant-loop-i

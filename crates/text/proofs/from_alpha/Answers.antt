@@ -1,18 +1,14 @@
 -- `text::from_alpha` meets its contract: each character is taken as the rule takes it, and from top on acc itself no longer matters.
 -- Assumes nothing.
-use mathlib.Core.Path.{◌≡◌, refl, ap, sym, ◌∙◌}
-use mathlib.Core.Bool.{false}
-use mathlib.Core.Logic.{⊎_elim}
-use Prim.Native.Nat.{◌+◌, ◌-◌, ◌≤◌}
+use mathlib.Core.Path.{refl, ap, sym, ◌∙◌}
+use Prim.Native.Nat.{◌+◌, ◌≤◌}
 use native.Mathlib.Omega.{arith}
-use borrow.Author.Rules.{rules}
 use borrow.Author.Tests.{lt-ltb}
-use lib.ListN.{length, drop}
+use lib.ListN.{length}
 use Rattle.rules.specs.declared.Num.TheVariants.{Value}
-use Rattle.rules.specs.Moves.{alpha_from}
 use Rattle.rules.proofs.Signed.{back, abs_signed}
 use Rattle.text.proofs.Alpha.{At, at_space, at_plus, at_minus, at_twice, at_digit, at_low, at_high, at_end, kept_long, over}
-use Rattle.text.proofs.from_alpha.Goals.{then-b-eq45+else-minus, else-b-eq45+then-b-ne32+then-b-ne43+else-b-lt48+else-b-gt57+then-acc-top, else-b-eq45+then-b-ne32+then-b-ne43+else-b-lt48+else-b-gt57+else-acc-top, else-b-eq45+then-b-ne32+else-b-ne43, else-b-eq45+else-b-ne32}
+use Rattle.text.proofs.from_alpha.Goals.{then-b-eq45+else-twice, else-b-eq45+then-b-ne32+then-b-ne43+else-b-lt48+else-b-gt57+then-acc-top, else-b-eq45+then-b-ne32+then-b-ne43+else-b-lt48+else-b-gt57+else-acc-top, else-b-eq45+then-b-ne32+else-b-ne43, else-b-eq45+else-b-ne32}
 use Rattle.text.proofs.from_alpha.Goals as goal
 
 pub loop-i-init : goal.loop-i-init
@@ -21,8 +17,8 @@ loop-i-init c = (omega arith, refl)
 pub bounds-s-i : goal.bounds-s-i
 bounds-s-i c = omega arith
 
-pub returns-then-minus : goal.returns-then-minus
-returns-then-minus c =
+pub returns-then-twice : goal.returns-then-twice
+returns-then-twice c =
     let here : At c.args.s.now c.loop-i.i c.of_byte-b.result = record { inside = c.loop-i-test.true; is = c.of_byte-b.ensures } in
     let l = c.loop-i in
     let a = c.args in
@@ -61,7 +57,7 @@ loop-i-preserved c =
     let l = c.loop-i in
     let h : l.i + 1 ≤ length a.s.now = omega arith in
     elim c.if-b-eq45.branch [
-      | then-b-eq45+else-minus w ↦ rw (w.minus-is, w.acc-is) (h, l.invariant.1 ∙ at_minus a.top l.minus l.acc here w.if-b-eq45.true w.if-minus.false)
+      | then-b-eq45+else-twice w ↦ rw (w.minus-is, w.acc-is) (h, l.invariant.1 ∙ at_minus a.top l.minus l.acc here w.if-b-eq45.true w.if-twice.false)
       | else-b-eq45+then-b-ne32+then-b-ne43+else-b-lt48+else-b-gt57+then-acc-top w ↦ rw (w.minus-is, w.acc-is) (h, l.invariant.1 ∙ at_digit a.top l.minus l.acc here w.if-b-lt48.false (omega arith))
       | else-b-eq45+then-b-ne32+then-b-ne43+else-b-lt48+else-b-gt57+else-acc-top w ↦ rw (w.minus-is, w.acc-is) (h, l.invariant.1 ∙ at_digit a.top l.minus l.acc here w.if-b-lt48.false (omega arith) ∙ over a.top l.minus _ l.acc (omega arith) w.if-acc-top.false _)
       | else-b-eq45+then-b-ne32+else-b-ne43 w ↦ rw (w.minus-is, w.acc-is) (h, l.invariant.1 ∙ at_plus a.top l.minus l.acc here w.if-b-ne43.false)

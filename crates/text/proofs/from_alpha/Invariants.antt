@@ -2,18 +2,11 @@
 -- The invariant: what is still to be read, after the minus and the digits read so far, answers as the whole does.
 -- The measure: the characters still to be read.
 -- Assumes nothing.
-use mathlib.Core.Path.{◌≡◌, refl, ap, sym, ◌∙◌}
+use mathlib.Core.Path.{◌≡◌}
 use mathlib.Core.Bool.{false}
-use mathlib.Core.Logic.{⊎_elim}
-use Prim.Native.Nat.{◌+◌, ◌-◌, ◌≤◌}
-use native.Mathlib.Omega.{arith}
-use borrow.Author.Rules.{rules}
-use borrow.Author.Tests.{lt-ltb}
+use Prim.Native.Nat.{◌-◌, ◌≤◌}
 use lib.ListN.{length, drop}
-use Rattle.rules.specs.declared.Num.TheVariants.{Value}
 use Rattle.rules.specs.Moves.{alpha_from}
-use Rattle.rules.proofs.Signed.{back, abs_signed}
-use Rattle.text.proofs.Alpha.{At, at_space, at_plus, at_minus, at_twice, at_digit, at_low, at_high, at_end, kept_long, over}
 use Rattle.text.proofs.from_alpha.Given as goal
 
 abbrev pub invariant-loop-i : goal.invariant-loop-i

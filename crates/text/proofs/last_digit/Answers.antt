@@ -2,7 +2,6 @@
 -- Assumes nothing.
 use mathlib.Core.Path.{ap, ◌∙◌}
 use native.Mathlib.Omega.{arith}
-use borrow.Author.Rules.{rules}
 use Rattle.rules.specs.declared.Num.TheVariants.{Value}
 use Rattle.rules.proofs.Signed.{back}
 use Rattle.rules.proofs.Decimals.{from_yes, from_low, from_high}

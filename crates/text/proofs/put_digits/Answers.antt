@@ -1,11 +1,10 @@
 -- `text::put_digits` meets its contract: each turn writes the last digit of what is left, at its place counted from the right.
 -- Assumes nothing.
-use mathlib.Core.Path.{◌≡◌, refl, ◌∙◌}
-use Prim.Native.Nat.{◌-◌, ◌/◌, ◌^◌, ◌≤◌}
+use mathlib.Core.Path.{refl, ◌∙◌}
+use Prim.Native.Nat.{◌-◌}
 use native.Mathlib.Omega.{arith}
-use borrow.Author.Rules.{rules}
-use lib.ListN.{length, drop, length-set}
-use Rattle.rules.specs.Moves.{placed, digit_at}
+use lib.ListN.{length, length-set}
+use Rattle.rules.specs.Moves.{digit_at}
 use Rattle.text.proofs.Writing.{right_start, right_next, right_end, left_start, left_next, digit_left}
 use Rattle.text.proofs.put_digits.Goals as goal
 

@@ -2,13 +2,10 @@
 -- The invariant: left is m without its last digits, as many as are written, and what stands from i on is the last of the whole.
 -- The measure: the places still to be written.
 -- Assumes nothing.
-use mathlib.Core.Path.{◌≡◌, refl, ◌∙◌}
+use mathlib.Core.Path.{◌≡◌}
 use Prim.Native.Nat.{◌-◌, ◌/◌, ◌^◌, ◌≤◌}
-use native.Mathlib.Omega.{arith}
-use borrow.Author.Rules.{rules}
-use lib.ListN.{length, drop, length-set}
+use lib.ListN.{length, drop}
 use Rattle.rules.specs.Moves.{placed, digit_at}
-use Rattle.text.proofs.Writing.{right_start, right_next, right_end, left_start, left_next, digit_left}
 use Rattle.text.proofs.put_digits.Given as goal
 
 abbrev pub invariant-loop-i : goal.invariant-loop-i

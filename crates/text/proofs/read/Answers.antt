@@ -1,11 +1,7 @@
 -- `text::read` meets its contract: leading spaces are passed over, and what stands behind them is read as the rule reads it.
 -- Assumes nothing.
-use mathlib.Core.Path.{◌≡◌, sym, ◌∙◌}
-use Prim.Native.Nat.{◌-◌}
+use mathlib.Core.Path.{sym, ◌∙◌}
 use native.Mathlib.Omega.{arith}
-use borrow.Author.Rules.{rules}
-use lib.ListN.{drop}
-use Rattle.rules.specs.Values.{padded_read, read_of}
 use Rattle.text.proofs.Reading.{read_empty, read_long, read_start, padded_on, padded_figures, padded_empty}
 use Rattle.text.proofs.read.Goals as goal
 

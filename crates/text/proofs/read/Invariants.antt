@@ -2,13 +2,10 @@
 -- The invariant: what is left behind the spaces answers as the whole does.
 -- The measure: the characters still to be looked at.
 -- Assumes nothing.
-use mathlib.Core.Path.{◌≡◌, sym, ◌∙◌}
+use mathlib.Core.Path.{◌≡◌}
 use Prim.Native.Nat.{◌-◌}
-use native.Mathlib.Omega.{arith}
-use borrow.Author.Rules.{rules}
 use lib.ListN.{drop}
 use Rattle.rules.specs.Values.{padded_read, read_of}
-use Rattle.text.proofs.Reading.{read_empty, read_long, read_start, padded_on, padded_figures, padded_empty}
 use Rattle.text.proofs.read.Given as goal
 
 abbrev pub invariant-loop-from : goal.invariant-loop-from

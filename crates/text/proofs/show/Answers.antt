@@ -1,13 +1,12 @@
 -- `text::show` meets its contract: each turn writes the character of its place counted from the right.
 -- Assumes nothing.
 use mathlib.Core.Path.{◌≡◌, refl, ap, ◌∙◌}
-use Prim.Native.Nat.{◌-◌, ◌≤◌}
+use Prim.Native.Nat.{◌-◌}
 use native.Mathlib.Omega.{arith}
-use borrow.Author.Rules.{rules}
 use lib.IntN.{nat_abs}
-use lib.ListN.{length, drop, length-set}
+use lib.ListN.{length, length-set}
 use Rattle.rules.specs.Values.{is_neg}
-use Rattle.rules.specs.Moves.{placed, shown_at, width}
+use Rattle.rules.specs.Moves.{shown_at, width}
 use Rattle.rules.proofs.Signed.{back}
 use Rattle.text.proofs.Writing.{right_start, right_next, right_end}
 use Rattle.text.proofs.show.Goals as goal

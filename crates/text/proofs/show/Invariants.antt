@@ -2,16 +2,10 @@
 -- The invariant: what stands from i on is the last of the whole.
 -- The measure: the places still to be written.
 -- Assumes nothing.
-use mathlib.Core.Path.{◌≡◌, refl, ap, ◌∙◌}
+use mathlib.Core.Path.{◌≡◌}
 use Prim.Native.Nat.{◌-◌, ◌≤◌}
-use native.Mathlib.Omega.{arith}
-use borrow.Author.Rules.{rules}
-use lib.IntN.{nat_abs}
-use lib.ListN.{length, drop, length-set}
-use Rattle.rules.specs.Values.{is_neg}
-use Rattle.rules.specs.Moves.{placed, shown_at, width}
-use Rattle.rules.proofs.Signed.{back}
-use Rattle.text.proofs.Writing.{right_start, right_next, right_end}
+use lib.ListN.{length, drop}
+use Rattle.rules.specs.Moves.{placed, shown_at}
 use Rattle.text.proofs.show.Given as goal
 
 abbrev pub invariant-loop-i : goal.invariant-loop-i

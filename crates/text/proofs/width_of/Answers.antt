@@ -1,11 +1,9 @@
 -- `text::width_of` meets its contract: the widths are tried from 1 upward, each against the power of ten that the rule tries.
 -- Assumes nothing.
 use mathlib.Core.Path.{◌≡◌, refl, sym, ◌∙◌}
-use Prim.Native.Nat.{◌-◌, ◌^◌, ◌≤◌}
+use Prim.Native.Nat.{◌^◌}
 use native.Mathlib.Omega.{arith}
-use borrow.Author.Rules.{rules}
 use lib.ListN.{get_or}
-use Rattle.rules.specs.Moves.{width, width_from}
 use Rattle.text.proofs.Writing.{width_hit, width_miss, width_end}
 use Rattle.text.proofs.width_of.Goals as goal
 

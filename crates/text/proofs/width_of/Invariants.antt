@@ -2,13 +2,9 @@
 -- The invariant: what is still to be tried, from w on, answers as the whole does.
 -- The measure: the widths still to be tried.
 -- Assumes nothing.
-use mathlib.Core.Path.{◌≡◌, refl, sym, ◌∙◌}
-use Prim.Native.Nat.{◌-◌, ◌^◌, ◌≤◌}
-use native.Mathlib.Omega.{arith}
-use borrow.Author.Rules.{rules}
-use lib.ListN.{get_or}
+use mathlib.Core.Path.{◌≡◌}
+use Prim.Native.Nat.{◌-◌, ◌≤◌}
 use Rattle.rules.specs.Moves.{width, width_from}
-use Rattle.text.proofs.Writing.{width_hit, width_miss, width_end}
 use Rattle.text.proofs.width_of.Given as goal
 
 abbrev pub invariant-loop-w : goal.invariant-loop-w
