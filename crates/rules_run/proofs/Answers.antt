@@ -30,7 +30,7 @@ use Rattle.rules_run.specs.declared.Stop.{Stop}
 use Rattle.rules_run.specs.declared.Stop.TheVariants as stop
 use Rattle.rules_run.specs.States.{soundb}
 use Rattle.rules_run.specs.Stops.{stop_number, stop_place}
-use Rattle.rules_run.specs.Runs.{to, data_after, Ran, ended, refused, run_from, run_of}
+use Rattle.rules_run.specs.Runs.{data_after, Ran, ended, refused, run_from, run_of}
 use Rattle.rules_run.specs.Answers.{Reaches, StopsFor, RunSays, Unchanged, Refuses, IsRefused, Ready, RunNumber, IsRun, Does, Erred, Stopped, StopNo, no_0, no_1, no_2, no_3, no_4, no_5, no_6, no_7, no_20, no_21, no_22, no_23, no_24, no_25, no_26, no_27, no_28, no_29, no_30, no_of, Given}
 use Rattle.rules_run.proofs.States.{sound_tells, sound_to}
 use Rattle.rules_run.proofs.Steps.{run_ends, run_spent, run_fails, run_goes, every_run}

@@ -164,7 +164,7 @@ module _ (s s' : State) (l : Look) (seen : l ≡ look_of s) where
   pub armed_seen : (h : Handler) → s' ≡ armed s h → l ≡ look_of s'
   armed_seen h e = rw e seen
 
-pub ruleset Still_seen = (gone_seen, called_seen, returned_seen, armed_seen)
+pub ruleset still_seen = (gone_seen, called_seen, returned_seen, armed_seen)
 
 -- ---- a sound state
 

@@ -1,12 +1,10 @@
 -- `alpha::fill` meets its contract: each turn puts b in a byte's place, and a text whose every byte is b is b as often as it is long.
 -- Assumes nothing.
-use mathlib.Core.Path.{◌≡◌, refl, sym, ◌∙◌}
-use mathlib.Core.List.{map}
-use Prim.Native.Nat.{ℕ, ◌-◌, ◌≤◌}
+use mathlib.Core.Path.{refl, sym, ◌∙◌}
+use Prim.Native.Nat.{ℕ}
 use native.Mathlib.Omega.{arith}
-use borrow.Author.Rules.{rules}
-use lib.ListN.{length, length-set}
-use Rattle.alpha.proofs.Casing.{mapped_from, map_next, map_end, map_constant}
+use lib.ListN.{length-set}
+use Rattle.alpha.proofs.Casing.{map_next, map_end, map_constant}
 use Rattle.alpha.proofs.fill.Goals as goal
 
 pub loop-i-init : goal.loop-i-init

@@ -2,13 +2,11 @@
 -- The invariant: what is done, with b for each byte that is still to do, is b for each byte of the whole.
 -- The measure: the bytes still to be written.
 -- Assumes nothing.
-use mathlib.Core.Path.{◌≡◌, refl, sym, ◌∙◌}
+use mathlib.Core.Path.{◌≡◌}
 use mathlib.Core.List.{map}
 use Prim.Native.Nat.{ℕ, ◌-◌, ◌≤◌}
-use native.Mathlib.Omega.{arith}
-use borrow.Author.Rules.{rules}
-use lib.ListN.{length, length-set}
-use Rattle.alpha.proofs.Casing.{mapped_from, map_next, map_end, map_constant}
+use lib.ListN.{length}
+use Rattle.alpha.proofs.Casing.{mapped_from}
 use Rattle.alpha.proofs.fill.Given as goal
 
 abbrev pub invariant-loop-i : goal.invariant-loop-i

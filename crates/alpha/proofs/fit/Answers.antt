@@ -1,10 +1,8 @@
 -- `alpha::fit` meets its contract: what fits is copied byte by byte, and `fill` puts spaces in the rest.
 -- Assumes nothing.
-use mathlib.Core.Path.{◌≡◌, refl, ◌∙◌}
-use Prim.Native.Nat.{◌-◌, ◌≤◌}
+use mathlib.Core.Path.{refl, ◌∙◌}
 use native.Mathlib.Omega.{arith}
-use borrow.Author.Rules.{rules}
-use lib.ListN.{length, take, length-set}
+use lib.ListN.{length, length-set}
 use Rattle.alpha.proofs.Fitting.{copy_next, fit_end}
 use Rattle.alpha.proofs.fit.Goals as goal
 

@@ -2,12 +2,9 @@
 -- The invariant: the first i bytes are those of the text given.
 -- The measure: the bytes still to be copied.
 -- Assumes nothing.
-use mathlib.Core.Path.{◌≡◌, refl, ◌∙◌}
+use mathlib.Core.Path.{◌≡◌}
 use Prim.Native.Nat.{◌-◌, ◌≤◌}
-use native.Mathlib.Omega.{arith}
-use borrow.Author.Rules.{rules}
-use lib.ListN.{length, take, length-set}
-use Rattle.alpha.proofs.Fitting.{copy_next, fit_end}
+use lib.ListN.{length, take}
 use Rattle.alpha.proofs.fit.Given as goal
 
 abbrev pub invariant-loop-i : goal.invariant-loop-i

@@ -1,13 +1,11 @@
 -- `alpha::locase` meets its contract: each turn puts the byte's entry in the chart, which is `lower` of the byte, in the byte's place.
 -- Assumes nothing.
-use mathlib.Core.Path.{◌≡◌, refl, sym, ◌∙◌}
-use mathlib.Core.List.{map}
-use Prim.Native.Nat.{◌-◌, ◌≤◌}
+use mathlib.Core.Path.{refl, sym, ◌∙◌}
 use native.Mathlib.Omega.{arith}
 use borrow.Author.Rules.{rules}
-use lib.ListN.{length, get_or, length-set}
+use lib.ListN.{get_or, length-set}
 use Rattle.rules.specs.Moves.{lower}
-use Rattle.alpha.proofs.Casing.{mapped_from, map_next, map_end}
+use Rattle.alpha.proofs.Casing.{map_next, map_end}
 use Rattle.alpha.proofs.locase.Goals as goal
 
 pub loop-i-init : goal.loop-i-init

@@ -1,13 +1,11 @@
 -- `alpha::upcase` meets its contract: each turn puts the byte's entry in the chart, which is `upper` of the byte, in the byte's place.
 -- Assumes nothing.
-use mathlib.Core.Path.{◌≡◌, refl, sym, ◌∙◌}
-use mathlib.Core.List.{map}
-use Prim.Native.Nat.{◌-◌, ◌≤◌}
+use mathlib.Core.Path.{refl, sym, ◌∙◌}
 use native.Mathlib.Omega.{arith}
 use borrow.Author.Rules.{rules}
-use lib.ListN.{length, get_or, length-set}
+use lib.ListN.{get_or, length-set}
 use Rattle.rules.specs.Moves.{upper}
-use Rattle.alpha.proofs.Casing.{mapped_from, map_next, map_end}
+use Rattle.alpha.proofs.Casing.{map_next, map_end}
 use Rattle.alpha.proofs.upcase.Goals as goal
 
 pub loop-i-init : goal.loop-i-init

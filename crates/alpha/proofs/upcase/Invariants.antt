@@ -2,14 +2,12 @@
 -- The invariant: what is done, with `upper` of what is still to do, is `upper` of the whole.
 -- The measure: the bytes still to be changed.
 -- Assumes nothing.
-use mathlib.Core.Path.{◌≡◌, refl, sym, ◌∙◌}
+use mathlib.Core.Path.{◌≡◌}
 use mathlib.Core.List.{map}
 use Prim.Native.Nat.{◌-◌, ◌≤◌}
-use native.Mathlib.Omega.{arith}
-use borrow.Author.Rules.{rules}
-use lib.ListN.{length, get_or, length-set}
+use lib.ListN.{length}
 use Rattle.rules.specs.Moves.{upper}
-use Rattle.alpha.proofs.Casing.{mapped_from, map_next, map_end}
+use Rattle.alpha.proofs.Casing.{mapped_from}
 use Rattle.alpha.proofs.upcase.Given as goal
 
 abbrev pub invariant-loop-i : goal.invariant-loop-i

@@ -1,6 +1,5 @@
 -- `dibol::field` meets its contract: the answer of the check decides.
 -- Assumes nothing.
-use borrow.Author.Rules.{rules}
 use Rattle.dibol.proofs.Entries.{entry_passed, entry_refused}
 use Rattle.rules_unit.proofs.Sound.{fills_by}
 use Rattle.dibol.proofs.field.Goals as goal

@@ -1,6 +1,5 @@
 -- `dibol::field_by` meets its contract: a number below F has its entry, and any other has none.
 -- Assumes nothing.
-use borrow.Author.Rules.{rules}
 use Rattle.dibol.proofs.Entries.{entry_past, entry_in}
 use Rattle.dibol.proofs.field_by.Goals as goal
 

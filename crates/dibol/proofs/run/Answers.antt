@@ -1,6 +1,5 @@
 -- `dibol::run` meets its contract: the checks stand in the order of `run_of`, and what passes them all is run.
 -- Assumes nothing.
-use borrow.Author.Rules.{rules}
 use Rattle.rules_unit.proofs.Sound.{passed_by}
 use Rattle.dibol.proofs.Ways.{unit_fills, unit_dialect, call_ways, sound_by}
 use Rattle.dibol.proofs.run.Goals as goal

@@ -1,6 +1,5 @@
 -- `dibol::start` meets its contract: every slot is empty.
 -- Assumes nothing.
-use borrow.Author.Rules.{rules}
 use mathlib.Core.Path.{refl}
 use Rattle.dibol.proofs.Ways.{start_by}
 use Rattle.dibol.proofs.start.Goals as goal

@@ -1,7 +1,6 @@
 -- `dibol_c::dibol_check` meets its contract: it tells what `dibol::check` answers, in numbers.
 -- Assumes nothing.
 use Rattle.dibol_c.proofs.Told.{tells_check}
-use borrow.Author.Rules.{rules}
 use Rattle.dibol_c.proofs.dibol_check.Goals as goal
 
 pub returns-in-Passed : goal.returns-in-Passed

@@ -1,7 +1,6 @@
 -- `dibol_c::dibol_fence` meets its contract: it tells what `dibol::fence` answers, in numbers.
 -- Assumes nothing.
 use Rattle.dibol_c.proofs.Told.{tells_fence}
-use borrow.Author.Rules.{rules}
 use Rattle.dibol_c.proofs.dibol_fence.Goals as goal
 
 pub returns-in-Yes : goal.returns-in-Yes

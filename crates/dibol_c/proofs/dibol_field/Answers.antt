@@ -1,6 +1,5 @@
 -- `dibol_c::dibol_field` meets its contract: it tells what `dibol::field` answers, in numbers.
 -- Assumes nothing.
-use borrow.Author.Rules.{rules}
 use Rattle.dibol_c.proofs.Told.{tells_field}
 use Rattle.dibol_c.proofs.dibol_field.Goals as goal
 

@@ -1,6 +1,5 @@
 -- `dibol_c::dibol_invalid` meets its contract: it tells what `dibol::invalid` answers, in numbers.
 -- Assumes nothing.
-use borrow.Author.Rules.{rules}
 use Rattle.dibol_c.proofs.Told.{tells_invalid}
 use Rattle.dibol_c.proofs.dibol_invalid.Goals as goal
 

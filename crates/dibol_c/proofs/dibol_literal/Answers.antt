@@ -1,7 +1,6 @@
 -- `dibol_c::dibol_literal` meets its contract: it tells what `dibol::stretch` answers, in numbers.
 -- Assumes nothing.
 use Rattle.dibol_c.proofs.Told.{literal_told_lem}
-use borrow.Author.Rules.{rules}
 use Rattle.dibol_c.proofs.dibol_literal.Goals as goal
 
 pub returns : goal.returns

@@ -1,6 +1,5 @@
 -- `dibol_c::dibol_parts` meets its contract: it tells the lengths that `dibol::check` answers, in numbers.
 -- Assumes nothing.
-use borrow.Author.Rules.{rules}
 use Rattle.dibol_c.proofs.Told.{tells_parts}
 use Rattle.dibol_c.proofs.dibol_parts.Goals as goal
 

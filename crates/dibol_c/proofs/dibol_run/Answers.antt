@@ -2,7 +2,6 @@
 -- numbers are left alone.
 -- Assumes nothing.
 use Rattle.dibol_c.proofs.Handed.{hands}
-use borrow.Author.Rules.{rules}
 use Rattle.dibol_c.proofs.dibol_run.Goals as goal
 
 pub returns-then-refuses : goal.returns-then-refuses

@@ -1,6 +1,5 @@
 -- `dibol_c::put_field` meets its contract: the numbers are those of the entry, in their order.
 -- Assumes nothing.
-use borrow.Author.Rules.{rules}
 use Rattle.dibol_c.proofs.Told.{entry_told}
 use Rattle.dibol_c.proofs.put_field.Goals as goal
 

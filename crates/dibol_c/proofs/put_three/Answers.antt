@@ -1,7 +1,6 @@
 -- `dibol_c::put_three` meets its contract: two are put, and the third where there is room for it.
 -- Assumes nothing.
 use Rattle.run_state.proofs.Answers.{puts}
-use borrow.Author.Rules.{rules}
 use Rattle.dibol_c.proofs.put_three.Goals as goal
 
 pub returns-then-answer-lt3 : goal.returns-then-answer-lt3

@@ -1,6 +1,5 @@
 -- `dibol_c::start_in` meets its contract: its sum is the one asked for, and a product of two words fits.
 -- Assumes nothing.
-use borrow.Author.Rules.{rules}
 use native.Mathlib.Omega.{arith}
 use Rattle.rules.proofs.Sizes.{product}
 use Rattle.dibol_c.proofs.Told.{start_none, start_of}

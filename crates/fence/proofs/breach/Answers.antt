@@ -1,6 +1,5 @@
 -- `fence::breach` meets its contract: the answer of the check decides.
 -- Assumes nothing.
-use borrow.Author.Rules.{rules}
 use Rattle.rules_unit.proofs.Sound.{passed_by}
 use Rattle.fence.proofs.Answers.{breach_passed, breach_refused}
 use Rattle.fence.proofs.breach.Goals as goal

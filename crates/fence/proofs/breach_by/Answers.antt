@@ -1,6 +1,5 @@
 -- `fence::breach_by` meets its contract: a statement number below N has the breach of that statement, and any other has none.
 -- Assumes nothing.
-use borrow.Author.Rules.{rules}
 use Rattle.fence.proofs.Answers.{by_past, by_in}
 use Rattle.fence.proofs.breach_by.Goals as goal
 

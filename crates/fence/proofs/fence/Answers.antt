@@ -1,6 +1,5 @@
 -- `fence::fence` meets its contract: the answer of the check decides, and what passes is held to the rules.
 -- Assumes nothing.
-use borrow.Author.Rules.{rules}
 use Rattle.rules_unit.proofs.Sound.{passed_by}
 use Rattle.fence.proofs.Answers.{fence_passed, fence_refused}
 use Rattle.fence.proofs.fence.Goals as goal

@@ -1,17 +1,13 @@
 -- `fence::verdict_by` meets its contract: the statements passed keep the rules, and the one at which it stops does not.
 -- The invariant: what is left gives the answer of the whole, what is noted keeps the rules, and rows are noted as they are. The measure: the statements left.
 -- Assumes nothing.
-use borrow.Author.Rules.{rules}
 use mathlib.Core.Path.{◌≡◌}
 use lib.ListN.{length}
 use Prim.Native.Nat.{◌-◌, ◌≤◌}
 use Rattle.rules_unit.specs.Decode.{code_of}
-use Rattle.rules_unit.proofs.Statements.{left_all}
 use Rattle.rules_fence.specs.Breaches.{verdict_from}
 use Rattle.unit_decode.specs.Rows.{RowsOf}
 use Rattle.fence_statements.specs.Notes.{Both}
-use Rattle.fence_statements.proofs.Notes.{both_kept}
-use Rattle.fence.proofs.Answers.{verdict_yes, verdict_no, verdict_on}
 use Rattle.fence.proofs.verdict_by.Given as goal
 
 abbrev pub invariant-loop-i : goal.invariant-loop-i

@@ -1,6 +1,5 @@
 -- `fence_bounds::first_bound` meets its contract: each arm knows the constructor.
 -- Assumes nothing.
-use borrow.Author.Rules.{rules}
 use Rattle.fence_bounds.proofs.Bounds.{first_none, first_one, first_two}
 use Rattle.fence_bounds.proofs.first_bound.Goals as goal
 

@@ -1,6 +1,5 @@
 -- `fence_bounds::fixed_span` meets its contract: the bounds are handed on as the rule names them, and they are values.
 -- Assumes nothing.
-use borrow.Author.Rules.{rules}
 use Rattle.fence_bounds.proofs.Bounds.{small_start, small_last}
 use Rattle.fence_bounds.proofs.Fixed.{fixed_found}
 use Rattle.fence_bounds.proofs.fixed_span.Goals as goal

@@ -1,6 +1,5 @@
 -- `fence_bounds::last_bound` meets its contract: each arm knows the constructor.
 -- Assumes nothing.
-use borrow.Author.Rules.{rules}
 use Rattle.fence_bounds.proofs.Bounds.{last_none, last_one, last_two}
 use Rattle.fence_bounds.proofs.last_bound.Goals as goal
 

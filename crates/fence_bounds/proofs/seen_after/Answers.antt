@@ -1,6 +1,5 @@
 -- `fence_bounds::seen_after` meets its contract: each arm knows the constructor, and answers what the rule has for it.
 -- Assumes nothing.
-use borrow.Author.Rules.{rules}
 use Rattle.fence_bounds.proofs.Seeing.{after_number, after_reference, after_text, after_negate, after_other, after_end, after_bad}
 use Rattle.fence_bounds.proofs.seen_after.Goals as goal
 

@@ -1,6 +1,5 @@
 -- `fence_bounds::seen_negate` meets its contract: each arm knows the constructor, and a plain literal is turned.
 -- Assumes nothing.
-use borrow.Author.Rules.{rules}
 use Rattle.fence_bounds.proofs.Seeing.{small_one, small_two, negate_one, negate_two, negate_none, again_one, again_two}
 use Rattle.fence_bounds.proofs.seen_negate.Goals as goal
 

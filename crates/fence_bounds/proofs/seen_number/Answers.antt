@@ -1,6 +1,5 @@
 -- `fence_bounds::seen_number` meets its contract: a literal that is a number is one more bound.
 -- Assumes nothing.
-use borrow.Author.Rules.{rules}
 use Rattle.fence_bounds.proofs.Seeing.{number_value, number_failed}
 use Rattle.fence_bounds.proofs.seen_number.Goals as goal
 

@@ -1,6 +1,5 @@
 -- `fence_bounds::seen_value` meets its contract: each arm knows the constructor, and the bounds are read back as they were.
 -- Assumes nothing.
-use borrow.Author.Rules.{rules}
 use Rattle.fence_bounds.proofs.Seeing.{value_one, value_two, value_more}
 use Rattle.fence_bounds.proofs.seen_value.Goals as goal
 

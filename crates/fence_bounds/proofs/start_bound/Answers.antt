@@ -1,6 +1,5 @@
 -- `fence_bounds::start_bound` meets its contract: each arm knows the form of the reference.
 -- Assumes nothing.
-use borrow.Author.Rules.{rules}
 use mir.Syntax.{w64}
 use mir.Val.{SFits}
 use Rattle.fence_bounds.proofs.Bounds.{start_whole, start_element, start_range, start_length}

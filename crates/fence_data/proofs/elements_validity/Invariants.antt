@@ -3,12 +3,9 @@
 -- Assumes nothing.
 use Prim.Native.Nat.{◌+◌, ◌<◌}
 use mathlib.Core.Path.{◌≡◌}
-use borrow.Author.Rules.{rules}
 use Rattle.rules_unit.specs.Codes.{count_of}
 use Rattle.rules_unit.specs.Decode.{code_of}
-use Rattle.rules_unit.proofs.Sound.{passed_fills}
 use Rattle.rules_fence.specs.Validity.{elements_from}
-use Rattle.fence_data.proofs.Decimals.{elements_count, elements_start, element_within, elements_over, elements_stop, elements_on}
 use Rattle.fence_data.proofs.elements_validity.Given as goal
 
 abbrev pub invariant-loop-left : goal.invariant-loop-left

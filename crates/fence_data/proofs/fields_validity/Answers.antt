@@ -1,11 +1,8 @@
 -- `fence_data::fields_validity` meets its contract: the fields passed are valid, and the one at which it stops is not.
 -- Assumes nothing.
 use borrow.Author.Rules.{rules}
-use Prim.Native.Nat.{◌-◌, ◌≤◌}
-use mathlib.Core.Path.{◌≡◌}
-use Rattle.rules_unit.specs.Decode.{code_of}
+use Prim.Native.Nat.{◌-◌}
 use Rattle.rules_unit.proofs.Statements.{left_all}
-use Rattle.rules_fence.specs.Validity.{fields_from}
 use Rattle.fence_data.proofs.Decimals.{fields_over, fields_stop, fields_on}
 use Rattle.fence_data.proofs.fields_validity.Goals as goal
 

@@ -1,6 +1,5 @@
 -- `fence_data::invalid` meets its contract: the answer of the check decides.
 -- Assumes nothing.
-use borrow.Author.Rules.{rules}
 use Rattle.rules_unit.proofs.Sound.{passed_by}
 use Rattle.fence_data.proofs.Decimals.{invalid_passed, invalid_refused}
 use Rattle.fence_data.proofs.invalid.Goals as goal

@@ -1,7 +1,6 @@
 -- `fence_data::is_valid` meets its contract: a decimal reads as a number exactly when it is valid.
 -- Assumes nothing.
 use Rattle.fence_data.proofs.Decimals.{valid_value, valid_failed}
-use borrow.Author.Rules.{rules}
 use Rattle.fence_data.proofs.is_valid.Goals as goal
 
 pub returns-in-Value : goal.returns-in-Value

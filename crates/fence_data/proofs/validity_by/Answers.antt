@@ -1,6 +1,5 @@
 -- `fence_data::validity_by` meets its contract: the size of the buffer decides first.
 -- Assumes nothing.
-use borrow.Author.Rules.{rules}
 use Rattle.fence_data.proofs.Decimals.{size_wrong, size_right}
 use Rattle.fence_data.proofs.validity_by.Goals as goal
 

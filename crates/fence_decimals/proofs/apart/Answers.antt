@@ -1,6 +1,5 @@
 -- `fence_decimals::apart` meets its contract: past the table every span is apart, and inside it the number read is the table's.
 -- Assumes nothing.
-use borrow.Author.Rules.{rules}
 use Rattle.fence_decimals.proofs.Tables.{past_table, in_table}
 use Rattle.fence_decimals.proofs.apart.Goals as goal
 

@@ -1,6 +1,5 @@
 -- `fence_decimals::behind` meets its contract: the test is the rule's own.
 -- Assumes nothing.
-use borrow.Author.Rules.{rules}
 use Rattle.rules.proofs.Walk.{walk_if}
 use Rattle.fence_decimals.proofs.behind.Goals as goal
 

@@ -1,9 +1,8 @@
 -- `fence_decimals::fill` meets its contract: each turn puts x in one place more, and at the end in every place.
 -- Assumes nothing.
 use borrow.Author.Rules.{rules}
-use mathlib.Core.Path.{◌≡◌, refl}
-use Prim.Native.Nat.{◌-◌, ◌≤◌}
-use lib.ListN.{length, take, replicate}
+use mathlib.Core.Path.{refl}
+use Prim.Native.Nat.{◌-◌}
 use Rattle.fence_decimals.proofs.Filling.{fill_next, fill_end}
 use Rattle.fence_decimals.proofs.fill.Goals as goal
 

@@ -1,11 +1,9 @@
 -- `fence_decimals::fill` meets its contract: each turn puts x in one place more, and at the end in every place.
 -- The invariant: the places passed hold x. The measure: the places still to be written.
 -- Assumes nothing.
-use borrow.Author.Rules.{rules}
-use mathlib.Core.Path.{◌≡◌, refl}
+use mathlib.Core.Path.{◌≡◌}
 use Prim.Native.Nat.{◌-◌, ◌≤◌}
 use lib.ListN.{length, take, replicate}
-use Rattle.fence_decimals.proofs.Filling.{fill_next, fill_end}
 use Rattle.fence_decimals.proofs.fill.Given as goal
 
 abbrev pub invariant-loop-i : goal.invariant-loop-i

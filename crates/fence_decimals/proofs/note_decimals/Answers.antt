@@ -2,12 +2,9 @@
 -- fields left.
 -- Assumes nothing.
 use borrow.Author.Rules.{rules}
-use mathlib.Core.Path.{◌≡◌}
-use Prim.Native.Nat.{◌-◌, ◌≤◌}
-use lib.ListN.{length}
-use Rattle.rules_unit.specs.Decode.{code_of}
+use Prim.Native.Nat.{◌-◌}
 use Rattle.rules_unit.proofs.Sound.{passed_fills}
-use Rattle.fence_decimals.proofs.Filling.{Half, half_start, half_end, half_next, turn_low, turn_high, turn_inside}
+use Rattle.fence_decimals.proofs.Filling.{half_start, half_end, half_next, turn_low, turn_high, turn_inside}
 use Rattle.fence_decimals.proofs.note_decimals.Goals as goal
 
 pub loop-g-init : goal.loop-g-init

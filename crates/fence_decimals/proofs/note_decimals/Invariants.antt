@@ -2,13 +2,11 @@
 -- The invariant: what is noted, with what the fields left give, is the whole table, and nothing is noted behind the floor. The measure: the
 -- fields left.
 -- Assumes nothing.
-use borrow.Author.Rules.{rules}
 use mathlib.Core.Path.{◌≡◌}
 use Prim.Native.Nat.{◌-◌, ◌≤◌}
 use lib.ListN.{length}
 use Rattle.rules_unit.specs.Decode.{code_of}
-use Rattle.rules_unit.proofs.Sound.{passed_fills}
-use Rattle.fence_decimals.proofs.Filling.{Half, half_start, half_end, half_next, turn_low, turn_high, turn_inside}
+use Rattle.fence_decimals.proofs.Filling.{Half}
 use Rattle.fence_decimals.proofs.note_decimals.Given as goal
 
 abbrev pub invariant-loop-g : goal.invariant-loop-g

@@ -1,6 +1,5 @@
 -- `fence_list::breaches` meets its contract: the answer of the check decides.
 -- Assumes nothing.
-use borrow.Author.Rules.{rules}
 use Rattle.rules_unit.proofs.Sound.{passed_by}
 use Rattle.fence_list.proofs.Statements.{all_passed, all_refused}
 use Rattle.fence_list.proofs.breaches.Goals as goal

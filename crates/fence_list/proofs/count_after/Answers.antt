@@ -1,6 +1,5 @@
 -- `fence_list::count_after` meets its contract: below the greatest number there is one more.
 -- Assumes nothing.
-use borrow.Author.Rules.{rules}
 use Rattle.fence_list.proofs.Laying.{count_more, count_most}
 use Rattle.fence_list.proofs.count_after.Goals as goal
 

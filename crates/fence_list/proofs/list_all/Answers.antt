@@ -1,15 +1,8 @@
 -- `fence_list::list_all` meets its contract: each turn lists the next statement.
 -- Assumes nothing.
 use borrow.Author.Rules.{rules}
-use Prim.Native.Nat.{◌-◌, ◌≤◌}
-use mathlib.Core.Path.{◌≡◌}
-use lib.ListN.{length}
-use Rattle.rules_unit.specs.Decode.{code_of}
+use Prim.Native.Nat.{◌-◌}
 use Rattle.rules_unit.proofs.Statements.{left_all}
-use Rattle.rules_fence.specs.Listed.{statements_broken}
-use Rattle.unit_decode.specs.Rows.{RowsOf}
-use Rattle.fence_list.specs.Gathered.{gathered}
-use Rattle.fence_list.proofs.Gathering.{G}
 use Rattle.fence_list.proofs.Statements.{statements_over, statements_on}
 use Rattle.fence_list.proofs.list_all.Goals as goal
 

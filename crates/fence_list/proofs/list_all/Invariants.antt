@@ -1,17 +1,14 @@
 -- `fence_list::list_all` meets its contract: each turn lists the next statement.
 -- The invariant: what is left gives the answer of the whole, and rows are noted as they are. The measure: the statements left.
 -- Assumes nothing.
-use borrow.Author.Rules.{rules}
 use Prim.Native.Nat.{◌-◌, ◌≤◌}
 use mathlib.Core.Path.{◌≡◌}
 use lib.ListN.{length}
 use Rattle.rules_unit.specs.Decode.{code_of}
-use Rattle.rules_unit.proofs.Statements.{left_all}
 use Rattle.rules_fence.specs.Listed.{statements_broken}
 use Rattle.unit_decode.specs.Rows.{RowsOf}
 use Rattle.fence_list.specs.Gathered.{gathered}
 use Rattle.fence_list.proofs.Gathering.{G}
-use Rattle.fence_list.proofs.Statements.{statements_over, statements_on}
 use Rattle.fence_list.proofs.list_all.Given as goal
 
 abbrev pub invariant-loop-i : goal.invariant-loop-i

@@ -1,6 +1,5 @@
 -- `fence_list::list_at` meets its contract: the part of the unit that it hands to `list_items` is the expressions.
 -- Assumes nothing.
-use borrow.Author.Rules.{rules}
 use Rattle.fence_statements.proofs.Statements.{part_known}
 use Rattle.fence_list.proofs.Statements.{part_broken}
 use Rattle.fence_list.proofs.list_at.Goals as goal

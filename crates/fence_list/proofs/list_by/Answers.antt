@@ -1,6 +1,5 @@
 -- `fence_list::list_by` meets its contract: a statement number below N has the breaches of that statement, and any other has none.
 -- Assumes nothing.
-use borrow.Author.Rules.{rules}
 use Rattle.fence_list.proofs.Statements.{by_past, by_in}
 use Rattle.fence_list.proofs.list_by.Goals as goal
 

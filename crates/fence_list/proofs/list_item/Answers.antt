@@ -1,6 +1,5 @@
 -- `fence_list::list_item` meets its contract: an item that is no reference is none of the list.
 -- Assumes nothing.
-use borrow.Author.Rules.{rules}
 use Rattle.rules_unit.proofs.Items.{known_field}
 use Rattle.fence_list.proofs.Turns.{item_number, item_reference, item_text, item_operator, item_end, item_bad}
 use Rattle.fence_list.proofs.list_item.Goals as goal

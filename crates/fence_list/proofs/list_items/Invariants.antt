@@ -1,23 +1,16 @@
 -- `fence_list::list_items` meets its contract: each turn lists the next item and goes on to the items after it, with the bounds that stand before them.
 -- The invariant: what is left gives the answer of the whole, the bounds are values, and the items left keep their own rules. The measure: how many bytes are left.
 -- Assumes nothing.
-use borrow.Author.Rules.{rules}
-use mathlib.Core.Path.{◌≡◌, refl}
+use mathlib.Core.Path.{◌≡◌}
 use Prim.Native.Nat.{◌-◌}
 use lib.ListN.{length}
-use native.Mathlib.Omega.{arith}
-use Rattle.rules_unit.specs.declared.Item.{Item}
 use Rattle.rules_unit.specs.Decode.{items_at, code_of}
-use Rattle.rules_unit.proofs.Items.{width_some, width_most}
 use Rattle.rules_fence.specs.declared.Seen.TheVariants as seen
 use Rattle.rules_fence.specs.Listed.{broken_from}
 use Rattle.fence_bounds.specs.Asked.{Small}
-use Rattle.fence_bounds.proofs.Seeing.{small_none, small_next}
 use Rattle.fence_statements.specs.Asked.{AllKnown}
-use Rattle.fence_statements.proofs.Turns.{item_known, next_known}
 use Rattle.fence_list.specs.Gathered.{gathered}
 use Rattle.fence_list.proofs.Gathering.{G}
-use Rattle.fence_list.proofs.Turns.{turn_beyond, turn_closes, turn_on}
 use Rattle.fence_list.proofs.list_items.Given as goal
 
 abbrev pub invariant-loop-at : goal.invariant-loop-at

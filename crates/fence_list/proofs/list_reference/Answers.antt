@@ -1,6 +1,5 @@
 -- `fence_list::list_reference` meets its contract: a reference that keeps the rules is passed over, and any other is one row more.
 -- Assumes nothing.
-use borrow.Author.Rules.{rules}
 use Rattle.fence_list.proofs.Turns.{reference_keeps, reference_breaks}
 use Rattle.fence_list.proofs.list_reference.Goals as goal
 

@@ -1,6 +1,5 @@
 -- `fence_list::list_statement` meets its contract: the row is the statement's own, and every use of a unit that passed its check is good.
 -- Assumes nothing.
-use borrow.Author.Rules.{rules}
 use Rattle.rules_unit.proofs.Sound.{passed_fills}
 use Rattle.rules_run.proofs.Lengths.{passed_dialect}
 use Rattle.fence_statements.proofs.Statements.{all_good}

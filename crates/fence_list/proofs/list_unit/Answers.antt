@@ -1,6 +1,5 @@
 -- `fence_list::list_unit` meets its contract: the table of a unit that passed its check tells what the rule asks, and at first nothing is noted.
 -- Assumes nothing.
-use borrow.Author.Rules.{rules}
 use Rattle.unit_decode.proofs.Rows.{rows_none}
 use Rattle.fence_decimals.proofs.Tables.{ahead_says}
 use Rattle.fence_list.proofs.Statements.{unit_listed}

@@ -1,6 +1,5 @@
 -- `fence_list::list_use` meets its contract: a use is its expression, and where there is none nothing is listed.
 -- Assumes nothing.
-use borrow.Author.Rules.{rules}
 use Rattle.fence_statements.proofs.Statements.{use_known}
 use Rattle.fence_list.proofs.Statements.{use_none, use_some}
 use Rattle.fence_list.proofs.list_use.Goals as goal

@@ -2,14 +2,7 @@
 -- Assumes nothing.
 use borrow.Author.Rules.{rules}
 use Prim.Native.Nat.{◌-◌}
-use mathlib.Core.Path.{◌≡◌, refl}
-use lib.ListN.{length, drop}
-use Rattle.rules_unit.specs.Decode.{code_of}
-use Rattle.rules_unit.specs.Table.{uses_by}
-use Rattle.rules_fence.specs.Listed.{uses_broken}
-use Rattle.unit_decode.specs.Rows.{RowsOf}
-use Rattle.fence_list.specs.Gathered.{gathered}
-use Rattle.fence_list.proofs.Gathering.{G}
+use mathlib.Core.Path.{refl}
 use Rattle.fence_list.proofs.Statements.{uses_over, use_good, uses_on}
 use Rattle.fence_list.proofs.list_uses.Goals as goal
 

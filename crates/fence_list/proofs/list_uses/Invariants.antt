@@ -1,9 +1,8 @@
 -- `fence_list::list_uses` meets its contract: each turn lists the next use.
 -- The invariant: what is left gives the answer of the whole, and rows are noted as they are. The measure: the uses that are left.
 -- Assumes nothing.
-use borrow.Author.Rules.{rules}
 use Prim.Native.Nat.{◌-◌}
-use mathlib.Core.Path.{◌≡◌, refl}
+use mathlib.Core.Path.{◌≡◌}
 use lib.ListN.{length, drop}
 use Rattle.rules_unit.specs.Decode.{code_of}
 use Rattle.rules_unit.specs.Table.{uses_by}
@@ -11,7 +10,6 @@ use Rattle.rules_fence.specs.Listed.{uses_broken}
 use Rattle.unit_decode.specs.Rows.{RowsOf}
 use Rattle.fence_list.specs.Gathered.{gathered}
 use Rattle.fence_list.proofs.Gathering.{G}
-use Rattle.fence_list.proofs.Statements.{uses_over, use_good, uses_on}
 use Rattle.fence_list.proofs.list_uses.Given as goal
 
 abbrev pub invariant-loop-k : goal.invariant-loop-k

@@ -1,6 +1,5 @@
 -- `fence_list::put_broken` meets its contract: the numbers are those of the row, in its order.
 -- Assumes nothing.
-use borrow.Author.Rules.{rules}
 use Rattle.fence_list.proofs.Laying.{row_told}
 use Rattle.fence_list.proofs.put_broken.Goals as goal
 

@@ -1,6 +1,5 @@
 -- `fence_list::put_row` meets its contract: a row that is asked for and fits is put where it stands.
 -- Assumes nothing.
-use borrow.Author.Rules.{rules}
 use Rattle.fence_list.proofs.Laying.{put_early, put_full, put_there}
 use Rattle.fence_list.proofs.put_row.Goals as goal
 

@@ -1,6 +1,5 @@
 -- `fence_list::span_by` meets its contract: with as many bounds as it takes a reference names the span that they fix, and without them none.
 -- Assumes nothing.
-use borrow.Author.Rules.{rules}
 use Rattle.rules.proofs.Walk.{told_yes}
 use Rattle.fence_list.proofs.Laying.{no_bounds}
 use Rattle.fence_list.proofs.span_by.Goals as goal

@@ -1,6 +1,5 @@
 -- `fence_list::statement_breaches` meets its contract: the answer of the check decides.
 -- Assumes nothing.
-use borrow.Author.Rules.{rules}
 use Rattle.rules_unit.proofs.Sound.{passed_by}
 use Rattle.fence_list.proofs.Statements.{one_passed, one_refused}
 use Rattle.fence_list.proofs.statement_breaches.Goals as goal

@@ -1,6 +1,5 @@
 -- `fence_references::alpha_breach` meets its contract: what is read may lie on anything, and what is written ends at or before the next decimal field.
 -- Assumes nothing.
-use borrow.Author.Rules.{rules}
 use borrow.Author.Tests.{not-true, not-false}
 use Rattle.fence_references.proofs.Spans.{alpha_read, alpha_apart, alpha_shared}
 use Rattle.fence_references.proofs.alpha_breach.Goals as goal

@@ -3,7 +3,6 @@
 use Prim.Native.Nat.{◌-◌, ◌*◌, ◌/◌, ◌≤◌}
 use native.Mathlib.Nat.{div-mul-le_self}
 use native.Mathlib.Omega.{arith}
-use borrow.Author.Rules.{rules}
 use Rattle.fence_references.proofs.Spans.{element_low, element_none, element_by}
 use Rattle.fence_references.proofs.element_breach.Goals as goal
 

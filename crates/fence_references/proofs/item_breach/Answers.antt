@@ -1,6 +1,5 @@
 -- `fence_references::item_breach` meets its contract: each arm knows the constructor, and only a reference can break a rule.
 -- Assumes nothing.
-use borrow.Author.Rules.{rules}
 use Rattle.rules_unit.proofs.Items.{known_field}
 use Rattle.fence_references.proofs.References.{item_reference, item_number, item_text, item_operator, item_end, item_bad}
 use Rattle.fence_references.proofs.item_breach.Goals as goal

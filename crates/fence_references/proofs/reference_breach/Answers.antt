@@ -1,6 +1,5 @@
 -- `fence_references::reference_breach` meets its contract: where there are bounds, the span that they name is held to the rules, and it lies inside the data.
 -- Assumes nothing.
-use borrow.Author.Rules.{rules}
 use borrow.Author.Tests.{not-true, not-false}
 use Rattle.rules.proofs.Walk.{seen_yes}
 use Rattle.fence_references.proofs.References.{reference_unbound, found_inside, reference_at_lem, reference_outside}

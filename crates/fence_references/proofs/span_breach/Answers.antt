@@ -1,6 +1,5 @@
 -- `fence_references::span_breach` meets its contract: the tests are the rule's own, in its order; a span of the field is held to the rule of its kind.
 -- Assumes nothing.
-use borrow.Author.Rules.{rules}
 use Rattle.fence_references.proofs.Spans.{span_low, offset_low, span_high, span_decimal, span_alpha}
 use Rattle.fence_references.proofs.span_breach.Goals as goal
 

@@ -1,6 +1,5 @@
 -- `fence_statements::aimed` meets its contract: where the place is written, the byte after the reference tells whether it is the last item; else nothing is a destination.
 -- Assumes nothing.
-use borrow.Author.Rules.{rules}
 use Rattle.fence_statements.proofs.Turns.{aim_read, aim_last}
 use Rattle.fence_statements.proofs.aimed.Goals as goal
 

@@ -1,6 +1,5 @@
 -- `fence_statements::breach_as` meets its contract: each of the two lists has its own notes.
 -- Assumes nothing.
-use borrow.Author.Rules.{rules}
 use Rattle.fence_statements.proofs.Notes.{both_reads, both_writes, both_written, both_read}
 use Rattle.fence_statements.proofs.Statements.{written_as}
 use Rattle.fence_statements.proofs.breach_as.Goals as goal

@@ -1,6 +1,5 @@
 -- `fence_statements::breach_at` meets its contract: the part of the unit that it hands to `breach_in` is the expressions.
 -- Assumes nothing.
-use borrow.Author.Rules.{rules}
 use Rattle.fence_statements.proofs.Notes.{part_kept, part_kept_if}
 use Rattle.fence_statements.proofs.Statements.{part_known, part_breach}
 use Rattle.fence_statements.proofs.breach_at.Goals as goal

@@ -4,12 +4,8 @@ use mathlib.Core.Path.{ap}
 use mathlib.Core.Bool.{not}
 use borrow.Author.Rules.{rules}
 use Prim.Native.Nat.{◌-◌}
-use mathlib.Core.Path.{◌≡◌}
-use lib.ListN.{length}
-use Rattle.unit_decode.specs.Rows.{RowsOf}
-use Rattle.fence_statements.specs.Notes.{Both}
 use Rattle.fence_statements.proofs.Notes.{both_still, both_kept}
-use Rattle.fence_statements.proofs.Statements.{Left, left_all, use_good, uses_over, uses_break, uses_on}
+use Rattle.fence_statements.proofs.Statements.{left_all, use_good, uses_over, uses_break, uses_on}
 use Rattle.fence_statements.proofs.breach_by.Goals as goal
 
 pub loop-k-init : goal.loop-k-init

@@ -1,14 +1,12 @@
 -- `fence_statements::breach_by` meets its contract: each turn tests the next use.
 -- The invariant: what is left gives the answer of the whole, what is noted keeps the rules, and rows are noted as they are. The measure: the uses that are left.
 -- Assumes nothing.
-use borrow.Author.Rules.{rules}
 use Prim.Native.Nat.{◌-◌}
 use mathlib.Core.Path.{◌≡◌}
 use lib.ListN.{length}
 use Rattle.unit_decode.specs.Rows.{RowsOf}
 use Rattle.fence_statements.specs.Notes.{Both}
-use Rattle.fence_statements.proofs.Notes.{both_still, both_kept}
-use Rattle.fence_statements.proofs.Statements.{Left, left_all, use_good, uses_over, uses_break, uses_on}
+use Rattle.fence_statements.proofs.Statements.{Left}
 use Rattle.fence_statements.proofs.breach_by.Given as goal
 
 abbrev pub invariant-loop-k : goal.invariant-loop-k

@@ -2,21 +2,15 @@
 -- The invariant: what is left gives the answer of the whole, the bounds are values, the items left keep their own rules, and what is noted of them
 -- keeps the fence rules; so does all that is noted, if the answer is that none is broken. The measure: how many bytes are left.
 -- Assumes nothing.
-use borrow.Author.Rules.{rules}
-use mathlib.Core.Path.{◌≡◌, refl}
+use mathlib.Core.Path.{◌≡◌}
 use Prim.Native.Nat.{◌-◌}
 use lib.ListN.{length}
-use native.Mathlib.Omega.{arith}
-use Rattle.rules_unit.specs.declared.Item.{Item}
 use Rattle.rules_unit.specs.Decode.{items_at, code_of}
-use Rattle.rules_unit.proofs.Items.{width_some, width_most}
 use Rattle.rules_fence.specs.declared.Seen.TheVariants as seen
 use Rattle.rules_fence.specs.Breaches.{breach_from}
 use Rattle.fence_bounds.specs.Asked.{Small}
-use Rattle.fence_bounds.proofs.Seeing.{small_none, small_next}
 use Rattle.fence_statements.specs.Asked.{AllKnown}
-use Rattle.fence_statements.proofs.Notes.{Keeping, keeping_start, keeping_end, turn_noted, turn_notes}
-use Rattle.fence_statements.proofs.Turns.{turn_beyond, turn_closes, turn_breaks, turn_on, item_known, next_known}
+use Rattle.fence_statements.proofs.Notes.{Keeping}
 use Rattle.fence_statements.proofs.breach_in.Given as goal
 
 abbrev pub invariant-loop-i : goal.invariant-loop-i

@@ -1,6 +1,5 @@
 -- `fence_statements::note` meets its contract: a list is set at an offset inside it, where no bounds stand before, and stays as it is at any other.
 -- Assumes nothing.
-use borrow.Author.Rules.{rules}
 use Rattle.fence_statements.proofs.Notes.{note_bounded, note_in, note_out}
 use Rattle.fence_statements.proofs.note.Goals as goal
 

@@ -1,6 +1,5 @@
 -- `fence_statements::noted` meets its contract: nothing is noted where bounds stand before, and past the end of a list every note is 0.
 -- Assumes nothing.
-use borrow.Author.Rules.{rules}
 use Rattle.fence_statements.proofs.Notes.{noted_bounded, noted_out, noted_in}
 use Rattle.fence_statements.proofs.noted.Goals as goal
 

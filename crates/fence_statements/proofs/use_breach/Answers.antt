@@ -1,6 +1,5 @@
 -- `fence_statements::use_breach` meets its contract: a use is its expression, and where there is none nothing is broken.
 -- Assumes nothing.
-use borrow.Author.Rules.{rules}
 use Rattle.fence_statements.proofs.Notes.{both_still}
 use Rattle.fence_statements.proofs.Statements.{use_none, use_known, use_by}
 use Rattle.fence_statements.proofs.use_breach.Goals as goal

@@ -1,7 +1,6 @@
 -- `number::at_least` meets its contract: it is `at_most` with the operands exchanged.
 -- Assumes nothing.
 use mathlib.Core.Path.{◌∙◌}
-use borrow.Author.Rules.{rules}
 use Rattle.rules.specs.Arithmetic.{le_of}
 use Rattle.rules.proofs.Signed.{back, op_plain}
 use Rattle.number.proofs.at_least.Goals as goal

@@ -1,7 +1,6 @@
 -- `number::greater` meets its contract: it is `less` with the operands exchanged.
 -- Assumes nothing.
 use mathlib.Core.Path.{◌∙◌}
-use borrow.Author.Rules.{rules}
 use Rattle.rules.specs.Arithmetic.{lt_of}
 use Rattle.rules.proofs.Signed.{back, op_plain}
 use Rattle.number.proofs.greater.Goals as goal

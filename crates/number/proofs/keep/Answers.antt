@@ -1,6 +1,6 @@
 -- `number::keep` meets its contract: the test compares the magnitude with the bound, as `kept` does.
 -- Assumes nothing.
-use mathlib.Core.Path.{◌≡◌, ap, ◌∙◌}
+use mathlib.Core.Path.{ap, ◌∙◌}
 use native.Mathlib.Omega.{arith}
 use borrow.Author.Tests.{lt-ltb, le-ltb}
 use lib.IntN.{nat_abs}

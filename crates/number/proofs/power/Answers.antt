@@ -1,6 +1,5 @@
 -- `number::power` meets its contract: the table has the power at each of its places.
 -- Assumes nothing.
-use borrow.Author.Rules.{rules}
 use Rattle.number.proofs.TenPowers.{powers_at}
 use Rattle.number.proofs.power.Goals as goal
 

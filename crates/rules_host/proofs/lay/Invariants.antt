@@ -1,12 +1,10 @@
 -- `rules_host::lay` meets its contract: each turn puts one number more, until there is no room or all are put.
 -- The invariant: the first i numbers are put. The measure: the numbers left.
 -- Assumes nothing.
-use borrow.Author.Rules.{rules}
 use Prim.Native.Nat.{◌≤◌, ◌-◌}
 use mathlib.Core.Path.{◌≡◌}
 use lib.ListN.{length, take}
 use Rattle.rules_host.specs.Laid.{laid}
-use Rattle.rules_host.proofs.Laid.{laid_none, laid_next, laid_full, laid_all}
 use Rattle.rules_host.proofs.lay.Given as goal
 
 abbrev pub invariant-loop-i : goal.invariant-loop-i

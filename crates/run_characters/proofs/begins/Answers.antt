@@ -1,6 +1,5 @@
 -- `run_characters::begins` meets its contract: each class has its arm.
 -- Assumes nothing.
-use borrow.Author.Rules.{rules}
 use Rattle.run_characters.proofs.Classes.{begins_laws}
 use Rattle.run_characters.proofs.begins.Goals as goal
 

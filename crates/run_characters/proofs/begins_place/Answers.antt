@@ -1,6 +1,5 @@
 -- `run_characters::begins_place` meets its contract: an X, or a digit that is not 0.
 -- Assumes nothing.
-use borrow.Author.Rules.{rules}
 use Rattle.rules.proofs.Walk.{walk, walk_if}
 use Rattle.run_characters.proofs.Digits.{begins_digit}
 use Rattle.run_characters.proofs.begins_place.Goals as goal

@@ -1,6 +1,5 @@
 -- `run_characters::character_by` meets its contract: each class has its arm.
 -- Assumes nothing.
-use borrow.Author.Rules.{rules}
 use Rattle.run_characters.proofs.Classes.{character_laws}
 use Rattle.run_characters.proofs.character_by.Goals as goal
 

@@ -1,6 +1,5 @@
 -- `run_characters::class_by` meets its contract: each test on the way picks its arm of the rule.
 -- Assumes nothing.
-use borrow.Author.Rules.{rules}
 use Rattle.rules.proofs.Walk.{walk, walk_if}
 use Rattle.run_characters.proofs.class_by.Goals as goal
 

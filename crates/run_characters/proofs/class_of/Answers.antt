@@ -1,6 +1,5 @@
 -- `run_characters::class_of` meets its contract: the money signs to the right are what the rule counts.
 -- Assumes nothing.
-use borrow.Author.Rules.{rules}
 use Rattle.rules.specs.Masks.{class_of}
 use Rattle.run_characters.proofs.class_of.Goals as goal
 

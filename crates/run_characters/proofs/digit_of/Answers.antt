@@ -1,6 +1,5 @@
 -- `run_characters::digit_of` meets its contract: past the table the digit is 0; in it the entry is the power of ten.
 -- Assumes nothing.
-use borrow.Author.Rules.{rules}
 use Rattle.run_characters.proofs.Digits.{entry_some, digit_past, digit_in}
 use Rattle.run_characters.proofs.digit_of.Goals as goal
 

@@ -1,6 +1,5 @@
 -- `run_characters::is_money` meets its contract: each test on the way picks its arm of the rule.
 -- Assumes nothing.
-use borrow.Author.Rules.{rules}
 use Rattle.rules.proofs.Walk.{walk, seen_no, seen_yes, denied_no, denied_yes}
 use Rattle.run_characters.proofs.is_money.Goals as goal
 

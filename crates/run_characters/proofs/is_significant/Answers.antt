@@ -1,6 +1,5 @@
 -- `run_characters::is_significant` meets its contract: once begun, or begun here.
 -- Assumes nothing.
-use borrow.Author.Rules.{rules}
 use Rattle.rules.proofs.Walk.{walk, walk_if}
 use Rattle.run_characters.proofs.is_significant.Goals as goal
 

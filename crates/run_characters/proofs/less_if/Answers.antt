@@ -1,6 +1,5 @@
 -- `run_characters::less_if` meets its contract: the test picks the arm.
 -- Assumes nothing.
-use borrow.Author.Rules.{rules}
 use Rattle.rules.proofs.Walk.{walk, walk_if}
 use Rattle.run_characters.proofs.less_if.Goals as goal
 

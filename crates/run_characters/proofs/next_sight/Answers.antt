@@ -1,6 +1,5 @@
 -- `run_characters::next_sight` meets its contract: each field is the rule's.
 -- Assumes nothing.
-use borrow.Author.Rules.{rules}
 use Rattle.rules.specs.Masks.{sighted_by}
 use Rattle.run_characters.proofs.next_sight.Goals as goal
 

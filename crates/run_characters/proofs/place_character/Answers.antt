@@ -1,6 +1,5 @@
 -- `run_characters::place_character` meets its contract: a digit is below 10, so it has a character.
 -- Assumes nothing.
-use borrow.Author.Rules.{rules}
 use Rattle.rules.proofs.Walk.{walk, walk_if}
 use Rattle.run_characters.proofs.Digits.{digit_small, visible_digit}
 use Rattle.run_characters.proofs.place_character.Goals as goal

@@ -1,6 +1,5 @@
 -- `run_evaluate::end_step` meets its contract: one value that is held is the answer, and any other number of them is none.
 -- Assumes nothing.
-use borrow.Author.Rules.{rules}
 use Rattle.run_evaluate.proofs.Steps.{end_one, end_other}
 use Rattle.run_evaluate.proofs.end_step.Goals as goal
 

@@ -1,6 +1,5 @@
 -- `run_evaluate::field_step` meets its contract: the reference is cut, or last, or read.
 -- Assumes nothing.
-use borrow.Author.Rules.{rules}
 use lib.Dec.{lit≤}
 use Rattle.run_evaluate.proofs.Steps.{reference_short, field_place, field_bound, field_over, field_held}
 use Rattle.run_evaluate.proofs.field_step.Goals as goal

@@ -1,6 +1,5 @@
 -- `run_evaluate::held_on` meets its contract: a value is held, and a fault is the answer.
 -- Assumes nothing.
-use borrow.Author.Rules.{rules}
 use Rattle.run_evaluate.proofs.Steps.{on_value, on_failed}
 use Rattle.run_evaluate.proofs.held_on.Goals as goal
 

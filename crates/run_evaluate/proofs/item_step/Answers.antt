@@ -1,6 +1,5 @@
 -- `run_evaluate::item_step` meets its contract: the byte says which item it is, and its step leads on.
 -- Assumes nothing.
-use borrow.Author.Rules.{rules}
 use Rattle.run_evaluate.proofs.Coded.{code_item, code_end, code_number, code_field, code_text}
 use Rattle.run_evaluate.proofs.item_step.Goals as goal
 

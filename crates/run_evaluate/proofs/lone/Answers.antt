@@ -1,6 +1,5 @@
 -- `run_evaluate::lone` meets its contract: its tests are the rule's own, in the rule's order.
 -- Assumes nothing.
-use borrow.Author.Rules.{rules}
 use Rattle.rules.proofs.Walk.{walk}
 use Rattle.run_evaluate.proofs.lone.Goals as goal
 

@@ -1,7 +1,6 @@
 -- `run_evaluate::number_of` meets its contract: each arm knows what the expression comes to, and answers what the rule has for it. A place lies inside
 -- the data, so it can be read.
 -- Assumes nothing.
-use borrow.Author.Rules.{rules}
 use Rattle.rules_run.proofs.Bounded.{place_within}
 use Rattle.run_evaluate.proofs.Numbers.{number_value, number_text, number_failed, number_read, number_alpha}
 use Rattle.run_evaluate.proofs.number_of.Goals as goal

@@ -1,6 +1,5 @@
 -- `run_evaluate::number_step` meets its contract: the literal is cut, or finds no room, or its value is held.
 -- Assumes nothing.
-use borrow.Author.Rules.{rules}
 use lib.Dec.{lit≤}
 use Rattle.run_evaluate.proofs.Steps.{number_short, number_over, number_held}
 use Rattle.run_evaluate.proofs.number_step.Goals as goal

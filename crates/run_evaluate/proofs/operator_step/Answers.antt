@@ -1,6 +1,5 @@
 -- `run_evaluate::operator_step` meets its contract: the operator takes what is held, or finds too few or no room.
 -- Assumes nothing.
-use borrow.Author.Rules.{rules}
 use Rattle.run_evaluate.proofs.Steps.{held_val, operator_few, operator_over, operator_held}
 use Rattle.run_evaluate.proofs.operator_step.Goals as goal
 

@@ -1,7 +1,6 @@
 -- `run_evaluate::other_step` meets its contract: a code below 6 is that of a reference, and one above it that of an operator or none.
 -- Assumes nothing.
 use native.Mathlib.Omega.{arith}
-use borrow.Author.Rules.{rules}
 use Rattle.run_evaluate.proofs.Coded.{bounds_item, code_none}
 use Rattle.run_evaluate.proofs.Steps.{bad_leads}
 use Rattle.run_evaluate.proofs.other_step.Goals as goal

@@ -1,6 +1,5 @@
 -- `run_evaluate::place` meets its contract: what a field alone comes to is what the items of its expression come to, and any other expression is worked out.
 -- Assumes nothing.
-use borrow.Author.Rules.{rules}
 use Rattle.run_evaluate.proofs.Numbers.{worked_part}
 use Rattle.run_evaluate.proofs.Alone.{lone_word, lone_place}
 use Rattle.run_evaluate.proofs.place.Goals as goal

@@ -1,6 +1,5 @@
 -- `run_evaluate::reference_step` meets its contract: the reference is cut, or last, or takes its bounds from the values held and is read.
 -- Assumes nothing.
-use borrow.Author.Rules.{rules}
 use Rattle.run_evaluate.proofs.Steps.{held_val, reference_short, reference_place, reference_few, reference_over, reference_held}
 use Rattle.run_evaluate.proofs.reference_step.Goals as goal
 

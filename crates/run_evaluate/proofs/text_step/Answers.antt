@@ -1,6 +1,5 @@
 -- `run_evaluate::text_step` meets its contract: the literal is cut, or last, or stands where none may.
 -- Assumes nothing.
-use borrow.Author.Rules.{rules}
 use Rattle.run_evaluate.proofs.Steps.{text_short, text_last, text_inner}
 use Rattle.run_evaluate.proofs.text_step.Goals as goal
 

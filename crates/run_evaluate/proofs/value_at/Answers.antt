@@ -1,6 +1,5 @@
 -- `run_evaluate::value_at` meets its contract: what the expression comes to lies where the rules say.
 -- Assumes nothing.
-use borrow.Author.Rules.{rules}
 use Rattle.run_evaluate.proofs.Answers.{within_by, number_by}
 use Rattle.run_evaluate.proofs.value_at.Goals as goal
 

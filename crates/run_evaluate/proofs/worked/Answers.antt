@@ -1,6 +1,5 @@
 -- `run_evaluate::worked` meets its contract: the part of the unit that it hands to `worked_in` is the expressions.
 -- Assumes nothing.
-use borrow.Author.Rules.{rules}
 use Rattle.run_evaluate.proofs.Numbers.{worked_part}
 use Rattle.run_evaluate.proofs.worked.Goals as goal
 

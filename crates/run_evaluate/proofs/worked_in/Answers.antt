@@ -1,12 +1,8 @@
 -- `run_evaluate::worked_in` meets its contract: each step leads to what the whole comes to.
 -- Assumes nothing.
 use borrow.Author.Rules.{rules}
-use mathlib.Core.Path.{◌≡◌}
 use Prim.Native.Nat.{◌-◌, ◌<◌}
-use lib.ListN.{length}
 use Rattle.rules_unit.specs.Decode.{items_at, code_of}
-use Rattle.rules_run.specs.Evaluation.{worked_of}
-use Rattle.run_evaluate.specs.Steps.{top_down, rest_of, Vals}
 use Rattle.run_evaluate.proofs.Held.{vals_zero}
 use Rattle.run_evaluate.proofs.Steps.{rest_start, loop_beyond, loop_done, loop_kept, loop_shrinks, loop_next, vals_stored}
 use Rattle.run_evaluate.proofs.worked_in.Goals as goal

@@ -2,15 +2,12 @@
 -- The invariant: what is left, with the values held, comes to what the whole comes to; every value of the array is in the range of values.
 -- The measure: how many bytes are left.
 -- Assumes nothing.
-use borrow.Author.Rules.{rules}
 use mathlib.Core.Path.{◌≡◌}
-use Prim.Native.Nat.{◌-◌, ◌<◌}
+use Prim.Native.Nat.{◌-◌}
 use lib.ListN.{length}
 use Rattle.rules_unit.specs.Decode.{items_at, code_of}
 use Rattle.rules_run.specs.Evaluation.{worked_of}
 use Rattle.run_evaluate.specs.Steps.{top_down, rest_of, Vals}
-use Rattle.run_evaluate.proofs.Held.{vals_zero}
-use Rattle.run_evaluate.proofs.Steps.{rest_start, loop_beyond, loop_done, loop_kept, loop_shrinks, loop_next, vals_stored}
 use Rattle.run_evaluate.proofs.worked_in.Given as goal
 
 abbrev pub invariant-loop-i : goal.invariant-loop-i

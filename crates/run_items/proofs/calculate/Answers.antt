@@ -1,13 +1,7 @@
 -- `run_items::calculate` meets its contract: each arm knows the operator, and calls the function that the rule names for it.
 -- Assumes nothing.
-use borrow.Author.Rules.{rules}
-use mathlib.Core.Path.{◌≡◌, ap}
-use lib.IntN.{ℤ}
-use mir.Syntax.{w64}
-use mir.Val.{SFits, to_z, of_z}
-use Rattle.rules.specs.declared.Num.{Num}
+use mathlib.Core.Path.{ap}
 use Rattle.rules.specs.declared.Num.TheVariants.{Value}
-use Rattle.rules_unit.specs.declared.Op.{Op}
 use Rattle.rules_unit.specs.declared.Op.TheVariants as op
 use Rattle.rules_run.specs.Evaluation.{calc}
 use Rattle.run_items.proofs.Operators.{by_num, by_value}

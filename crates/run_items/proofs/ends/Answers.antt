@@ -1,6 +1,5 @@
 -- `run_items::ends` meets its contract: the test of the offset is the rule's own, and the byte is compared where there is one.
 -- Assumes nothing.
-use borrow.Author.Rules.{rules}
 use Rattle.rules.proofs.Walk.{walk}
 use Rattle.run_items.proofs.ends.Goals as goal
 

@@ -1,6 +1,5 @@
 -- `run_items::literal_number` meets its contract: the tests are the rule's own, and the part of the unit that `plain_number` reads is the literal.
 -- Assumes nothing.
-use borrow.Author.Rules.{rules}
 use Rattle.unit_decode.proofs.Literals.{number_empty, number_long, number_past}
 use Rattle.run_items.proofs.Literals.{literal_none, literal_there}
 use Rattle.run_items.proofs.literal_number.Goals as goal

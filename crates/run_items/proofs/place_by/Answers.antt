@@ -1,6 +1,5 @@
 -- `run_items::place_by` meets its contract: the tests are the rule's own, in its order, and the span that was found, by the rule that the field chooses,
 -- becomes the place. Assumes nothing.
-use borrow.Author.Rules.{rules}
 use Rattle.run_items.proofs.Places.{found_by, place_none, place_found, place_outside}
 use Rattle.run_items.proofs.place_by.Goals as goal
 

@@ -1,6 +1,5 @@
 -- `run_items::place_first` meets its contract: the tests are the rule's own, in its order, and the span that was found becomes the place.
 -- Assumes nothing.
-use borrow.Author.Rules.{rules}
 use Rattle.number.proofs.Negation.{zero_fits}
 use Rattle.run_items.proofs.Places.{place_none, place_found, place_outside}
 use Rattle.run_items.proofs.place_first.Goals as goal

@@ -1,6 +1,5 @@
 -- `run_items::place_of` meets its contract: the values held are the bounds exactly where they are as many as the reference takes.
 -- Assumes nothing.
-use borrow.Author.Rules.{rules}
 use Rattle.rules.proofs.Signed.{again}
 use Rattle.run_items.proofs.Places.{place_bounds, place_unbound}
 use Rattle.run_items.proofs.place_of.Goals as goal

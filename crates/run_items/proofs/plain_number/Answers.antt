@@ -1,13 +1,11 @@
 -- `run_items::plain_number` meets its contract: each digit is taken over to acc, and the first character that is none ends it as the rule does.
 -- Assumes nothing.
 use borrow.Author.Rules.{rules}
-use mathlib.Core.Path.{◌≡◌, refl}
+use mathlib.Core.Path.{refl}
 use Prim.Native.Nat.{ℕ, ◌-◌, ◌^◌, ◌≤◌, ◌<◌}
 use native.Mathlib.Nat.{pow-le-pow_right, lt_of_lt_of_le}
 use native.Mathlib.Omega.{arith}
 use lib.Dec.{lit<}
-use lib.ListN.{length, drop}
-use Rattle.run_items.specs.Digits.{plain_from}
 use Rattle.run_items.proofs.Literals.{plain_digits, plain_low, plain_high, plain_more, plain_end}
 use Rattle.run_items.proofs.plain_number.Goals as goal
 

@@ -1,6 +1,5 @@
 -- `run_items::read_first` meets its contract: the tests are the rule's own, in its order, and the span that was found is read.
 -- Assumes nothing.
-use borrow.Author.Rules.{rules}
 use Rattle.number.proofs.Negation.{zero_fits}
 use Rattle.run_items.proofs.Places.{first_inside, reference_none, reference_alpha, reference_read, reference_outside}
 use Rattle.run_items.proofs.read_first.Goals as goal

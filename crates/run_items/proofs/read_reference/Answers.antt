@@ -1,6 +1,5 @@
 -- `run_items::read_reference` meets its contract: the tests are the rule's own, in its order, and the span that was found, by the rule that the field
 -- chooses, is read. Assumes nothing.
-use borrow.Author.Rules.{rules}
 use Rattle.run_items.proofs.Places.{found_by, found_inside, reference_none, reference_alpha, reference_read, reference_outside}
 use Rattle.run_items.proofs.read_reference.Goals as goal
 

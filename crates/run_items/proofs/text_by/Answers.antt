@@ -1,6 +1,5 @@
 -- `run_items::text_by` meets its contract: the tests are the rule's own, in its order.
 -- Assumes nothing.
-use borrow.Author.Rules.{rules}
 use Rattle.rules.proofs.Walk.{walk, told_yes, told_no}
 use Rattle.run_items.proofs.text_by.Goals as goal
 

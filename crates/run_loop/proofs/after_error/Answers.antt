@@ -1,6 +1,5 @@
 -- `run_loop::after_error` meets its contract: the handler is asked first, and then the error.
 -- Assumes nothing.
-use borrow.Author.Rules.{rules}
 use Rattle.run_loop.proofs.Stretches.{error_goes, error_stops_here}
 use Rattle.run_loop.proofs.after_error.Goals as goal
 

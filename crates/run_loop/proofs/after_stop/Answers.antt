@@ -1,6 +1,5 @@
 -- `run_loop::after_stop` meets its contract: after any stop but an error the run stops.
 -- Assumes nothing.
-use borrow.Author.Rules.{rules}
 use Rattle.run_loop.proofs.Stretches.{after_failed}
 use Rattle.run_loop.proofs.after_stop.Goals as goal
 

@@ -1,15 +1,8 @@
 -- `run_loop::go_on` meets its contract: each stretch is a part of the run, and the error that ends one and is trapped is one step more.
 -- unit passed its check; the state is sound; the data has the length that it had, which is the unit's. The measure: the allowance left.
 -- Assumes nothing.
-use Prim.Native.Nat.{◌-◌, ◌<◌, ◌≤◌}
-use mathlib.Core.Path.{◌≡◌}
-use lib.ListN.{length}
+use Prim.Native.Nat.{◌-◌}
 use borrow.Author.Rules.{rules}
-use Rattle.rules_unit.specs.declared.Checked.TheVariants as checked
-use Rattle.rules_unit.specs.Decode.{code_of}
-use Rattle.rules_unit.specs.Checks.{check_of}
-use Rattle.rules_run.specs.States.{Sound}
-use Rattle.rules_run.specs.Runs.{run_from}
 use Rattle.run_loop.proofs.Stretches.{next_length, last_stops, next_count, next_fits, next_less, stretch_on}
 use Rattle.run_loop.proofs.go_on.Goals as goal
 

@@ -5,13 +5,11 @@
 use Prim.Native.Nat.{◌-◌, ◌<◌, ◌≤◌}
 use mathlib.Core.Path.{◌≡◌}
 use lib.ListN.{length}
-use borrow.Author.Rules.{rules}
 use Rattle.rules_unit.specs.declared.Checked.TheVariants as checked
 use Rattle.rules_unit.specs.Decode.{code_of}
 use Rattle.rules_unit.specs.Checks.{check_of}
 use Rattle.rules_run.specs.States.{Sound}
 use Rattle.rules_run.specs.Runs.{run_from}
-use Rattle.run_loop.proofs.Stretches.{next_length, last_stops, next_count, next_fits, next_less, stretch_on}
 use Rattle.run_loop.proofs.go_on.Given as goal
 
 abbrev pub invariant-loop-out : goal.invariant-loop-out

@@ -3,17 +3,9 @@
 -- unit's. The measure: the allowance left. Where a loop is opened or closed, the invariant lies too far back to be searched for, and is named; so are
 -- the loop's own test and that of the allowance.
 -- Assumes nothing.
-use Prim.Native.Nat.{◌+◌, ◌<◌, ◌≤◌}
-use mathlib.Core.Path.{◌≡◌}
-use lib.ListN.{length}
 use borrow.Author.Rules.{rules}
-use Rattle.rules_unit.specs.declared.Checked.TheVariants as checked
-use Rattle.rules_unit.specs.Decode.{code_of}
-use Rattle.rules_unit.specs.Checks.{check_of}
-use Rattle.rules_run.specs.States.{Sound, look_of}
-use Rattle.rules_run.specs.Runs.{run_from}
 use Rattle.run_loop.proofs.Flows.{}
-use Rattle.run_loop.proofs.Loop.{passed_laws, turn_ways, turn_on, turn_sounds, Still_seen, entered_loops, closed_loops, turn_call, turn_return, turn_enter, turn_leave, sound_calls, sound_loops, passed_place, passed_applied}
+use Rattle.run_loop.proofs.Loop.{passed_laws, turn_ways, turn_on, turn_sounds, still_seen, entered_loops, closed_loops, turn_call, turn_return, turn_enter, turn_leave, sound_calls, sound_loops, passed_place, passed_applied}
 use Rattle.run_loop.proofs.stretch.Goals as goal
 
 pub look-look-requires : goal.look-look-requires
@@ -50,25 +42,25 @@ pub advance-s-requires : goal.advance-s-requires
 advance-s-requires c = search passed_place depth 3
 
 pub loop-s-preserved-in-Next : goal.loop-s-preserved-in-Next
-loop-s-preserved-in-Next c = (search turn_on depth 4, search rules, search rules, search rules, search rules, search turn_sounds depth 4, search Still_seen depth 3, search passed_applied depth 4, search passed_applied depth 4)
+loop-s-preserved-in-Next c = (search turn_on depth 4, search rules, search rules, search rules, search rules, search turn_sounds depth 4, search still_seen depth 3, search passed_applied depth 4, search passed_applied depth 4)
 
 pub loop-s-preserved-in-Goto : goal.loop-s-preserved-in-Goto
-loop-s-preserved-in-Goto c = (search turn_on depth 4, search rules, search rules, search rules, search rules, search turn_sounds depth 4, search Still_seen depth 3, search passed_applied depth 4, search passed_applied depth 4)
+loop-s-preserved-in-Goto c = (search turn_on depth 4, search rules, search rules, search rules, search rules, search turn_sounds depth 4, search still_seen depth 3, search passed_applied depth 4, search passed_applied depth 4)
 
 pub call-s-requires : goal.call-s-requires
 call-s-requires c = (search passed_place depth 3, search turn_call depth 3)
 
 pub loop-s-preserved-in-Call : goal.loop-s-preserved-in-Call
-loop-s-preserved-in-Call c = (search turn_on depth 4, search rules, search rules, search rules, search rules, search turn_sounds depth 4, search Still_seen depth 3, search passed_applied depth 4, search passed_applied depth 4)
+loop-s-preserved-in-Call c = (search turn_on depth 4, search rules, search rules, search rules, search rules, search turn_sounds depth 4, search still_seen depth 3, search passed_applied depth 4, search passed_applied depth 4)
 
 pub back-s-requires : goal.back-s-requires
 back-s-requires c = (search turn_return depth 3, search sound_calls depth 3)
 
 pub loop-s-preserved-in-Return : goal.loop-s-preserved-in-Return
-loop-s-preserved-in-Return c = (search turn_on depth 4, search rules, search rules, search rules, search rules, search turn_sounds depth 4, search Still_seen depth 3, search passed_applied depth 4, search passed_applied depth 4)
+loop-s-preserved-in-Return c = (search turn_on depth 4, search rules, search rules, search rules, search rules, search turn_sounds depth 4, search still_seen depth 3, search passed_applied depth 4, search passed_applied depth 4)
 
 pub loop-s-preserved-in-Stop : goal.loop-s-preserved-in-Stop
-loop-s-preserved-in-Stop c = (search turn_on depth 4, search rules, search rules, search rules, search rules, search turn_sounds depth 4, search Still_seen depth 3, search passed_applied depth 4, search passed_applied depth 4)
+loop-s-preserved-in-Stop c = (search turn_on depth 4, search rules, search rules, search rules, search rules, search turn_sounds depth 4, search still_seen depth 3, search passed_applied depth 4, search passed_applied depth 4)
 
 pub enter-s-requires : goal.enter-s-requires
 enter-s-requires c = (search passed_place depth 3, search turn_enter depth 3)
@@ -118,13 +110,13 @@ pub arm-s-requires : goal.arm-s-requires
 arm-s-requires c = search passed_place depth 3
 
 pub loop-s-preserved-in-Arm : goal.loop-s-preserved-in-Arm
-loop-s-preserved-in-Arm c = (search turn_on depth 4, search rules, search rules, search rules, search rules, search turn_sounds depth 4, search Still_seen depth 3, search passed_applied depth 4, search passed_applied depth 4)
+loop-s-preserved-in-Arm c = (search turn_on depth 4, search rules, search rules, search rules, search rules, search turn_sounds depth 4, search still_seen depth 3, search passed_applied depth 4, search passed_applied depth 4)
 
 pub arm-s-requires-in-Disarm : goal.arm-s-requires-in-Disarm
 arm-s-requires-in-Disarm c = search passed_place depth 3
 
 pub loop-s-preserved-in-Disarm : goal.loop-s-preserved-in-Disarm
-loop-s-preserved-in-Disarm c = (search turn_on depth 4, search rules, search rules, search rules, search rules, search turn_sounds depth 4, search Still_seen depth 3, search passed_applied depth 4, search passed_applied depth 4)
+loop-s-preserved-in-Disarm c = (search turn_on depth 4, search rules, search rules, search rules, search rules, search turn_sounds depth 4, search still_seen depth 3, search passed_applied depth 4, search passed_applied depth 4)
 
 pub loop-s-preserved : goal.loop-s-preserved
 loop-s-preserved c = absurd (c.in_default.not-Bad c.in-Bad-flow.field-0 c.in-Bad-flow.is)

@@ -7,14 +7,12 @@
 use Prim.Native.Nat.{◌+◌, ◌<◌, ◌≤◌}
 use mathlib.Core.Path.{◌≡◌}
 use lib.ListN.{length}
-use borrow.Author.Rules.{rules}
 use Rattle.rules_unit.specs.declared.Checked.TheVariants as checked
 use Rattle.rules_unit.specs.Decode.{code_of}
 use Rattle.rules_unit.specs.Checks.{check_of}
 use Rattle.rules_run.specs.States.{Sound, look_of}
 use Rattle.rules_run.specs.Runs.{run_from}
 use Rattle.run_loop.proofs.Flows.{}
-use Rattle.run_loop.proofs.Loop.{passed_laws, turn_ways, turn_on, turn_sounds, Still_seen, entered_loops, closed_loops, turn_call, turn_return, turn_enter, turn_leave, sound_calls, sound_loops, passed_place, passed_applied}
 use Rattle.run_loop.proofs.stretch.Given as goal
 
 abbrev pub invariant-loop-s : goal.invariant-loop-s

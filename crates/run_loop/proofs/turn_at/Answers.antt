@@ -1,6 +1,5 @@
 -- `run_loop::turn_at` meets its contract: what the statement answers comes to what `turn_under` says.
 -- Assumes nothing.
-use borrow.Author.Rules.{rules}
 use Rattle.run_loop.proofs.Flows.{under_worked}
 use Rattle.run_loop.proofs.turn_at.Goals as goal
 

@@ -1,6 +1,5 @@
 -- `run_loop::turn_under` meets its contract: in each arm the flow is known, and what `under_by` says of it is what the arm answers.
 -- Assumes nothing.
-use borrow.Author.Rules.{rules}
 use Rattle.rules.proofs.Walk.{walk}
 use Rattle.run_loop.proofs.Flows.{under_as}
 use Rattle.run_loop.proofs.turn_under.Goals as goal

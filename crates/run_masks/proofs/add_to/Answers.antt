@@ -1,6 +1,5 @@
 -- `run_masks::add_to` meets its contract: each count is the rule's.
 -- Assumes nothing.
-use borrow.Author.Rules.{rules}
 use Rattle.rules.specs.Masks.{tallied}
 use Rattle.run_masks.proofs.add_to.Goals as goal
 

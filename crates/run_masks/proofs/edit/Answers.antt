@@ -1,12 +1,10 @@
 -- `run_masks::edit` meets its contract: each turn puts what the rule shows in its character's place.
 -- Assumes nothing.
-use mathlib.Core.Path.{◌≡◌, refl, ◌∙◌}
-use Prim.Native.Nat.{◌-◌, ◌≤◌}
+use mathlib.Core.Path.{refl, ◌∙◌}
+use Prim.Native.Nat.{◌-◌}
 use native.Mathlib.Omega.{arith}
-use borrow.Author.Rules.{rules}
-use lib.ListN.{length, length-set}
-use Rattle.rules.specs.Masks.{edit_from}
-use Rattle.run_masks.proofs.Editing.{edited_from, edit_turn, edit_end}
+use lib.ListN.{length-set}
+use Rattle.run_masks.proofs.Editing.{edit_turn, edit_end}
 use Rattle.run_masks.proofs.edit.Goals as goal
 
 pub loop-i-init : goal.loop-i-init

@@ -2,13 +2,11 @@
 -- The invariant: what is done, with what the rule makes of what is still to do, is what it makes of the whole.
 -- The measure: the characters still to be shown.
 -- Assumes nothing.
-use mathlib.Core.Path.{◌≡◌, refl, ◌∙◌}
+use mathlib.Core.Path.{◌≡◌}
 use Prim.Native.Nat.{◌-◌, ◌≤◌}
-use native.Mathlib.Omega.{arith}
-use borrow.Author.Rules.{rules}
-use lib.ListN.{length, length-set}
+use lib.ListN.{length}
 use Rattle.rules.specs.Masks.{edit_from}
-use Rattle.run_masks.proofs.Editing.{edited_from, edit_turn, edit_end}
+use Rattle.run_masks.proofs.Editing.{edited_from}
 use Rattle.run_masks.proofs.edit.Given as goal
 
 abbrev pub invariant-loop-i : goal.invariant-loop-i

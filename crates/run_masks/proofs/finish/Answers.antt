@@ -1,6 +1,5 @@
 -- `run_masks::finish` meets its contract: what is lent from the gap on is the right end, and comes back edited.
 -- Assumes nothing.
-use borrow.Author.Rules.{rules}
 use Rattle.run_masks.proofs.Plans.{finish_end}
 use Rattle.run_masks.proofs.finish.Goals as goal
 

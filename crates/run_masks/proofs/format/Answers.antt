@@ -1,7 +1,6 @@
 -- `run_masks::format` meets its contract: the mask is read before it is laid, and edited where it then stands.
 -- Assumes nothing.
 use mathlib.Core.Path.{◌≡◌, ap, ◌∙◌}
-use borrow.Author.Rules.{rules}
 use lib.ListN.{length}
 use Rattle.rules.specs.Masks.{plan_of}
 use Rattle.rules.proofs.Masks.{plan_small}

@@ -1,6 +1,5 @@
 -- `run_masks::is_negative` meets its contract: the test picks the arm.
 -- Assumes nothing.
-use borrow.Author.Rules.{rules}
 use Rattle.rules.proofs.Walk.{walk, walk_if}
 use Rattle.run_masks.proofs.is_negative.Goals as goal
 

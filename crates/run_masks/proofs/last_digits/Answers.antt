@@ -1,6 +1,5 @@
 -- `run_masks::last_digits` meets its contract: past the table every digit is left; in it the entry is the power of ten.
 -- Assumes nothing.
-use borrow.Author.Rules.{rules}
 use Rattle.run_characters.proofs.Digits.{entry_some, left_all, left_cut}
 use Rattle.run_masks.proofs.last_digits.Goals as goal
 

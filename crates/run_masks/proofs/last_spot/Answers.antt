@@ -1,11 +1,8 @@
 -- `run_masks::last_spot` meets its contract: each turn goes one character on.
 -- Assumes nothing.
-use mathlib.Core.Path.{◌≡◌, refl}
-use Prim.Native.Nat.{◌-◌, ◌≤◌}
+use mathlib.Core.Path.{refl}
+use Prim.Native.Nat.{◌-◌}
 use native.Mathlib.Omega.{arith}
-use borrow.Author.Rules.{rules}
-use lib.ListN.{length, drop}
-use Rattle.rules.specs.Masks.{spot_from}
 use Rattle.run_masks.proofs.Editing.{spot_turn, spot_end}
 use Rattle.run_masks.proofs.last_spot.Goals as goal
 

@@ -2,13 +2,10 @@
 -- The invariant: what is still to be walked, with the place found so far, gives what the whole gives.
 -- The measure: the characters still to be walked.
 -- Assumes nothing.
-use mathlib.Core.Path.{◌≡◌, refl}
+use mathlib.Core.Path.{◌≡◌}
 use Prim.Native.Nat.{◌-◌, ◌≤◌}
-use native.Mathlib.Omega.{arith}
-use borrow.Author.Rules.{rules}
 use lib.ListN.{length, drop}
 use Rattle.rules.specs.Masks.{spot_from}
-use Rattle.run_masks.proofs.Editing.{spot_turn, spot_end}
 use Rattle.run_masks.proofs.last_spot.Given as goal
 
 abbrev pub invariant-loop-i : goal.invariant-loop-i

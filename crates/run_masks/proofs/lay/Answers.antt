@@ -1,7 +1,6 @@
 -- `run_masks::lay` meets its contract: the spaces are put in front, and the mask's last characters fill the rest.
 -- Assumes nothing.
 use mathlib.Core.Path.{refl}
-use borrow.Author.Rules.{rules}
 use Rattle.run_masks.proofs.Laying.{lay_end}
 use Rattle.run_masks.proofs.lay.Goals as goal
 

@@ -1,6 +1,5 @@
 -- `run_masks::picture_by` meets its contract: each field is the rule's.
 -- Assumes nothing.
-use borrow.Author.Rules.{rules}
 use Rattle.run_masks.proofs.picture_by.Goals as goal
 
 pub returns : goal.returns

@@ -2,7 +2,6 @@
 -- Assumes nothing.
 use mathlib.Core.Path.{◌≡◌, ap, ◌∙◌}
 use Prim.Native.Nat.{◌^◌, ◌<◌}
-use borrow.Author.Rules.{rules}
 use lib.IntN.{ℤ, nat_abs}
 use lib.ListN.{length}
 use Rattle.rules.specs.Masks.{last_digits, picture_by}

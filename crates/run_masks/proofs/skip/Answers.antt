@@ -1,11 +1,8 @@
 -- `run_masks::skip` meets its contract: each turn goes one character on.
 -- Assumes nothing.
-use mathlib.Core.Path.{◌≡◌, refl}
-use Prim.Native.Nat.{◌-◌, ◌≤◌}
+use mathlib.Core.Path.{refl}
+use Prim.Native.Nat.{◌-◌}
 use native.Mathlib.Omega.{arith}
-use borrow.Author.Rules.{rules}
-use lib.ListN.{length, drop}
-use Rattle.rules.specs.Masks.{skipped}
 use Rattle.run_masks.proofs.Editing.{skip_turn, skip_end}
 use Rattle.run_masks.proofs.skip.Goals as goal
 

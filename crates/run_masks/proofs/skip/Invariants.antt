@@ -2,13 +2,10 @@
 -- The invariant: what is still to be walked ends as the whole does.
 -- The measure: the characters still to be walked.
 -- Assumes nothing.
-use mathlib.Core.Path.{◌≡◌, refl}
+use mathlib.Core.Path.{◌≡◌}
 use Prim.Native.Nat.{◌-◌, ◌≤◌}
-use native.Mathlib.Omega.{arith}
-use borrow.Author.Rules.{rules}
 use lib.ListN.{length, drop}
 use Rattle.rules.specs.Masks.{skipped}
-use Rattle.run_masks.proofs.Editing.{skip_turn, skip_end}
 use Rattle.run_masks.proofs.skip.Given as goal
 
 abbrev pub invariant-loop-i : goal.invariant-loop-i

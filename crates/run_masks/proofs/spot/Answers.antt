@@ -1,6 +1,5 @@
 -- `run_masks::spot` meets its contract: a blank mask has none, and a mask without a money sign has none.
 -- Assumes nothing.
-use borrow.Author.Rules.{rules}
 use Rattle.rules.specs.Masks.{spot_of}
 use Rattle.rules.proofs.Walk.{walk, walk_if}
 use Rattle.run_masks.proofs.Plans.{spot_none, spot_last}

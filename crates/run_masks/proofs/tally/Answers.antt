@@ -1,11 +1,7 @@
 -- `run_masks::tally` meets its contract: each turn counts the character before those that are more_by.
 -- Assumes nothing.
-use mathlib.Core.Path.{◌≡◌}
-use Prim.Native.Nat.{◌≤◌}
 use native.Mathlib.Omega.{arith}
-use borrow.Author.Rules.{rules}
-use lib.ListN.{length, drop}
-use Rattle.rules.specs.Masks.{tally_of}
+use lib.ListN.{length}
 use Rattle.run_masks.proofs.Tallying.{moneys_room, places_room, tally_start, tally_turn, tally_end}
 use Rattle.run_masks.proofs.tally.Goals as goal
 

@@ -4,11 +4,8 @@
 -- Assumes nothing.
 use mathlib.Core.Path.{◌≡◌}
 use Prim.Native.Nat.{◌≤◌}
-use native.Mathlib.Omega.{arith}
-use borrow.Author.Rules.{rules}
 use lib.ListN.{length, drop}
 use Rattle.rules.specs.Masks.{tally_of}
-use Rattle.run_masks.proofs.Tallying.{moneys_room, places_room, tally_start, tally_turn, tally_end}
 use Rattle.run_masks.proofs.tally.Given as goal
 
 abbrev pub invariant-loop-i : goal.invariant-loop-i

@@ -1,6 +1,5 @@
 -- `run_moves::case_at` meets its contract: a decimal place is Malformed, and an alpha one is stored in its other case.
 -- Assumes nothing.
-use borrow.Author.Rules.{rules}
 use Rattle.run_moves.proofs.Found.{case_decimal, case_alpha}
 use Rattle.run_moves.proofs.case_at.Goals as goal
 

@@ -1,7 +1,6 @@
 -- `run_moves::count_at` meets its contract: an alpha place is Malformed. What is read at a decimal one is in the range of values, so it is counted,
 -- and the sum moves; or the fault stands.
 -- Assumes nothing.
-use borrow.Author.Rules.{rules}
 use borrow.Author.Tests.{not-true, not-false}
 use Rattle.run_items.proofs.Places.{read_again}
 use Rattle.run_moves.proofs.Found.{count_alpha, count_sum, count_failed}

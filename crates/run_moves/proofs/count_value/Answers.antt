@@ -1,6 +1,5 @@
 -- `run_moves::count_value` meets its contract: the flag picks the sum or the difference.
 -- Assumes nothing.
-use borrow.Author.Rules.{rules}
 use Rattle.run_moves.proofs.Found.{count_up, count_down}
 use Rattle.run_moves.proofs.count_value.Goals as goal
 

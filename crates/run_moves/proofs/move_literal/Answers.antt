@@ -1,7 +1,6 @@
 -- `run_moves::move_literal` meets its contract: a decimal destination has the literal read as a number, and the part of the unit that is read is the
 -- literal; an alpha one has it stored.
 -- Assumes nothing.
-use borrow.Author.Rules.{rules}
 use Rattle.unit_decode.proofs.Literals.{literal_end}
 use Rattle.run_moves.proofs.Moves.{literal_alpha, literal_moved}
 use Rattle.run_moves.proofs.move_literal.Goals as goal

@@ -1,6 +1,5 @@
 -- `run_moves::move_num` meets its contract: a number moves as the rule says, and a fault stores nothing.
 -- Assumes nothing.
-use borrow.Author.Rules.{rules}
 use Rattle.run_moves.proofs.Moves.{num_value, num_failed}
 use Rattle.run_moves.proofs.move_num.Goals as goal
 

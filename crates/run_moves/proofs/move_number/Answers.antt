@@ -1,6 +1,5 @@
 -- `run_moves::move_number` meets its contract: the flag picks the store that the rule picks.
 -- Assumes nothing.
-use borrow.Author.Rules.{rules}
 use Rattle.run_moves.proofs.Moves.{number_decimal, number_alpha}
 use Rattle.run_moves.proofs.move_number.Goals as goal
 

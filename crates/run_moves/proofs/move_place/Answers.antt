@@ -1,6 +1,5 @@
 -- `run_moves::move_place` meets its contract: each test picks the arm of the rule, and the part that is read is the place.
 -- Assumes nothing.
-use borrow.Author.Rules.{rules}
 use Rattle.run_moves.proofs.Moves.{place_read, place_alpha, place_moved}
 use Rattle.run_moves.proofs.move_place.Goals as goal
 

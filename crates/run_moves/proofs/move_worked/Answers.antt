@@ -1,7 +1,6 @@
 -- `run_moves::move_worked` meets its contract: each arm knows what the source comes to, and answers what the rule has for it. A place lies inside the
 -- data, and text inside the literals.
 -- Assumes nothing.
-use borrow.Author.Rules.{rules}
 use Rattle.rules_run.proofs.Bounded.{place_within}
 use Rattle.run_moves.proofs.Moves.{source_number, source_place, source_text, source_failed, text_within}
 use Rattle.run_moves.proofs.move_worked.Goals as goal

@@ -1,6 +1,5 @@
 -- `run_passes::control` meets its contract: a value that fits is stored.
 -- Assumes nothing.
-use borrow.Author.Rules.{rules}
 use Rattle.run_passes.proofs.Values.{control_not, control_fits}
 use Rattle.run_passes.proofs.control.Goals as goal
 

@@ -1,6 +1,5 @@
 -- `run_passes::enter` meets its contract: the open loops are tested first; a decimal place that is found is short enough, and each other arm fails as the rule does.
 -- Assumes nothing.
-use borrow.Author.Rules.{rules}
 use Rattle.run_evaluate.proofs.Answers.{found_short, on_places}
 use Rattle.run_passes.proofs.Entries.{enters_full, enters_at}
 use Rattle.run_passes.proofs.enter.Goals as goal

@@ -1,6 +1,5 @@
 -- `run_passes::enter_at` meets its contract: the number that the first expression comes to is the start, and the limit stands behind it; or its fault stands.
 -- Assumes nothing.
-use borrow.Author.Rules.{rules}
 use Rattle.run_evaluate.proofs.Answers.{value_again}
 use Rattle.run_passes.proofs.Entries.{decimal_short, enter_alpha, start_known, start_failed}
 use Rattle.run_passes.proofs.enter_at.Goals as goal

@@ -1,6 +1,5 @@
 -- `run_passes::enter_by` meets its contract: a step that is not zero hands on to `control`.
 -- Assumes nothing.
-use borrow.Author.Rules.{rules}
 use Rattle.run_passes.proofs.Entries.{by_zero, by_control}
 use Rattle.run_passes.proofs.enter_by.Goals as goal
 

@@ -1,6 +1,5 @@
 -- `run_passes::enter_flow` meets its contract: the test is the rule's own.
 -- Assumes nothing.
-use borrow.Author.Rules.{rules}
 use Rattle.run_passes.proofs.Entries.{flow_in, flow_over}
 use Rattle.run_passes.proofs.enter_flow.Goals as goal
 

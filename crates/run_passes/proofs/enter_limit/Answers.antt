@@ -1,6 +1,5 @@
 -- `run_passes::enter_limit` meets its contract: the number that the expression comes to is the limit, and the step stands behind it; or its fault stands.
 -- Assumes nothing.
-use borrow.Author.Rules.{rules}
 use Rattle.rules.proofs.Signed.{again}
 use Rattle.run_passes.proofs.Entries.{limit_known, limit_failed}
 use Rattle.run_passes.proofs.enter_limit.Goals as goal

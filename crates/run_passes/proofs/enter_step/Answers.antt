@@ -1,6 +1,5 @@
 -- `run_passes::enter_step` meets its contract: the number that the expression comes to is the step, or its fault stands.
 -- Assumes nothing.
-use borrow.Author.Rules.{rules}
 use Rattle.run_passes.proofs.Entries.{step_known, step_failed}
 use Rattle.run_passes.proofs.enter_step.Goals as goal
 

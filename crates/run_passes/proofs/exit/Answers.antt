@@ -1,6 +1,5 @@
 -- `run_passes::exit` meets its contract: where a loop is open, its entry is a statement of the unit, and so is the loop end that it names.
 -- Assumes nothing.
-use borrow.Author.Rules.{rules}
 use Rattle.run_passes.proofs.Passes.{last_low, last_behind, exits_none, exits_out}
 use Rattle.run_passes.proofs.exit.Goals as goal
 

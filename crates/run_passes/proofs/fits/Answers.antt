@@ -1,6 +1,5 @@
 -- `run_passes::fits` meets its contract: a value fits where its magnitude is below the power of ten of the length.
 -- Assumes nothing.
-use borrow.Author.Rules.{rules}
 use Rattle.run_passes.proofs.Values.{small_again, fits_by}
 use Rattle.run_passes.proofs.fits.Goals as goal
 

@@ -1,6 +1,5 @@
 -- `run_passes::loop_turn` meets its contract: each arm knows the verb, and a FOR names its loop end by a number below the greatest.
 -- Assumes nothing.
-use borrow.Author.Rules.{rules}
 use Rattle.run_passes.specs.Passes.{loop_turn}
 use Rattle.run_passes.proofs.Turns.{for_end, loop_as}
 use Rattle.run_passes.proofs.loop_turn.Goals as goal

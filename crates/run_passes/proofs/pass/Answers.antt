@@ -1,6 +1,5 @@
 -- `run_passes::pass` meets its contract: a place that is found lies inside the data, a decimal one is short enough, and each other arm fails as the rule does.
 -- Assumes nothing.
-use borrow.Author.Rules.{rules}
 use Rattle.run_evaluate.proofs.Answers.{found_inside, found_short, on_places}
 use Rattle.run_passes.proofs.pass.Goals as goal
 

@@ -1,6 +1,5 @@
 -- `run_passes::pass_at` meets its contract: what is read is in the range of values, so the step is added to it; or the fault stands.
 -- Assumes nothing.
-use borrow.Author.Rules.{rules}
 use Rattle.run_items.proofs.Places.{read_again}
 use Rattle.run_passes.proofs.Entries.{decimal_short}
 use Rattle.run_passes.proofs.Passes.{pass_alpha, read_known, read_failed}

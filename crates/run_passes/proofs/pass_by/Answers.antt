@@ -1,6 +1,5 @@
 -- `run_passes::pass_by` meets its contract: the step is in the range of values, and so is the sum; or the fault stands.
 -- Assumes nothing.
-use borrow.Author.Rules.{rules}
 use mir.Facts.{to_z-of_z}
 use Rattle.run_passes.proofs.Passes.{step_again, sum_again, sum_known, sum_failed}
 use Rattle.run_passes.proofs.pass_by.Goals as goal

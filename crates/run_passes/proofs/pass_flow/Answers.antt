@@ -1,6 +1,5 @@
 -- `run_passes::pass_flow` meets its contract: the test is the rule's own.
 -- Assumes nothing.
-use borrow.Author.Rules.{rules}
 use mir.Facts.{to_z-of_z}
 use Rattle.run_passes.proofs.Passes.{flow_again, flow_out}
 use Rattle.run_passes.proofs.pass_flow.Goals as goal

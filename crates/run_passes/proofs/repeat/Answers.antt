@@ -1,6 +1,5 @@
 -- `run_passes::repeat` meets its contract: where a loop is open, its entry is a statement of the unit, and so is the loop end that it names.
 -- Assumes nothing.
-use borrow.Author.Rules.{rules}
 use Rattle.run_passes.proofs.Passes.{last_sound, last_low, last_end, repeats_none, repeats_at}
 use Rattle.run_passes.proofs.repeat.Goals as goal
 

@@ -1,6 +1,5 @@
 -- `run_spans::first_span` meets its contract: without bounds the rule is that of the bytes inside the size, and the test is the rule's own.
 -- Assumes nothing.
-use borrow.Author.Rules.{rules}
 use Rattle.rules_run.specs.Spans.{span_of}
 use Rattle.rules_run.proofs.Located.{past, found}
 use Rattle.run_spans.proofs.first_span.Goals as goal

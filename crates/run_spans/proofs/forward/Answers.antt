@@ -1,7 +1,6 @@
 -- `run_spans::forward` meets its contract: a count past the size is past it all the more when it is multiplied, and any other is small.
 -- Assumes nothing.
 use Prim.Native.Nat.{◌+◌, ◌*◌}
-use borrow.Author.Rules.{rules}
 use native.Mathlib.Omega.{arith}
 use Rattle.rules.proofs.Sizes.{product}
 use Rattle.rules_run.proofs.Located.{past}

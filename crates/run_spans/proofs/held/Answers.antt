@@ -1,6 +1,5 @@
 -- `run_spans::held` meets its contract: at each `return` the tests say that the span leaves the field, or that it lies inside.
 -- Assumes nothing.
-use borrow.Author.Rules.{rules}
 use Rattle.run_spans.proofs.Finding.{field_low, field_behind, field_long, field_here}
 use Rattle.run_spans.proofs.held.Goals as goal
 

@@ -1,6 +1,5 @@
 -- `run_spans::held_to` meets its contract: a span that was found is held to its field, and none stays none.
 -- Assumes nothing.
-use borrow.Author.Rules.{rules}
 use Rattle.run_spans.proofs.Finding.{field_at, field_none}
 use Rattle.run_spans.proofs.held_to.Goals as goal
 

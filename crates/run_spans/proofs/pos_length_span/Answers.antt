@@ -4,7 +4,6 @@ use mathlib.Core.Path.{◌≡◌, ◌∙◌, ap}
 use Prim.Native.Nat.{◌+◌}
 use lib.IntN.{pos, neg_ℤ}
 use lib.Signed.{le_z}
-use borrow.Author.Rules.{rules}
 use native.Mathlib.Omega.{arith}
 use Rattle.rules.proofs.Signed.{again}
 use Rattle.rules_run.proofs.Located.{before, after, pos_length_low, pos_length_none, pos_length_up, pos_length_down}

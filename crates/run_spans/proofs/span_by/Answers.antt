@@ -1,6 +1,5 @@
 -- `run_spans::span_by` meets its contract: each of the two rules has its own function.
 -- Assumes nothing.
-use borrow.Author.Rules.{rules}
 use Rattle.run_spans.proofs.Finding.{by_loose, by_strict}
 use Rattle.run_spans.proofs.span_by.Goals as goal
 

@@ -1,7 +1,6 @@
 -- `run_spans::span_of` meets its contract: each way of binding a reference has its own function, and the rule goes by the same four.
 -- Assumes nothing.
 use mathlib.Core.Path.{◌∙◌}
-use borrow.Author.Rules.{rules}
 use Rattle.run_spans.proofs.Finding.{span_first, span_subscript, span_start_end, span_pos_length}
 use Rattle.run_spans.proofs.span_of.Goals as goal
 

@@ -3,7 +3,6 @@
 use mathlib.Core.Path.{◌≡◌, ◌∙◌, ap}
 use lib.IntN.{pos}
 use lib.Signed.{le_z}
-use borrow.Author.Rules.{rules}
 use native.Mathlib.Omega.{arith}
 use Rattle.rules.proofs.Signed.{again}
 use Rattle.rules_run.proofs.Located.{start_end_low, start_end_turned, start_end_end, start_end_is}

@@ -1,6 +1,5 @@
 -- `run_spans::strict_span` meets its contract: each way of binding a reference has its own function, and with bounds what it finds is held to the field.
 -- Assumes nothing.
-use borrow.Author.Rules.{rules}
 use Rattle.run_spans.proofs.Finding.{strict_first, strict_subscript, strict_start_end, strict_pos_length}
 use Rattle.run_spans.proofs.strict_span.Goals as goal
 

@@ -2,7 +2,6 @@
 -- Assumes nothing.
 use mathlib.Core.Path.{◌≡◌, ◌∙◌, ap}
 use lib.IntN.{pos, neg_ℤ}
-use borrow.Author.Rules.{rules}
 use native.Mathlib.Omega.{arith}
 use Rattle.rules.proofs.Signed.{again}
 use Rattle.rules_run.proofs.Located.{subscript_none, subscript_up, subscript_down}

@@ -1,10 +1,7 @@
 -- `run_state::all_good` meets its contract: the numbers passed stand for values, and the one at which it says no stands for none.
 -- Assumes nothing.
-use borrow.Author.Rules.{rules}
 use Prim.Native.Nat.{◌-◌}
-use mathlib.Core.Path.{◌≡◌, refl}
-use lib.ListN.{length, drop}
-use Rattle.rules_host.specs.Numbers.{good_from}
+use mathlib.Core.Path.{refl}
 use Rattle.run_state.proofs.Reading.{all_wrong, all_onward, all_end}
 use Rattle.run_state.proofs.all_good.Goals as goal
 

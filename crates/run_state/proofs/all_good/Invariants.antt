@@ -1,12 +1,10 @@
 -- `run_state::all_good` meets its contract: the numbers passed stand for values, and the one at which it says no stands for none.
 -- The invariant: the numbers from here on answer what all of them answer. The measure: the numbers left.
 -- Assumes nothing.
-use borrow.Author.Rules.{rules}
 use Prim.Native.Nat.{◌-◌}
-use mathlib.Core.Path.{◌≡◌, refl}
+use mathlib.Core.Path.{◌≡◌}
 use lib.ListN.{length, drop}
 use Rattle.rules_host.specs.Numbers.{good_from}
-use Rattle.run_state.proofs.Reading.{all_wrong, all_onward, all_end}
 use Rattle.run_state.proofs.all_good.Given as goal
 
 abbrev pub invariant-loop-k : goal.invariant-loop-k

@@ -1,6 +1,5 @@
 -- `run_state::caught_of` meets its contract: it tests what `caught_of` tests.
 -- Assumes nothing.
-use borrow.Author.Rules.{rules}
 use Rattle.rules.proofs.Walk.{walk}
 use Rattle.run_state.proofs.caught_of.Goals as goal
 

@@ -1,6 +1,5 @@
 -- `run_state::caught_sound` meets its contract: the number is tested before the statement, as in `caughtb`.
 -- Assumes nothing.
-use borrow.Author.Rules.{rules}
 use Rattle.run_state.proofs.Handled.{caught_other, caught_below}
 use Rattle.run_state.proofs.caught_sound.Goals as goal
 

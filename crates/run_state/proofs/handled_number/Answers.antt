@@ -1,6 +1,5 @@
 -- `run_state::handled_number` meets its contract: the tests are the rule's own.
 -- Assumes nothing.
-use borrow.Author.Rules.{rules}
 use Rattle.run_state.proofs.Words.{handled_handler, handled_error, handled_place}
 use Rattle.run_state.proofs.handled_number.Goals as goal
 

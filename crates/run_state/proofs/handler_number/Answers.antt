@@ -1,6 +1,5 @@
 -- `run_state::handler_number` meets its contract: a handler is told by one more.
 -- Assumes nothing.
-use borrow.Author.Rules.{rules}
 use Rattle.run_state.proofs.Handled.{handler_next}
 use Rattle.run_state.proofs.handler_number.Goals as goal
 

@@ -1,6 +1,5 @@
 -- `run_state::handler_of` meets its contract: it tests what `handler_of` tests.
 -- Assumes nothing.
-use borrow.Author.Rules.{rules}
 use Rattle.rules.proofs.Walk.{walk}
 use Rattle.run_state.proofs.handler_of.Goals as goal
 

@@ -1,6 +1,5 @@
 -- `run_state::handler_sound` meets its contract: a handler is tested as `handlerb` says.
 -- Assumes nothing.
-use borrow.Author.Rules.{rules}
 use Rattle.run_state.proofs.Handled.{handler_below}
 use Rattle.run_state.proofs.handler_sound.Goals as goal
 

@@ -1,6 +1,5 @@
 -- `run_state::is_below` meets its contract: a number lies between the bound and the bound with the other sign.
 -- Assumes nothing.
-use borrow.Author.Rules.{rules}
 use Rattle.run_state.proofs.Loops.{bound_fits, below_over, below_under}
 use Rattle.run_state.proofs.is_below.Goals as goal
 

@@ -1,6 +1,5 @@
 -- `run_state::is_empty` meets its contract: the three tests are the rule's own.
 -- Assumes nothing.
-use borrow.Author.Rules.{rules}
 use mir.Facts.{to_z-of_z}
 use Rattle.run_state.proofs.Loops.{empty_laws}
 use Rattle.run_state.proofs.is_empty.Goals as goal

@@ -1,6 +1,5 @@
 -- `run_state::is_state` meets its contract: the tests are those of `stateb`, in its order.
 -- Assumes nothing.
-use borrow.Author.Rules.{rules}
 use Rattle.run_state.proofs.Reading.{state_other, state_wrong, state_pair}
 use Rattle.run_state.proofs.is_state.Goals as goal
 

@@ -1,6 +1,5 @@
 -- `run_state::loop_number` meets its contract: the tests are the rule's own.
 -- Assumes nothing.
-use borrow.Author.Rules.{rules}
 use mir.Facts.{to_z-of_z}
 use Rattle.run_state.proofs.Words.{number_entry, number_limit, number_step}
 use Rattle.run_state.proofs.loop_number.Goals as goal

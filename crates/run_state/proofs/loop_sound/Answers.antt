@@ -1,6 +1,5 @@
 -- `run_state::loop_sound` meets its contract: the tests are those of `loopb`, in its order.
 -- Assumes nothing.
-use borrow.Author.Rules.{rules}
 use mir.Facts.{to_z-of_z}
 use Rattle.run_state.proofs.Loops.{loop_past, loop_other, loop_limit, loop_step, loop_moves}
 use Rattle.run_state.proofs.loop_sound.Goals as goal

@@ -1,11 +1,8 @@
 -- `run_state::loops_of` meets its contract: each turn puts one slot more.
 -- Assumes nothing.
 use borrow.Author.Rules.{rules}
-use Prim.Native.Nat.{◌-◌, ◌≤◌}
-use mathlib.Core.Path.{◌≡◌, refl}
-use mathlib.Core.Bool.{true}
-use lib.ListN.{length, take}
-use Rattle.rules_host.specs.Numbers.{listed, good_from, loop_at}
+use Prim.Native.Nat.{◌-◌}
+use mathlib.Core.Path.{refl}
 use Rattle.run_state.proofs.Reading.{loops_next, loops_all}
 use Rattle.run_state.proofs.loops_of.Goals as goal
 

@@ -1,13 +1,11 @@
 -- `run_state::loops_of` meets its contract: each turn puts one slot more.
 -- The invariant: those before are put. The measure: the slots left.
 -- Assumes nothing.
-use borrow.Author.Rules.{rules}
 use Prim.Native.Nat.{◌-◌, ◌≤◌}
-use mathlib.Core.Path.{◌≡◌, refl}
+use mathlib.Core.Path.{◌≡◌}
 use mathlib.Core.Bool.{true}
 use lib.ListN.{length, take}
 use Rattle.rules_host.specs.Numbers.{listed, good_from, loop_at}
-use Rattle.run_state.proofs.Reading.{loops_next, loops_all}
 use Rattle.run_state.proofs.loops_of.Given as goal
 
 abbrev pub invariant-loop-k : goal.invariant-loop-k

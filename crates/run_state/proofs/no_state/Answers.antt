@@ -1,6 +1,5 @@
 -- `run_state::no_state` meets its contract: every slot is empty.
 -- Assumes nothing.
-use borrow.Author.Rules.{rules}
 use mathlib.Core.Path.{refl}
 use Rattle.run_state.proofs.Reading.{none_state}
 use Rattle.run_state.proofs.no_state.Goals as goal

@@ -1,6 +1,5 @@
 -- `run_state::number_good` meets its contract: the tests are the rule's own.
 -- Assumes nothing.
-use borrow.Author.Rules.{rules}
 use Rattle.run_state.proofs.Reading.{good_signed, good_error, good_plain}
 use Rattle.run_state.proofs.number_good.Goals as goal
 

@@ -1,6 +1,5 @@
 -- `run_state::read_state` meets its contract: the numbers of a state are read, and others are none's.
 -- Assumes nothing.
-use borrow.Author.Rules.{rules}
 use Rattle.rules.proofs.Walk.{told_yes}
 use Rattle.run_state.proofs.Reading.{read_none}
 use Rattle.run_state.proofs.read_state.Goals as goal

@@ -1,12 +1,10 @@
 -- `run_state::returns_of` meets its contract: each turn puts one return number more.
 -- Assumes nothing.
 use borrow.Author.Rules.{rules}
-use Prim.Native.Nat.{◌-◌, ◌≤◌}
-use mathlib.Core.Path.{◌≡◌, refl}
+use Prim.Native.Nat.{◌-◌}
+use mathlib.Core.Path.{refl}
 use mathlib.Core.Bool.{true}
-use lib.ListN.{length, take}
 use native.Mathlib.Omega.{arith}
-use Rattle.rules_host.specs.Numbers.{listed, good_from, return_at}
 use Rattle.run_state.proofs.Reading.{return_small, returns_next, returns_all}
 use Rattle.run_state.proofs.returns_of.Goals as goal
 

@@ -1,14 +1,11 @@
 -- `run_state::returns_of` meets its contract: each turn puts one return number more.
 -- The invariant: those before are put. The measure: the return numbers left.
 -- Assumes nothing.
-use borrow.Author.Rules.{rules}
 use Prim.Native.Nat.{◌-◌, ◌≤◌}
-use mathlib.Core.Path.{◌≡◌, refl}
+use mathlib.Core.Path.{◌≡◌}
 use mathlib.Core.Bool.{true}
 use lib.ListN.{length, take}
-use native.Mathlib.Omega.{arith}
 use Rattle.rules_host.specs.Numbers.{listed, good_from, return_at}
-use Rattle.run_state.proofs.Reading.{return_small, returns_next, returns_all}
 use Rattle.run_state.proofs.returns_of.Given as goal
 
 abbrev pub invariant-loop-i : goal.invariant-loop-i

@@ -1,10 +1,7 @@
 -- `run_state::returns_sound` meets its contract: the return numbers passed are right, and the one at which it says no is wrong.
 -- Assumes nothing.
-use Prim.Native.Nat.{◌≤◌, ◌-◌}
-use mathlib.Core.Path.{◌≡◌}
-use lib.ListN.{length, drop}
+use Prim.Native.Nat.{◌-◌}
 use borrow.Author.Rules.{rules}
-use Rattle.rules_run.specs.States.{returnsb}
 use Rattle.run_state.proofs.Returns.{returns_wrong, returns_onward, returns_end}
 use Rattle.run_state.proofs.returns_sound.Goals as goal
 

@@ -4,9 +4,7 @@
 use Prim.Native.Nat.{◌≤◌, ◌-◌}
 use mathlib.Core.Path.{◌≡◌}
 use lib.ListN.{length, drop}
-use borrow.Author.Rules.{rules}
 use Rattle.rules_run.specs.States.{returnsb}
-use Rattle.run_state.proofs.Returns.{returns_wrong, returns_onward, returns_end}
 use Rattle.run_state.proofs.returns_sound.Given as goal
 
 abbrev pub invariant-loop-i : goal.invariant-loop-i

@@ -1,6 +1,5 @@
 -- `run_state::slot_sound` meets its contract: a slot below the count is that of an open loop, any other is zero.
 -- Assumes nothing.
-use borrow.Author.Rules.{rules}
 use Rattle.run_state.proofs.Loops.{slot_open, slot_empty}
 use Rattle.run_state.proofs.slot_sound.Goals as goal
 

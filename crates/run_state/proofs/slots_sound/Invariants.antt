@@ -1,13 +1,11 @@
 -- `run_state::slots_sound` meets its contract: the slots passed are right, and the one at which it says no is wrong.
 -- The invariant: the slots from here on answer what all of them answer. The measure: the slots left.
 -- Assumes nothing.
-use borrow.Author.Rules.{rules}
 use Prim.Native.Nat.{◌≤◌, ◌-◌}
 use mathlib.Core.Path.{◌≡◌}
 use lib.ListN.{length, drop}
 use Rattle.rules_unit.specs.Decode.{code_of}
 use Rattle.rules_run.specs.States.{slotsb}
-use Rattle.run_state.proofs.Slots.{slots_wrong, slots_onward, slots_end}
 use Rattle.run_state.proofs.slots_sound.Given as goal
 
 abbrev pub invariant-loop-i : goal.invariant-loop-i

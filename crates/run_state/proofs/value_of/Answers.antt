@@ -1,6 +1,5 @@
 -- `run_state::value_of` meets its contract: a number over the range stands for one below zero.
 -- Assumes nothing.
-use borrow.Author.Rules.{rules}
 use Rattle.run_state.proofs.Reading.{value_plain, high_cast, high_fits, high_value}
 use Rattle.run_state.proofs.value_of.Goals as goal
 

@@ -1,11 +1,7 @@
 -- `run_state::write_state` meets its contract: each turn puts one number more.
 -- Assumes nothing.
 use borrow.Author.Rules.{rules}
-use Prim.Native.Nat.{◌≤◌, ◌-◌}
-use mathlib.Core.Path.{◌≡◌}
-use lib.ListN.{length, take}
-use Rattle.rules_host.specs.Laid.{laid}
-use Rattle.rules_host.specs.Numbers.{numbers_of}
+use Prim.Native.Nat.{◌-◌}
 use Rattle.rules_host.proofs.Laid.{laid_none}
 use Rattle.run_state.proofs.Words.{write_next, write_full, write_all}
 use Rattle.run_state.proofs.write_state.Goals as goal

@@ -1,14 +1,11 @@
 -- `run_state::write_state` meets its contract: each turn puts one number more.
 -- The invariant: those before are put. The measure: the numbers left.
 -- Assumes nothing.
-use borrow.Author.Rules.{rules}
 use Prim.Native.Nat.{◌≤◌, ◌-◌}
 use mathlib.Core.Path.{◌≡◌}
 use lib.ListN.{length, take}
 use Rattle.rules_host.specs.Laid.{laid}
 use Rattle.rules_host.specs.Numbers.{numbers_of}
-use Rattle.rules_host.proofs.Laid.{laid_none}
-use Rattle.run_state.proofs.Words.{write_next, write_full, write_all}
 use Rattle.run_state.proofs.write_state.Given as goal
 
 abbrev pub invariant-loop-k : goal.invariant-loop-k

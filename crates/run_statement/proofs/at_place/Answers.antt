@@ -1,6 +1,5 @@
 -- `run_statement::at_place` meets its contract: each arm knows what is done, and its callee answers what the rule has for that.
 -- Assumes nothing.
-use borrow.Author.Rules.{rules}
 use Rattle.run_evaluate.proofs.Answers.{within_by}
 use Rattle.run_statement.proofs.Places.{at_set, at_as}
 use Rattle.run_statement.proofs.at_place.Goals as goal

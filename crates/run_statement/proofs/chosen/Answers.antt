@@ -1,6 +1,5 @@
 -- `run_statement::chosen` meets its contract: the tests of the sign and of the magnitude tell which statement the rule names.
 -- Assumes nothing.
-use borrow.Author.Rules.{rules}
 use Rattle.run_statement.proofs.Jumps.{small_again, choose_minus, choose_zero, choose_past, choose_at}
 use Rattle.run_statement.proofs.chosen.Goals as goal
 

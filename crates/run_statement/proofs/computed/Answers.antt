@@ -1,7 +1,6 @@
 -- `run_statement::computed` meets its contract: the number that the expression comes to is in the range of values and picks the statement, or its fault
 -- stands.
 -- Assumes nothing.
-use borrow.Author.Rules.{rules}
 use Rattle.run_evaluate.proofs.Answers.{number_again, within_by}
 use Rattle.run_statement.proofs.Jumps.{jump_by, jump_failed}
 use Rattle.run_statement.proofs.computed.Goals as goal

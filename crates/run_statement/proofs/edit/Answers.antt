@@ -1,6 +1,5 @@
 -- `run_statement::edit` meets its contract: each arm knows what the mask comes to, and answers what the rule has for it.
 -- Assumes nothing.
-use borrow.Author.Rules.{rules}
 use Rattle.run_statement.proofs.Edits.{edits}
 use Rattle.run_statement.proofs.edit.Goals as goal
 

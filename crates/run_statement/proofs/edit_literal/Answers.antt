@@ -1,6 +1,5 @@
 -- `run_statement::edit_literal` meets its contract: each arm knows what the number comes to.
 -- Assumes nothing.
-use borrow.Author.Rules.{rules}
 use Rattle.run_statement.proofs.Edits.{literal_value, literal_none}
 use Rattle.run_statement.proofs.edit_literal.Goals as goal
 

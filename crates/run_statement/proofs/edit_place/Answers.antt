@@ -1,6 +1,5 @@
 -- `run_statement::edit_place` meets its contract: each arm knows what the number comes to.
 -- Assumes nothing.
-use borrow.Author.Rules.{rules}
 use Rattle.run_statement.proofs.Edits.{place_value, place_none}
 use Rattle.run_statement.proofs.edit_place.Goals as goal
 

@@ -1,6 +1,5 @@
 -- `run_statement::if_zero` meets its contract: the number that the expression comes to tells where the run goes on, or its fault stands.
 -- Assumes nothing.
-use borrow.Author.Rules.{rules}
 use Rattle.run_evaluate.proofs.Answers.{within_by}
 use Rattle.run_statement.proofs.Jumps.{jump_by, jump_failed}
 use Rattle.run_statement.proofs.if_zero.Goals as goal

@@ -1,6 +1,5 @@
 -- `run_statement::on_place` meets its contract: a place that is found lies inside the data, and each other arm fails as the rule does.
 -- Assumes nothing.
-use borrow.Author.Rules.{rules}
 use Rattle.run_evaluate.proofs.Answers.{found_inside, on_places}
 use Rattle.run_statement.proofs.on_place.Goals as goal
 

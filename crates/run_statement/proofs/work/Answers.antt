@@ -1,6 +1,5 @@
 -- `run_statement::work` meets its contract: each arm knows the verb, and its callee answers what the rule has for that.
 -- Assumes nothing.
-use borrow.Author.Rules.{rules}
 use Rattle.rules_run.specs.Turns.{turn_by}
 use Rattle.run_passes.specs.Passes.{loop_turn}
 use Rattle.run_statement.proofs.Statements.{turn_as, turn_loop, table_fits, end_fits}

@@ -3,7 +3,6 @@
 use mathlib.Core.Path.{◌≡◌, ap, ◌∙◌}
 use Prim.Native.Nat.{ℕ, ◌+◌, ◌-◌}
 use native.Mathlib.Nat.{add-sub_cancel_left}
-use borrow.Author.Rules.{rules}
 use lib.ListN.{take, drop}
 use Rattle.rules.specs.Masks.{plan_of}
 use Rattle.rules.proofs.Masks.{plan_small}

@@ -1,6 +1,5 @@
 -- `run_stores::format_literal` meets its contract: the part that is lent comes back as the number, formatted; the part of the unit that is read is the mask.
 -- Assumes nothing.
-use borrow.Author.Rules.{rules}
 use Rattle.run_stores.proofs.Storing.{mask_end, place_fits, mask_fits, part_formatted}
 use Rattle.run_stores.proofs.format_literal.Goals as goal
 

@@ -2,7 +2,6 @@
 -- Assumes nothing.
 use mathlib.Core.Path.{◌∙◌}
 use native.Mathlib.Omega.{arith}
-use borrow.Author.Rules.{rules}
 use Rattle.run_stores.proofs.Moving.{cut_left, spaced}
 use Rattle.run_stores.proofs.lay_text.Goals as goal
 

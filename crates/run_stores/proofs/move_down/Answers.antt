@@ -1,11 +1,9 @@
 -- `run_stores::move_down` meets its contract: the byte that a turn moves stands before all that were written, so it is still as it was.
 -- Assumes nothing.
 use mathlib.Core.Path.{◌≡◌, ◌∙◌}
-use Prim.Native.Nat.{◌+◌, ◌-◌, ◌≤◌}
-use lib.ListN.{length, take, drop}
+use Prim.Native.Nat.{◌-◌}
 use borrow.Author.Rules.{rules}
 use native.Mathlib.Omega.{arith}
-use Rattle.rules_run.specs.Turns.{stored}
 use Rattle.run_stores.proofs.Moving.{down_start, down_turn, down_end}
 use Rattle.run_stores.proofs.move_down.Goals as goal
 

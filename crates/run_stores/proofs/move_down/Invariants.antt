@@ -1,13 +1,10 @@
 -- `run_stores::move_down` meets its contract: the byte that a turn moves stands before all that were written, so it is still as it was.
 -- The invariant: the bytes from i on are moved, and the data is as long as it was. The measure: i, the bytes that are left to move.
 -- Assumes nothing.
-use mathlib.Core.Path.{◌≡◌, ◌∙◌}
+use mathlib.Core.Path.{◌≡◌}
 use Prim.Native.Nat.{◌+◌, ◌-◌, ◌≤◌}
 use lib.ListN.{length, take, drop}
-use borrow.Author.Rules.{rules}
-use native.Mathlib.Omega.{arith}
 use Rattle.rules_run.specs.Turns.{stored}
-use Rattle.run_stores.proofs.Moving.{down_start, down_turn, down_end}
 use Rattle.run_stores.proofs.move_down.Given as goal
 
 abbrev pub invariant-loop-i : goal.invariant-loop-i

@@ -1,7 +1,6 @@
 -- `run_stores::move_text` meets its contract: text that fills the room is moved and cut, and spaces go behind any other once it is moved.
 -- Assumes nothing.
 use mathlib.Core.Path.{◌∙◌}
-use borrow.Author.Rules.{rules}
 use native.Mathlib.Omega.{arith}
 use Rattle.run_stores.proofs.Moving.{cut, filled}
 use Rattle.run_stores.proofs.move_text.Goals as goal

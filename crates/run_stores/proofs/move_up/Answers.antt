@@ -1,11 +1,9 @@
 -- `run_stores::move_up` meets its contract: the byte that a turn moves stands behind all that were written, so it is still as it was.
 -- Assumes nothing.
 use mathlib.Core.Path.{◌≡◌, ◌∙◌}
-use Prim.Native.Nat.{◌-◌, ◌≤◌}
-use lib.ListN.{length, take, drop}
+use Prim.Native.Nat.{◌-◌}
 use borrow.Author.Rules.{rules}
 use native.Mathlib.Omega.{arith}
-use Rattle.rules_run.specs.Turns.{stored}
 use Rattle.run_stores.proofs.Moving.{up_start, up_turn}
 use Rattle.run_stores.proofs.move_up.Goals as goal
 

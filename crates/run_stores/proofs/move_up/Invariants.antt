@@ -1,13 +1,10 @@
 -- `run_stores::move_up` meets its contract: the byte that a turn moves stands behind all that were written, so it is still as it was.
 -- The invariant: the first i bytes are moved, and the data is as long as it was. The measure: the bytes that are left to move.
 -- Assumes nothing.
-use mathlib.Core.Path.{◌≡◌, ◌∙◌}
+use mathlib.Core.Path.{◌≡◌}
 use Prim.Native.Nat.{◌-◌, ◌≤◌}
 use lib.ListN.{length, take, drop}
-use borrow.Author.Rules.{rules}
-use native.Mathlib.Omega.{arith}
 use Rattle.rules_run.specs.Turns.{stored}
-use Rattle.run_stores.proofs.Moving.{up_start, up_turn}
 use Rattle.run_stores.proofs.move_up.Given as goal
 
 abbrev pub invariant-loop-i : goal.invariant-loop-i

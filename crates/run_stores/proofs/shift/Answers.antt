@@ -1,6 +1,5 @@
 -- `run_stores::shift` meets its contract: either direction stores the same text, and each is asked only where its loop reads no byte that it has written.
 -- Assumes nothing.
-use borrow.Author.Rules.{rules}
 use native.Mathlib.Omega.{arith}
 use Rattle.run_stores.proofs.shift.Goals as goal
 

@@ -1,6 +1,5 @@
 -- `run_stores::store` meets its contract: each arm knows the store, which has room, and its callee makes of the data what the rule makes.
 -- Assumes nothing.
-use borrow.Author.Rules.{rules}
 use Rattle.run_stores.proofs.Writes.{number_room, number_short, number_value, show_room, show_value, move_room, move_source, literal_room, literal_source, clear_room, case_room, edit_room, edit_value, edit_mask, edit_literal_room, edit_literal_value, edit_literal_mask, stores_made}
 use Rattle.run_stores.proofs.store.Goals as goal
 

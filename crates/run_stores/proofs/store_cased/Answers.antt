@@ -1,6 +1,5 @@
 -- `run_stores::store_cased` meets its contract: the part that is lent comes back in the case that the flag says.
 -- Assumes nothing.
-use borrow.Author.Rules.{rules}
 use Rattle.run_stores.proofs.Storing.{part_upcased, part_locased}
 use Rattle.run_stores.proofs.store_cased.Goals as goal
 

@@ -1,6 +1,5 @@
 -- `run_stores::store_cleared` meets its contract: the part that is lent comes back as zeros or as spaces, as the flag says.
 -- Assumes nothing.
-use borrow.Author.Rules.{rules}
 use Rattle.run_stores.proofs.Storing.{part_cleared}
 use Rattle.run_stores.proofs.store_cleared.Goals as goal
 

@@ -1,7 +1,6 @@
 -- `run_stores::store_literal` meets its contract: the part that is lent comes back as the literal, cut or filled; the part of the unit that is read is
 -- the literal.
 -- Assumes nothing.
-use borrow.Author.Rules.{rules}
 use Rattle.unit_decode.proofs.Literals.{literal_end}
 use Rattle.run_stores.proofs.Storing.{part_literal}
 use Rattle.run_stores.proofs.store_literal.Goals as goal

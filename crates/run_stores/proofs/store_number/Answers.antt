@@ -1,6 +1,5 @@
 -- `run_stores::store_number` meets its contract: the part that is lent has the span's characters, and comes back as the decimal that the rule writes.
 -- Assumes nothing.
-use borrow.Author.Rules.{rules}
 use Rattle.rules.proofs.Signed.{again}
 use Rattle.run_stores.proofs.Storing.{lent_most, part_written}
 use Rattle.run_stores.proofs.store_number.Goals as goal

@@ -1,6 +1,5 @@
 -- `stop_words::breach_words` meets its contract: each number's text is the one that `breach_text` names, and every arm puts its text in the same way.
 -- Assumes nothing.
-use borrow.Author.Rules.{rules}
 use Rattle.rules_host.specs.Words.{breach_words_of, codes}
 use Rattle.stop_words.proofs.Said.{breach_by_lem, unbroken}
 use Rattle.stop_words.proofs.breach_words.Goals as goal

@@ -1,10 +1,6 @@
 -- `stop_words::put` meets its contract: each turn puts one byte more, until the text is full or all bytes are put.
 -- Assumes nothing.
-use Prim.Native.Nat.{◌≤◌, ◌-◌}
-use mathlib.Core.Path.{◌≡◌}
-use lib.ListN.{length, take}
 use borrow.Author.Rules.{rules}
-use Rattle.rules_host.specs.Laid.{laid}
 use Rattle.rules_host.proofs.Laid.{laid_none, laid_next, laid_full, laid_all}
 use Rattle.stop_words.proofs.Said.{put_by}
 use Rattle.stop_words.proofs.put.Goals as goal

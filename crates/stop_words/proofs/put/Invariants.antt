@@ -4,10 +4,7 @@
 use Prim.Native.Nat.{◌≤◌, ◌-◌}
 use mathlib.Core.Path.{◌≡◌}
 use lib.ListN.{length, take}
-use borrow.Author.Rules.{rules}
 use Rattle.rules_host.specs.Laid.{laid}
-use Rattle.rules_host.proofs.Laid.{laid_none, laid_next, laid_full, laid_all}
-use Rattle.stop_words.proofs.Said.{put_by}
 use Rattle.stop_words.proofs.put.Given as goal
 
 abbrev pub invariant-loop-i : goal.invariant-loop-i

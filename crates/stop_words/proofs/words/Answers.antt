@@ -1,6 +1,5 @@
 -- `stop_words::words` meets its contract: each number's text is the one that `stop_text` names, and every arm puts its text in the same way.
 -- Assumes nothing.
-use borrow.Author.Rules.{rules}
 use Rattle.rules_host.specs.Words.{words_of, codes}
 use Rattle.stop_words.proofs.Said.{said_by, unsaid}
 use Rattle.stop_words.proofs.words.Goals as goal

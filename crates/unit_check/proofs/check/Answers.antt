@@ -1,6 +1,5 @@
 -- `unit_check::check` meets its contract: where check 1 passes, the unit has a trailer, the parts that it names fill the unit, and their check decides.
 -- Assumes nothing.
-use borrow.Author.Rules.{rules}
 use Rattle.unit_check.proofs.Whole.{check_laws, filled_least, filled_fills}
 use Rattle.unit_check.proofs.check.Goals as goal
 

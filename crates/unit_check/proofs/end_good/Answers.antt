@@ -1,6 +1,5 @@
 -- `unit_check::end_good` meets its contract: the tests are those of `endb`, in its order.
 -- Assumes nothing.
-use borrow.Author.Rules.{rules}
 use Rattle.unit_check.proofs.Scans.{end_before, end_past, end_is}
 use Rattle.unit_check.proofs.end_good.Goals as goal
 

@@ -1,6 +1,5 @@
 -- `unit_check::found_of` meets its contract: the shape is asked for before the expressions, as `found_of` asks, and what is noted stays so.
 -- Assumes nothing.
-use borrow.Author.Rules.{rules}
 use Rattle.unit_check.proofs.Scans.{found_laws}
 use Rattle.unit_check.proofs.found_of.Goals as goal
 

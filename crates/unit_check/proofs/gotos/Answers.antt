@@ -1,10 +1,7 @@
 -- `unit_check::gotos` meets its contract: the statements passed are GOTO statements, and the one at which it refuses is none.
 -- Assumes nothing.
-use Prim.Native.Nat.{◌≤◌, ◌-◌}
-use mathlib.Core.Path.{◌≡◌}
+use Prim.Native.Nat.{◌-◌}
 use borrow.Author.Rules.{rules}
-use Rattle.rules_unit.specs.Decode.{code_of}
-use Rattle.rules_unit.specs.Checks.{gotosb}
 use Rattle.unit_check.proofs.Scans.{gotos_start, gotos_on, gotos_stop, gotos_end}
 use Rattle.unit_check.proofs.gotos.Goals as goal
 

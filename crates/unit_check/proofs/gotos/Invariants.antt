@@ -3,10 +3,8 @@
 -- Assumes nothing.
 use Prim.Native.Nat.{◌≤◌, ◌-◌}
 use mathlib.Core.Path.{◌≡◌}
-use borrow.Author.Rules.{rules}
 use Rattle.rules_unit.specs.Decode.{code_of}
 use Rattle.rules_unit.specs.Checks.{gotosb}
-use Rattle.unit_check.proofs.Scans.{gotos_start, gotos_on, gotos_stop, gotos_end}
 use Rattle.unit_check.proofs.gotos.Given as goal
 
 abbrev pub invariant-loop-j : goal.invariant-loop-j

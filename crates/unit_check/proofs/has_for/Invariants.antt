@@ -1,6 +1,5 @@
 -- `unit_check::has_for` runs to its end: each turn reads the next statement. The measure: the statements left.
 -- Assumes nothing.
-use borrow.Author.Rules.{rules}
 use Prim.Native.Nat.{◌≤◌, ◌-◌}
 use Rattle.unit_check.proofs.has_for.Given as goal
 

@@ -1,6 +1,5 @@
 -- `unit_check::parts_check` meets its contract: each check that fails picks its arm of `parts_check`, in their order.
 -- Assumes nothing.
-use borrow.Author.Rules.{rules}
 use Rattle.unit_check.proofs.Whole.{parts_laws}
 use Rattle.unit_check.proofs.parts_check.Goals as goal
 

@@ -1,6 +1,5 @@
 -- `unit_check::role_good` meets its contract: in each arm the role is known, and `roleb` of it is what the arm answers.
 -- Assumes nothing.
-use borrow.Author.Rules.{rules}
 use Rattle.unit_check.proofs.Scans.{role_as}
 use Rattle.unit_check.proofs.role_good.Goals as goal
 

@@ -1,6 +1,5 @@
 -- `unit_check::row_good` meets its contract: the parts are asked for in the rule's order.
 -- Assumes nothing.
-use borrow.Author.Rules.{rules}
 use Rattle.rules.proofs.Walk.{cond_no, cond_yes, seen_no, seen_yes}
 use Rattle.rules_unit.specs.Checks.{rowb}
 use Rattle.unit_check.proofs.row_good.Goals as goal

@@ -1,6 +1,5 @@
 -- `unit_check::shape_good` meets its contract: where the zero byte is zero, the parts of the statement that was read decide.
 -- Assumes nothing.
-use borrow.Author.Rules.{rules}
 use Rattle.unit_check.proofs.Scans.{shape_not, shape_parts}
 use Rattle.unit_check.proofs.shape_good.Goals as goal
 

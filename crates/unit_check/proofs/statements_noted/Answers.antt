@@ -1,13 +1,8 @@
 -- `unit_check::statements_noted` meets its contract: the statements passed are good, and the one at which it refuses is not, by 5 or by 4.
 -- Assumes nothing.
 use borrow.Author.Rules.{rules}
-use Prim.Native.Nat.{◌≤◌, ◌-◌}
-use mathlib.Core.Path.{◌≡◌}
-use lib.ListN.{length}
-use Rattle.rules_unit.specs.Checks.{statements_from}
+use Prim.Native.Nat.{◌-◌}
 use Rattle.rules_unit.proofs.Statements.{left_all}
-use Rattle.unit_decode.specs.Rows.{RowsOf}
-use Rattle.unit_sorts.specs.Notes.{NotedOf}
 use Rattle.unit_check.proofs.Scans.{scan_on, scan_out}
 use Rattle.unit_check.proofs.statements_noted.Goals as goal
 

@@ -1,6 +1,5 @@
 -- `unit_check::statements_rows` meets its contract: where every note is 0, nothing is noted, so what is noted is so.
 -- Assumes nothing.
-use borrow.Author.Rules.{rules}
 use Rattle.unit_decode.proofs.Rows.{rows_none}
 use Rattle.unit_sorts.proofs.Notes.{noted_none}
 use Rattle.unit_check.proofs.statements_rows.Goals as goal

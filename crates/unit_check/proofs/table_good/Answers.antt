@@ -1,7 +1,6 @@
 -- `unit_check::table_good` meets its contract: each test picks its arm of `tableb`, and a count that stays inside the unit leaves the statements behind it to `gotos`.
 -- Assumes nothing.
 use native.Mathlib.Omega.{arith}
-use borrow.Author.Rules.{rules}
 use Rattle.rules.proofs.Walk.{walk}
 use Rattle.rules_unit.specs.Decode.{code_of}
 use Rattle.rules_unit.specs.Checks.{tableb}

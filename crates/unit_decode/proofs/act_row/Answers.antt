@@ -1,6 +1,5 @@
 -- `unit_decode::act_row` meets its contract: each arm knows what is done, and answers the table's row of it.
 -- Assumes nothing.
-use borrow.Author.Rules.{rules}
 use Rattle.unit_decode.proofs.Laws.{act_as}
 use Rattle.unit_decode.proofs.act_row.Goals as goal
 

@@ -1,7 +1,6 @@
 -- `unit_decode::end_of` meets its contract: its sum is the one asked for, and a product of two words fits an index.
 -- Assumes nothing.
 use native.Mathlib.Omega.{arith}
-use borrow.Author.Rules.{rules}
 use Rattle.rules.proofs.Sizes.{product}
 use Rattle.unit_decode.proofs.end_of.Goals as goal
 

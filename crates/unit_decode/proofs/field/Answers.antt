@@ -1,6 +1,5 @@
 -- `unit_decode::field` meets its contract: the entry i starts 8 bytes for each entry after D, which is inside a unit that its parts fill.
 -- Assumes nothing.
-use borrow.Author.Rules.{rules}
 use Rattle.unit_decode.proofs.Laws.{field_by}
 use Rattle.unit_decode.proofs.field.Goals as goal
 

@@ -1,6 +1,5 @@
 -- `unit_decode::item_at` meets its contract: the test of the offset is the rule's own, and `item_by` answers for the code that stands there.
 -- Assumes nothing.
-use borrow.Author.Rules.{rules}
 use Rattle.rules.proofs.Walk.{walk}
 use Rattle.rules_unit.specs.Decode.{item_at}
 use Rattle.unit_decode.proofs.item_at.Goals as goal

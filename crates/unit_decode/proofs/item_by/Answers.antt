@@ -1,7 +1,6 @@
 -- `unit_decode::item_by` meets its contract: the arm of a `match` says which code it is, and the row of codes computes to what the function of that arm
 -- ensures.
 -- Assumes nothing.
-use borrow.Author.Rules.{rules}
 use Rattle.rules_unit.specs.Decode.{item_by}
 use Rattle.unit_decode.proofs.Laws.{past_six}
 use Rattle.unit_decode.proofs.item_by.Goals as goal

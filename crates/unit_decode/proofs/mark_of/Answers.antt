@@ -1,6 +1,5 @@
 -- `unit_decode::mark_of` meets its contract: the two bytes pick the arm of `mark_of`, and the dialect is the one that it names.
 -- Assumes nothing.
-use borrow.Author.Rules.{rules}
 use Rattle.rules.proofs.Walk.{walk, walk_match}
 use Rattle.rules_unit.specs.Decode.{mark_of}
 use Rattle.unit_decode.proofs.Laws.{names_eq}

@@ -1,6 +1,5 @@
 -- `unit_decode::next_at` meets its contract: where the one note is 0, nothing is noted.
 -- Assumes nothing.
-use borrow.Author.Rules.{rules}
 use Rattle.unit_decode.proofs.Rows.{rows_none}
 use Rattle.unit_decode.proofs.next_at.Goals as goal
 

@@ -1,7 +1,6 @@
 -- `unit_decode::next_by` meets its contract: the part of the unit that it hands on is the expressions, and the row ends inside them.
 -- Assumes nothing.
 use native.Mathlib.Omega.{arith}
-use borrow.Author.Rules.{rules}
 use Rattle.unit_decode.proofs.Rows.{rows_part, next_part, next_small}
 use Rattle.unit_decode.proofs.next_by.Goals as goal
 

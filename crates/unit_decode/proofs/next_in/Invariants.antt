@@ -1,15 +1,11 @@
 -- `unit_decode::next_in` meets its contract: each turn goes on behind the next item, and the 00, what is no item or a note ends the row.
 -- The invariant: what is left ends where the whole does. The measure: how many bytes are left.
 -- Assumes nothing.
-use borrow.Author.Rules.{rules}
-use mathlib.Core.Path.{◌≡◌, refl}
+use mathlib.Core.Path.{◌≡◌}
 use Prim.Native.Nat.{◌+◌, ◌-◌}
 use lib.ListN.{length}
-use native.Mathlib.Omega.{arith}
 use Rattle.rules_unit.specs.Decode.{items_at}
 use Rattle.rules_unit.specs.Expressions.{extent_of}
-use Rattle.rules_unit.proofs.Items.{width_some, width_most}
-use Rattle.unit_decode.proofs.Rows.{not_end, row_past, row_noted, row_ends, row_bad, row_on}
 use Rattle.unit_decode.proofs.next_in.Given as goal
 
 abbrev pub invariant-loop-i : goal.invariant-loop-i

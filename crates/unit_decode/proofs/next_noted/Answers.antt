@@ -1,6 +1,5 @@
 -- `unit_decode::next_noted` meets its contract: the part of the unit that it hands on is the expressions, and what is noted of a row that was found is so.
 -- Assumes nothing.
-use borrow.Author.Rules.{rules}
 use Rattle.unit_decode.proofs.Rows.{rows_part, row_part, rows_back}
 use Rattle.unit_decode.proofs.next_noted.Goals as goal
 

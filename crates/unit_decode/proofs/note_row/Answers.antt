@@ -1,6 +1,5 @@
 -- `unit_decode::note_row` meets its contract: outside the notes nothing is stored.
 -- Assumes nothing.
-use borrow.Author.Rules.{rules}
 use Rattle.unit_decode.proofs.Rows.{note_out}
 use Rattle.unit_decode.proofs.note_row.Goals as goal
 

@@ -1,16 +1,12 @@
 -- `unit_decode::note_rows` meets its contract: on the way through an expression each turn notes where the row goes on, which is so for what is left.
 -- The invariant: what is noted is so, and what is left ends where the whole does. The measure: how many bytes are left.
 -- Assumes nothing.
-use borrow.Author.Rules.{rules}
-use mathlib.Core.Path.{◌≡◌, refl}
+use mathlib.Core.Path.{◌≡◌}
 use Prim.Native.Nat.{◌+◌, ◌-◌}
 use lib.ListN.{length}
-use native.Mathlib.Omega.{arith}
 use Rattle.rules_unit.specs.Decode.{items_at}
 use Rattle.rules_unit.specs.Expressions.{extent_of}
-use Rattle.rules_unit.proofs.Items.{width_some, width_most}
 use Rattle.unit_decode.specs.Rows.{Rows}
-use Rattle.unit_decode.proofs.Rows.{rows_more, row_on}
 use Rattle.unit_decode.proofs.note_rows.Given as goal
 
 abbrev pub invariant-loop-i : goal.invariant-loop-i

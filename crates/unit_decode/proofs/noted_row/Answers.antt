@@ -1,6 +1,5 @@
 -- `unit_decode::noted_row` meets its contract: outside the notes there is none.
 -- Assumes nothing.
-use borrow.Author.Rules.{rules}
 use Rattle.unit_decode.proofs.Rows.{note_past}
 use Rattle.unit_decode.proofs.noted_row.Goals as goal
 

@@ -1,6 +1,5 @@
 -- `unit_decode::number_at` meets its contract: the test that the number literal is whole is the rule's own, and its parts are those that the callees read.
 -- Assumes nothing.
-use borrow.Author.Rules.{rules}
 use Rattle.rules.proofs.Walk.{walk}
 use Rattle.rules_unit.specs.Decode.{number_at}
 use Rattle.unit_decode.proofs.Laws.{number_eq}

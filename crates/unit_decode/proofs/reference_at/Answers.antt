@@ -1,6 +1,5 @@
 -- `unit_decode::reference_at` meets its contract: the test that the reference is whole is the rule's own, and its parts are those that the callees read.
 -- Assumes nothing.
-use borrow.Author.Rules.{rules}
 use Rattle.rules.proofs.Walk.{walk}
 use Rattle.rules_unit.specs.Decode.{reference_at}
 use Rattle.unit_decode.proofs.Laws.{reference_eq}

@@ -1,6 +1,5 @@
 -- `unit_decode::row_of` meets its contract: each arm knows the verb, and answers the table's row of it.
 -- Assumes nothing.
-use borrow.Author.Rules.{rules}
 use Rattle.unit_decode.proofs.Laws.{row_as}
 use Rattle.unit_decode.proofs.row_of.Goals as goal
 

@@ -1,6 +1,5 @@
 -- `unit_decode::statement` meets its contract: `statement_offset` says where the statement stands, which is inside a unit that its parts fill.
 -- Assumes nothing.
-use borrow.Author.Rules.{rules}
 use Rattle.unit_decode.proofs.Laws.{statement_by}
 use Rattle.unit_decode.proofs.statement.Goals as goal
 

@@ -1,6 +1,5 @@
 -- `unit_decode::statement_at` meets its contract: each part is what its callee reads at its place.
 -- Assumes nothing.
-use borrow.Author.Rules.{rules}
 use Rattle.rules_unit.specs.Decode.{statement_at}
 use Rattle.unit_decode.proofs.statement_at.Goals as goal
 

@@ -1,6 +1,5 @@
 -- `unit_decode::text_at` meets its contract: the test that the alpha literal is whole is the rule's own, and its parts are those that the callees read.
 -- Assumes nothing.
-use borrow.Author.Rules.{rules}
 use Rattle.rules.proofs.Walk.{walk}
 use Rattle.rules_unit.specs.Decode.{text_at}
 use Rattle.unit_decode.proofs.Laws.{text_eq}

@@ -1,6 +1,5 @@
 -- `unit_fields::entry_good` meets its contract: at each `return` the tests that led there, made of the entry that was read, pick the arm of `entryb`.
 -- Assumes nothing.
-use borrow.Author.Rules.{rules}
 use Rattle.unit_fields.proofs.Entries.{entry_walk, entry_laws}
 use Rattle.unit_fields.proofs.entry_good.Goals as goal
 

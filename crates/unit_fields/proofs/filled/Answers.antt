@@ -1,6 +1,5 @@
 -- `unit_fields::filled` meets its contract: each test that fails picks its arm of `filledb`, and the last one compares the length that the parts fill.
 -- Assumes nothing.
-use borrow.Author.Rules.{rules}
 use Rattle.rules.proofs.Walk.{walk}
 use Rattle.rules_unit.specs.Checks.{filledb}
 use Rattle.unit_fields.proofs.Entries.{filled_wrong, filled_by}

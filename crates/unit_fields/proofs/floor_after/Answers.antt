@@ -1,6 +1,5 @@
 -- `unit_fields::floor_after` meets its contract: the floor stays after a record, and rises to the end of any other entry.
 -- Assumes nothing.
-use borrow.Author.Rules.{rules}
 use Rattle.unit_fields.proofs.Entries.{floor_stays, floor_rises}
 use Rattle.unit_fields.proofs.floor_after.Goals as goal
 

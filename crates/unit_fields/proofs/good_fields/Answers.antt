@@ -1,11 +1,8 @@
 -- `unit_fields::good_fields` meets its contract: the entries passed are good, and the one at which it returns is not.
 -- Assumes nothing.
-use Prim.Native.Nat.{◌≤◌, ◌-◌}
-use mathlib.Core.Path.{◌≡◌}
+use Prim.Native.Nat.{◌-◌}
 use borrow.Author.Rules.{rules}
 use Rattle.rules.proofs.Walk.{seen_yes, seen_no}
-use Rattle.rules_unit.specs.Decode.{code_of}
-use Rattle.rules_unit.specs.Checks.{good_fields}
 use Rattle.rules_unit.proofs.Statements.{left_all}
 use Rattle.unit_fields.proofs.Entries.{fields_on, fields_stop, fields_end}
 use Rattle.unit_fields.proofs.good_fields.Goals as goal

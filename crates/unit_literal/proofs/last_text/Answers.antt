@@ -1,6 +1,5 @@
 -- `unit_literal::last_text` meets its contract: the expression after the literal starts with the item that was read, so it is empty exactly where that is the end.
 -- Assumes nothing.
-use borrow.Author.Rules.{rules}
 use Rattle.unit_literal.proofs.Stretches.{last_laws}
 use Rattle.unit_literal.proofs.last_text.Goals as goal
 

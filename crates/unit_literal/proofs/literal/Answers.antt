@@ -1,7 +1,6 @@
 -- `unit_literal::literal` meets its contract: the stretch of a unit that passes lies inside it, and the part of the unit from its start to its end is the literal.
 -- Assumes nothing.
 use native.Mathlib.Omega.{arith}
-use borrow.Author.Rules.{rules}
 use Rattle.unit_literal.proofs.Stretches.{stretch_inside, literal_none, literal_part}
 use Rattle.unit_literal.proofs.literal.Goals as goal
 

@@ -1,6 +1,5 @@
 -- `unit_literal::lone_text` meets its contract: the expression starts with the item that was read, and only an alpha literal can be a lone one.
 -- Assumes nothing.
-use borrow.Author.Rules.{rules}
 use Rattle.unit_literal.proofs.Stretches.{lone_laws}
 use Rattle.unit_literal.proofs.lone_text.Goals as goal
 

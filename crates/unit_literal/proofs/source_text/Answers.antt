@@ -1,6 +1,5 @@
 -- `unit_literal::source_text` meets its contract: the part of the unit that is handed on is the unit's expressions.
 -- Assumes nothing.
-use borrow.Author.Rules.{rules}
 use Rattle.unit_literal.proofs.Stretches.{source_by}
 use Rattle.unit_literal.proofs.source_text.Goals as goal
 

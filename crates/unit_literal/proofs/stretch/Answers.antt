@@ -1,6 +1,5 @@
 -- `unit_literal::stretch` meets its contract: the answer of the check decides, and a unit that passes is filled by its parts.
 -- Assumes nothing.
-use borrow.Author.Rules.{rules}
 use Rattle.rules_unit.proofs.Sound.{fills_by}
 use Rattle.unit_literal.proofs.Stretches.{stretch_passed, stretch_refused}
 use Rattle.unit_literal.proofs.stretch.Goals as goal

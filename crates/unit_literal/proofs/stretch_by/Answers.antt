@@ -1,6 +1,5 @@
 -- `unit_literal::stretch_by` meets its contract: a SET's source, and nothing for any other code.
 -- Assumes nothing.
-use borrow.Author.Rules.{rules}
 use Rattle.unit_literal.proofs.Stretches.{by_none, by_set}
 use Rattle.unit_literal.proofs.stretch_by.Goals as goal
 

@@ -1,6 +1,5 @@
 -- `unit_literal::stretch_in` meets its contract: a statement number below N has the stretch of the statement that was read, and any other has none.
 -- Assumes nothing.
-use borrow.Author.Rules.{rules}
 use Rattle.unit_literal.proofs.Stretches.{in_past, in_by}
 use Rattle.unit_literal.proofs.stretch_in.Goals as goal
 

@@ -1,10 +1,7 @@
 -- `unit_sorts::digits` meets its contract: it stops at the first character that is no digit, and the rule answers the same from there on.
 -- Assumes nothing.
 use borrow.Author.Rules.{rules}
-use mathlib.Core.Path.{◌≡◌, refl}
-use Prim.Native.Nat.{◌-◌, ◌≤◌}
-use lib.ListN.{length, drop}
-use Rattle.rules_unit.specs.Expressions.{digitsb}
+use mathlib.Core.Path.{refl}
 use Rattle.unit_sorts.proofs.Literals.{digits_low, digits_high, digits_more, digits_end}
 use Rattle.unit_sorts.proofs.digits.Goals as goal
 

@@ -1,12 +1,10 @@
 -- `unit_sorts::digits` meets its contract: it stops at the first character that is no digit, and the rule answers the same from there on.
 -- The invariant: what is left gives the answer of the whole. The measure: how many characters are left.
 -- Assumes nothing.
-use borrow.Author.Rules.{rules}
-use mathlib.Core.Path.{◌≡◌, refl}
+use mathlib.Core.Path.{◌≡◌}
 use Prim.Native.Nat.{◌-◌, ◌≤◌}
 use lib.ListN.{length, drop}
 use Rattle.rules_unit.specs.Expressions.{digitsb}
-use Rattle.unit_sorts.proofs.Literals.{digits_low, digits_high, digits_more, digits_end}
 use Rattle.unit_sorts.proofs.digits.Given as goal
 
 abbrev pub invariant-loop-i : goal.invariant-loop-i

@@ -1,6 +1,5 @@
 -- `unit_sorts::item_good` meets its contract: each arm knows the constructor, and answers what the rule has for it.
 -- Assumes nothing.
-use borrow.Author.Rules.{rules}
 use Rattle.unit_sorts.proofs.Items.{number_rule, reference_rule, text_rule, operator_rule, end_rule, bad_rule}
 use Rattle.unit_sorts.proofs.item_good.Goals as goal
 

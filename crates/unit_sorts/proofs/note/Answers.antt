@@ -1,6 +1,5 @@
 -- `unit_sorts::note` meets its contract: outside the notes nothing is stored, and inside them what the definition stores.
 -- Assumes nothing.
-use borrow.Author.Rules.{rules}
 use Rattle.unit_sorts.proofs.Notes.{note_laws}
 use Rattle.unit_sorts.proofs.note.Goals as goal
 

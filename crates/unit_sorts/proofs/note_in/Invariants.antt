@@ -1,17 +1,12 @@
 -- `unit_sorts::note_in` meets its contract: on the way through an expression of a known sort, each turn notes that sort for what is left.
 -- The invariant: what is noted is so, what is left gives the known sort, and at most 16 values are held. The measure: how many bytes are left.
 -- Assumes nothing.
-use borrow.Author.Rules.{rules}
 use Prim.Native.Nat.{◌-◌, ◌≤◌}
 use mathlib.Core.Path.{◌≡◌}
 use lib.ListN.{length}
-use native.Mathlib.Omega.{arith}
-use Rattle.rules_unit.specs.declared.Item.{Item}
 use Rattle.rules_unit.specs.Decode.{code_of}
-use Rattle.rules_unit.proofs.Items.{width_some, width_most}
-use Rattle.unit_decode.proofs.Rows.{not_end}
 use Rattle.unit_sorts.specs.Notes.{Noted}
-use Rattle.unit_sorts.proofs.Leads.{Leads, lead_start, lead_few, lead_most, lead_on, lead_noted}
+use Rattle.unit_sorts.proofs.Leads.{Leads}
 use Rattle.unit_sorts.proofs.note_in.Given as goal
 
 abbrev pub invariant-loop-i : goal.invariant-loop-i

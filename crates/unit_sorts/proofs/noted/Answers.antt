@@ -1,6 +1,5 @@
 -- `unit_sorts::noted` meets its contract: it answers Wrong where the offset is outside or other values are held, and the noted sort else.
 -- Assumes nothing.
-use borrow.Author.Rules.{rules}
 use Rattle.unit_sorts.proofs.Notes.{noted_laws}
 use Rattle.unit_sorts.proofs.noted.Goals as goal
 

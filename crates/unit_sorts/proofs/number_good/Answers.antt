@@ -1,6 +1,5 @@
 -- `unit_sorts::number_good` meets its contract: the tests are the rule's own, and the part of the unit that `digits` reads is the literal.
 -- Assumes nothing.
-use borrow.Author.Rules.{rules}
 use Rattle.unit_decode.proofs.Literals.{number_empty, number_long, number_past}
 use Rattle.unit_sorts.proofs.Literals.{digits_there}
 use Rattle.unit_sorts.proofs.number_good.Goals as goal

@@ -1,6 +1,5 @@
 -- `unit_sorts::sort_at` meets its contract: the part of the unit that it hands on is the expressions, and what is noted of a sort that was found is so.
 -- Assumes nothing.
-use borrow.Author.Rules.{rules}
 use Rattle.rules.proofs.Walk.{told_no}
 use Rattle.unit_sorts.proofs.Parts.{sort_part, noted_in, noted_back}
 use Rattle.unit_sorts.proofs.sort_at.Goals as goal

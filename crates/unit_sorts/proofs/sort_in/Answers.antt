@@ -2,14 +2,9 @@
 -- where a sort is noted for what is left, that is the answer.
 -- Assumes nothing.
 use borrow.Author.Rules.{rules}
-use mathlib.Core.Path.{◌≡◌, refl}
-use Prim.Native.Nat.{◌-◌, ◌≤◌}
-use lib.ListN.{length}
+use mathlib.Core.Path.{refl}
 use native.Mathlib.Omega.{arith}
 use Rattle.rules_unit.specs.declared.Item.{Item}
-use Rattle.rules_unit.specs.declared.Sort.TheVariants as sort
-use Rattle.rules_unit.specs.Decode.{items_at, code_of}
-use Rattle.rules_unit.specs.Expressions.{sort_from}
 use Rattle.rules.proofs.Walk.{seen_yes}
 use Rattle.rules_unit.proofs.Items.{width_some, width_most}
 use Rattle.unit_decode.proofs.Rows.{not_end}

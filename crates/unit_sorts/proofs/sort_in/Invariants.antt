@@ -3,19 +3,12 @@
 -- The invariant: what is left, with the values held and the last sort, gives the answer of the whole, and at most 16 values are held.
 -- The measure: how many bytes are left.
 -- Assumes nothing.
-use borrow.Author.Rules.{rules}
-use mathlib.Core.Path.{◌≡◌, refl}
+use mathlib.Core.Path.{◌≡◌}
 use Prim.Native.Nat.{◌-◌, ◌≤◌}
 use lib.ListN.{length}
-use native.Mathlib.Omega.{arith}
-use Rattle.rules_unit.specs.declared.Item.{Item}
 use Rattle.rules_unit.specs.declared.Sort.TheVariants as sort
 use Rattle.rules_unit.specs.Decode.{items_at, code_of}
 use Rattle.rules_unit.specs.Expressions.{sort_from}
-use Rattle.rules.proofs.Walk.{seen_yes}
-use Rattle.rules_unit.proofs.Items.{width_some, width_most}
-use Rattle.unit_decode.proofs.Rows.{not_end}
-use Rattle.unit_sorts.proofs.Turns.{turn_beyond, turn_one, turn_none, turn_last, turn_noted, turn_item, turn_few, turn_full, turn_on}
 use Rattle.unit_sorts.proofs.sort_in.Given as goal
 
 abbrev pub invariant-loop-i : goal.invariant-loop-i

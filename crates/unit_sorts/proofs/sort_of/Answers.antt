@@ -1,7 +1,6 @@
 -- `unit_sorts::sort_of` meets its contract: each arm knows the constructor, and answers what the rule has for it. A reference that keeps its rule
 -- names a field that there is, so its entry can be read.
 -- Assumes nothing.
-use borrow.Author.Rules.{rules}
 use Rattle.rules_unit.proofs.Items.{known_field}
 use Rattle.unit_sorts.proofs.Items.{reference_sort}
 use Rattle.unit_sorts.proofs.sort_of.Goals as goal

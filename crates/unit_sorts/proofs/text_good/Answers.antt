@@ -1,6 +1,5 @@
 -- `unit_sorts::text_good` meets its contract: the tests are the rule's own, and a unit that its parts fill has P bytes of literals.
 -- Assumes nothing.
-use borrow.Author.Rules.{rules}
 use Rattle.unit_sorts.proofs.Literals.{text_empty, text_there}
 use Rattle.unit_sorts.proofs.text_good.Goals as goal
 

@@ -1,6 +1,5 @@
 -- `unit_uses::count_of` meets its contract: each arm knows the role of b, and how many uses that has more.
 -- Assumes nothing.
-use borrow.Author.Rules.{rules}
 use Rattle.unit_uses.proofs.Uses.{count_as}
 use Rattle.unit_uses.proofs.count_of.Goals as goal
 

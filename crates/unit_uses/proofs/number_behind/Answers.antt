@@ -1,6 +1,5 @@
 -- `unit_uses::number_behind` meets its contract: the numbers stand in a row, and each starts where `next_noted` says.
 -- Assumes nothing.
-use borrow.Author.Rules.{rules}
 use Rattle.unit_uses.proofs.Uses.{behind_second, behind_third, behind_none}
 use Rattle.unit_uses.proofs.number_behind.Goals as goal
 

@@ -1,6 +1,5 @@
 -- `unit_uses::use_by` meets its contract: a statement has a use for each of its three parts, in order, and those behind them are of numbers in a row.
 -- Assumes nothing.
-use borrow.Author.Rules.{rules}
 use Rattle.unit_uses.proofs.Uses.{use_a, use_b, use_c, use_more}
 use Rattle.unit_uses.proofs.use_by.Goals as goal
 

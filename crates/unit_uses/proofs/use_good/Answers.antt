@@ -1,6 +1,5 @@
 -- `unit_uses::use_good` meets its contract: the callees say the sort of the expression, and whether it suits, and keep what is noted so.
 -- Assumes nothing.
-use borrow.Author.Rules.{rules}
 use Rattle.unit_uses.proofs.Uses.{no_use, use_rule}
 use Rattle.unit_uses.proofs.use_good.Goals as goal
 

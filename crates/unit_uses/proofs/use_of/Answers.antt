@@ -1,6 +1,5 @@
 -- `unit_uses::use_of` meets its contract: each arm knows the role, and answers the use that the rule has for it.
 -- Assumes nothing.
-use borrow.Author.Rules.{rules}
 use Rattle.unit_uses.proofs.Uses.{use_as}
 use Rattle.unit_uses.proofs.use_of.Goals as goal
 

@@ -1,6 +1,5 @@
 -- `unit_uses::uses_good` meets its contract: the row is the statement's own.
 -- Assumes nothing.
-use borrow.Author.Rules.{rules}
 use Rattle.unit_uses.proofs.Uses.{uses_own}
 use Rattle.unit_uses.proofs.uses_good.Goals as goal
 

@@ -1,14 +1,7 @@
 -- `unit_uses::uses_good_by` meets its contract: each turn tests the next use.
 -- Assumes nothing.
 use borrow.Author.Rules.{rules}
-use Prim.Native.Nat.{◌-◌}
-use mathlib.Core.Path.{◌≡◌, refl}
-use lib.ListN.{length, drop}
-use Rattle.rules_unit.specs.Table.{uses_by}
-use Rattle.rules_unit.specs.Decode.{code_of}
-use Rattle.rules_unit.specs.Expressions.{usesb}
-use Rattle.unit_decode.specs.Rows.{RowsOf}
-use Rattle.unit_sorts.specs.Notes.{NotedOf}
+use mathlib.Core.Path.{refl}
 use Rattle.unit_uses.proofs.Uses.{uses_refused, uses_on, uses_over}
 use Rattle.unit_uses.proofs.uses_good_by.Goals as goal
 

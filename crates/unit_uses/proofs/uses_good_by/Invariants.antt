@@ -1,16 +1,14 @@
 -- `unit_uses::uses_good_by` meets its contract: each turn tests the next use.
 -- The invariant: what is left gives the answer of the whole, and what is noted stays so. The measure: the uses that are left.
 -- Assumes nothing.
-use borrow.Author.Rules.{rules}
 use Prim.Native.Nat.{◌-◌}
-use mathlib.Core.Path.{◌≡◌, refl}
+use mathlib.Core.Path.{◌≡◌}
 use lib.ListN.{length, drop}
 use Rattle.rules_unit.specs.Table.{uses_by}
 use Rattle.rules_unit.specs.Decode.{code_of}
 use Rattle.rules_unit.specs.Expressions.{usesb}
 use Rattle.unit_decode.specs.Rows.{RowsOf}
 use Rattle.unit_sorts.specs.Notes.{NotedOf}
-use Rattle.unit_uses.proofs.Uses.{uses_refused, uses_on, uses_over}
 use Rattle.unit_uses.proofs.uses_good_by.Given as goal
 
 abbrev pub invariant-loop-k : goal.invariant-loop-k

@@ -1,6 +1,5 @@
 -- `rules_run::State::leave` meets its contract: the slot of the loop opened last becomes zero.
 -- Assumes nothing.
-use borrow.Author.Rules.{rules}
 use Rattle.rules_run.proofs.State.leave.Goals as goal
 
 pub returns : goal.returns

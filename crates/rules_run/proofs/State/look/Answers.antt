@@ -1,6 +1,5 @@
 -- `rules_run::State::look` meets its contract: the loop opened last is seen, and none where none is open.
 -- Assumes nothing.
-use borrow.Author.Rules.{rules}
 use Rattle.rules_run.proofs.States.{look_laws}
 use Rattle.rules_run.proofs.State.look.Goals as goal
 
