@@ -1,4 +1,5 @@
 // The public face of Boxlever for C: `dibol` in numbers and slices. A slice is a pointer and a length in C; include/dibol.h has the prototypes.
+// A library exports nothing, so the static library `dibol_c_c` exports each of the functions for C.
 // Any bytes and any numbers may be given, of any length, and every call answers.
 #![tactic(auto)]
 
@@ -111,8 +112,7 @@ fn put_four(answer: &mut [u64], a: u64, b: u64, c: u64, d: u64)
 // of 16 slots. It is rewritten with the next state. A `state` of another length, or with a number that stands for nothing at its place, is 7,
 // after 1 to 6: a statement, a count or an entry is at most 65,535, and a limit or a step is a value, held as C holds a number with a sign in
 // one without. After 1 to 7 `bytes` and `state` are as they were.
-#[unsafe(no_mangle)]
-pub extern "C" fn dibol_run(
+pub fn dibol_run(
     unit: &[u8],
     bytes: &mut [u8],
     state: &mut [u64],
@@ -136,8 +136,7 @@ pub extern "C" fn dibol_run(
 
 // Checks a unit by the rules 1 to 5, as `dibol::check` does. The answer is the stop's number, 0 where the unit passes; `answer` is given
 // the stop, the place and D, as many as fit. The place of a unit that passes is 0, and so is the D of one that is refused.
-#[unsafe(no_mangle)]
-pub extern "C" fn dibol_check(unit: &[u8], answer: &mut [u64]) -> u64
+pub fn dibol_check(unit: &[u8], answer: &mut [u64]) -> u64
     ensures { ◌≡◌ {A = Told} (record { value = result; answer = answer.new }) (check_told (check_of unit.now) answer.old) }
 {
     let checked = dibol::check(unit);
@@ -156,8 +155,7 @@ pub extern "C" fn dibol_check(unit: &[u8], answer: &mut [u64]) -> u64
 
 // The lengths of a unit's parts. The answer is the stop's number, as of `dibol_check`; `answer` is given D, F, E, P, N and the most digits that a decimal has in the
 // unit's dialect, as many as fit, or zeros where the unit is refused.
-#[unsafe(no_mangle)]
-pub extern "C" fn dibol_parts(unit: &[u8], answer: &mut [u64]) -> u64
+pub fn dibol_parts(unit: &[u8], answer: &mut [u64]) -> u64
     ensures { ◌≡◌ {A = Told} (record { value = result; answer = answer.new }) (parts_told (check_of unit.now) answer.old) }
 {
     let checked = dibol::check(unit);
@@ -185,8 +183,7 @@ pub extern "C" fn dibol_parts(unit: &[u8], answer: &mut [u64]) -> u64
 
 // The field entry of a unit by its number, from 0, as `dibol::field` gives it: 1 where there is one, else 0. `answer` is given its kind (0 alpha, 1 decimal, 2
 // record), its offset, its size, its count, and 1 where it is strict, as many as fit; zeros where there is none.
-#[unsafe(no_mangle)]
-pub extern "C" fn dibol_field(unit: &[u8], i: usize, answer: &mut [u64]) -> u64
+pub fn dibol_field(unit: &[u8], i: usize, answer: &mut [u64]) -> u64
     ensures { ◌≡◌ {A = Told} (record { value = result; answer = answer.new }) (field_told (entry_of unit.now i) answer.old) }
 {
     match dibol::field(unit, i) {
@@ -201,8 +198,7 @@ pub extern "C" fn dibol_field(unit: &[u8], i: usize, answer: &mut [u64]) -> u64
 
 // Whether the decimals of a data buffer are all valid, as `dibol::invalid`: 0 where they are, 1 to 6 where the unit or the size of the buffer is refused, 22 where one
 // is not. `answer` is given that number, the field, the element from 1 and where it starts in the data, as many as fit; the last three are 0 but for 22.
-#[unsafe(no_mangle)]
-pub extern "C" fn dibol_invalid(unit: &[u8], bytes: &[u8], answer: &mut [u64]) -> u64
+pub fn dibol_invalid(unit: &[u8], bytes: &[u8], answer: &mut [u64]) -> u64
     ensures { ◌≡◌ {A = Told} (record { value = result; answer = answer.new }) (invalid_told unit.now (validity_of unit.now bytes.now) answer.old) }
 {
     let validity = dibol::invalid(unit, bytes);
@@ -230,8 +226,7 @@ pub extern "C" fn dibol_invalid(unit: &[u8], bytes: &[u8], answer: &mut [u64]) -
 
 // The fence check, as `dibol::fence`: 0 for yes, 1 for no, 2 for a unit that is refused. `answer` is given two numbers, as many as fit:
 // for no the first statement that breaks a rule and the number of its breach, for a refusal the stop and the place, for yes 0 and 0.
-#[unsafe(no_mangle)]
-pub extern "C" fn dibol_fence(unit: &[u8], answer: &mut [u64]) -> u64
+pub fn dibol_fence(unit: &[u8], answer: &mut [u64]) -> u64
     ensures { ◌≡◌ {A = Told} (record { value = result; answer = answer.new }) (fence_told unit.now (fence_of unit.now) answer.old) }
 {
     let verdict = dibol::fence(unit);
@@ -253,24 +248,21 @@ pub extern "C" fn dibol_fence(unit: &[u8], answer: &mut [u64]) -> u64
 }
 
 // The number of the fence rule that a statement breaks first, as `dibol::breach` and `dibol::breach_number` give it; 0 for none.
-#[unsafe(no_mangle)]
-pub extern "C" fn dibol_breach(unit: &[u8], statement: usize) -> u64
+pub fn dibol_breach(unit: &[u8], statement: usize) -> u64
     ensures { result ≡ breach_number (breach_in unit.now statement) }
 {
     dibol::breach_number(dibol::breach(unit, statement)) as u64
 }
 
 // How many references of a unit break a fence rule, and rows of eight numbers of those from the number `skip` on, as `dibol::breaches` puts them.
-#[unsafe(no_mangle)]
-pub extern "C" fn dibol_breaches(unit: &[u8], skip: usize, rows: &mut [u64]) -> u64
+pub fn dibol_breaches(unit: &[u8], skip: usize, rows: &mut [u64]) -> u64
     ensures { ◌≡◌ {A = Listed} (record { count = result; rows = rows.new }) (listed (breaches_of unit.now) skip rows.old) }
 {
     dibol::breaches(unit, skip, rows) as u64
 }
 
 // The words of a fence rule's number, as `dibol::breach_words` gives them.
-#[unsafe(no_mangle)]
-pub extern "C" fn dibol_breach_words(rule: u64, text: &mut [u8]) -> u64
+pub fn dibol_breach_words(rule: u64, text: &mut [u8]) -> u64
     ensures { ◌≡◌ {A = Said} (record { size = result; text = text.new }) (breach_said rule text.old) }
 {
     dibol::breach_words(rule, text) as u64
@@ -278,8 +270,7 @@ pub extern "C" fn dibol_breach_words(rule: u64, text: &mut [u8]) -> u64
 
 // The length of a statement's alpha literal, 0 where there is none, as `dibol::stretch` finds it. `answer` is given where it starts in
 // the unit and its length, as many as fit; both are 0 where there is none.
-#[unsafe(no_mangle)]
-pub extern "C" fn dibol_literal(unit: &[u8], statement: usize, answer: &mut [u64]) -> u64
+pub fn dibol_literal(unit: &[u8], statement: usize, answer: &mut [u64]) -> u64
     ensures { ◌≡◌ {A = Told} (record { value = result; answer = answer.new }) (literal_told (stretch_of unit.now statement) answer.old) }
 {
     let found = dibol::stretch(unit, statement);
@@ -290,24 +281,21 @@ pub extern "C" fn dibol_literal(unit: &[u8], statement: usize, answer: &mut [u64
 
 // The words of a stop's number, as `dibol::words` gives them: the answer is their whole length, and as many of their bytes as fit are
 // written at the front of `text`. No zero byte is put behind them.
-#[unsafe(no_mangle)]
-pub extern "C" fn dibol_words(stop: u64, text: &mut [u8]) -> u64
+pub fn dibol_words(stop: u64, text: &mut [u8]) -> u64
     ensures { ◌≡◌ {A = Said} (record { size = result; text = text.new }) (said_of stop text.old) }
 {
     dibol::words(stop, text) as u64
 }
 
 // The version, ten thousand for its first number, a hundred for its second and one for its third: 400 is 0.4.0.
-#[unsafe(no_mangle)]
-pub extern "C" fn dibol_version() -> u64
+pub fn dibol_version() -> u64
     ensures { result ≡ 400 }
 {
     400
 }
 
 // How many numbers a resume state has.
-#[unsafe(no_mangle)]
-pub extern "C" fn dibol_state_len() -> u64
+pub fn dibol_state_len() -> u64
     ensures { result ≡ 104 }
 {
     104
