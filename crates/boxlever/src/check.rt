@@ -3,8 +3,8 @@
 use crate::breaches::put_first;
 use crate::names::{field_name, source_line};
 use crate::say::{
-    Line, Read, Show, argument, fill_to, least, less, line_for, most, new_line, part, piece, put,
-    put_form, put_given, put_right, put_text, read_file, say_line, sum, width,
+    Host, Line, Read, Show, argument, fill_to, least, less, line_for, most, new_line, part, piece,
+    put, put_form, put_given, put_right, put_text, read_file, say_line, sum, width,
 };
 use crate::valid::{Invalid, invalid_in, put_invalid, put_size, tell_size};
 use crate::words::{FAILED, GOOD, REFUSED, STOPPED, put_refusal};
@@ -155,17 +155,18 @@ fn place_of(r: Refusal) -> Cell {
 }
 
 // The row of a unit that is refused.
-fn say_refused(row: Row, names: &[u8], r: Refusal) {
+fn say_refused(host: &Host, row: Row, names: &[u8], r: Refusal) {
     let number = dibol::refusal_number(r) as u64;
     let mut l = reasoned(row, b"refused", Cell::Nothing, place_of(r));
     l = put_known(put_form(l, b"#", number, 0), names, r);
-    say_line(put_refusal(put_text(l, b": "), r));
+    say_line(host, put_refusal(put_text(l, b": "), r));
 }
 
 // ---- yes and no
 
 // The row of a unit with a yes.
 fn say_yes(
+    host: &Host,
     r: Row,
     unit: &[u8],
     parts: Parts,
@@ -176,12 +177,15 @@ fn say_yes(
     file: &[u8],
 ) {
     if !bad.is_one {
-        say_line(answered(r, b"yes", Cell::Number(0), Cell::Nothing));
+        say_line(host, answered(r, b"yes", Cell::Number(0), Cell::Nothing));
         return;
     }
     let l = reasoned(r, b"yes!", Cell::Number(0), Cell::Nothing);
     let next = put_text(l, b"but ");
-    say_line(put_invalid(next, unit, parts, names, data, bad, own, file));
+    say_line(
+        host,
+        put_invalid(next, unit, parts, names, data, bad, own, file),
+    );
 }
 
 // The line of a unit with a no at the statement i, in which so many references break a rule.
@@ -192,6 +196,7 @@ fn refuted(r: Row, unit: &[u8], parts: Parts, names: &[u8], i: u16, count: usize
 
 // The row of a unit with a no, which that line begins.
 fn say_no(
+    host: &Host,
     l: Line,
     unit: &[u8],
     parts: Parts,
@@ -202,11 +207,14 @@ fn say_no(
     file: &[u8],
 ) {
     if !bad.is_one {
-        say_line(l);
+        say_line(host, l);
         return;
     }
     let next = put_text(l, b"; and ");
-    say_line(put_invalid(next, unit, parts, names, data, bad, own, file));
+    say_line(
+        host,
+        put_invalid(next, unit, parts, names, data, bad, own, file),
+    );
 }
 
 // How many references of a unit break a rule.
@@ -235,6 +243,7 @@ fn with_no(tally: Tally, count: usize) -> Tally {
 
 // The row of a unit that passes its check over data of its size, and the tally with it.
 fn say_verdict(
+    host: &Host,
     tally: Tally,
     r: Row,
     unit: &[u8],
@@ -247,13 +256,13 @@ fn say_verdict(
     let bad = invalid_in(unit, data);
     match dibol::fence(unit) {
         Verdict::Yes => {
-            say_yes(r, unit, parts, names, data, bad, own, file);
+            say_yes(host, r, unit, parts, names, data, bad, own, file);
             with_yes(tally, bad.is_one)
         }
         Verdict::No(i) => {
             let count = count_of(unit);
             let l = refuted(r, unit, parts, names, i, count);
-            say_no(l, unit, parts, names, data, bad, own, file);
+            say_no(host, l, unit, parts, names, data, bad, own, file);
             with_no(tally, count)
         }
         Verdict::Refused(_) => tally, // Never so: the unit passed its check.
@@ -263,11 +272,19 @@ fn say_verdict(
 // ---- files
 
 // The row of a unit whose data has another size than the file's, and the tally with it.
-fn say_unfit(tally: Tally, r: Row, path: &[u8], n: usize, file: &[u8], d: usize) -> Tally {
-    tell_size(path, n, file, d);
+fn say_unfit(
+    host: &Host,
+    tally: Tally,
+    r: Row,
+    path: &[u8],
+    n: usize,
+    file: &[u8],
+    d: usize,
+) -> Tally {
+    tell_size(host, path, n, file, d);
     let mut l = reasoned(r, b"wrong size", Cell::Nothing, Cell::Nothing);
     l = put_size(put_text(l, b"the file of the data "), n);
-    say_line(put_form(l, b", the unit wants #", d as u64, 0));
+    say_line(host, put_form(l, b", the unit wants #", d as u64, 0));
     let mut next = tally;
     next.unfit = sum(tally.unfit, 1);
     next
@@ -275,6 +292,7 @@ fn say_unfit(tally: Tally, r: Row, path: &[u8], n: usize, file: &[u8], d: usize)
 
 // The row of a unit that passes its check, and the tally with it.
 fn say_passed(
+    host: &Host,
     tally: Tally,
     t: Table,
     path: &[u8],
@@ -288,16 +306,17 @@ fn say_passed(
     let d = parts.d as usize;
     if t.own {
         let image = part(unit, 0, d);
-        return say_verdict(tally, r, unit, parts, names, image, true, file);
+        return say_verdict(host, tally, r, unit, parts, names, image, true, file);
     }
     if data.len() != d {
-        return say_unfit(tally, r, path, data.len(), file, d);
+        return say_unfit(host, tally, r, path, data.len(), file, d);
     }
-    say_verdict(tally, r, unit, parts, names, data, false, file)
+    say_verdict(host, tally, r, unit, parts, names, data, false, file)
 }
 
 // The row of a unit, and the tally with it.
 fn say_unit(
+    host: &Host,
     tally: Tally,
     t: Table,
     path: &[u8],
@@ -307,9 +326,9 @@ fn say_unit(
     file: &[u8],
 ) -> Tally {
     match dibol::check(unit) {
-        Checked::Passed(parts) => say_passed(tally, t, path, unit, parts, names, data, file),
+        Checked::Passed(parts) => say_passed(host, tally, t, path, unit, parts, names, data, file),
         Checked::Refused(r) => {
-            say_refused(row_with(path, unit.len(), t), names, r);
+            say_refused(host, row_with(path, unit.len(), t), names, r);
             let mut next = tally;
             next.refused = sum(tally.refused, 1);
             next
@@ -318,10 +337,18 @@ fn say_unit(
 }
 
 // The row of a unit whose names are read, and the tally with it.
-fn say_named(tally: Tally, t: Table, path: &[u8], unit: &[u8], data: &[u8], file: &[u8]) -> Tally {
+fn say_named(
+    host: &Host,
+    tally: Tally,
+    t: Table,
+    path: &[u8],
+    unit: &[u8],
+    data: &[u8],
+    file: &[u8],
+) -> Tally {
     let mut space = io::large_buffer();
-    let n = crate::names::read(path, unit, t.plain, &mut space);
-    say_unit(tally, t, path, unit, part(&space, 0, n), data, file)
+    let n = crate::names::read(host, path, unit, t.plain, &mut space);
+    say_unit(host, tally, t, path, unit, part(&space, 0, n), data, file)
 }
 
 // The place of the system's number among the reasons.
@@ -340,7 +367,7 @@ fn reason_number(error: i32) -> u8 {
 }
 
 // The row of a file that cannot be read, with the system's reason, and the tally with it.
-fn say_unread(tally: Tally, t: Table, path: &[u8], error: i32) -> Tally {
+fn say_unread(host: &Host, tally: Tally, t: Table, path: &[u8], error: i32) -> Tally {
     let reasons = b"No such file or directory|\
         Input/output error|\
         Bad file descriptor|\
@@ -356,26 +383,26 @@ fn say_unread(tally: Tally, t: Table, path: &[u8], error: i32) -> Tally {
         from: r.from,
     };
     let l = reasoned(row, b"unreadable", Cell::Nothing, Cell::Nothing);
-    say_line(put_text(l, piece(reasons, reason_number(error))));
+    say_line(host, put_text(l, piece(reasons, reason_number(error))));
     let mut next = tally;
     next.unread = sum(tally.unread, 1);
     next
 }
 
 // The row of a file, and the tally with it.
-fn say_file(tally: Tally, t: Table, path: &[u8], data: &[u8], file: &[u8]) -> Tally {
+fn say_file(host: &Host, tally: Tally, t: Table, path: &[u8], data: &[u8], file: &[u8]) -> Tally {
     let mut buf = io::large_buffer();
-    match read_file(path, &mut buf) {
-        Read::Whole(n) => say_named(tally, t, path, part(&buf, 0, n), data, file),
-        Read::Failed(error) => say_unread(tally, t, path, error),
+    match read_file(host, path, &mut buf) {
+        Read::Whole(n) => say_named(host, tally, t, path, part(&buf, 0, n), data, file),
+        Read::Failed(error) => say_unread(host, tally, t, path, error),
     }
 }
 
 // The row of the file that the argument i names, and the tally with it.
-fn say_argument(tally: Tally, t: Table, i: usize, data: &[u8], file: &[u8]) -> Tally {
+fn say_argument(host: &Host, tally: Tally, t: Table, i: usize, data: &[u8], file: &[u8]) -> Tally {
     let mut path = io::buffer();
-    let n = argument(i, &mut path);
-    say_file(tally, t, &path[..n], data, file)
+    let n = argument(host, i, &mut path);
+    say_file(host, tally, t, &path[..n], data, file)
 }
 
 // ---- totals
@@ -405,14 +432,14 @@ fn put_breaches(l: Line, n: usize) -> Line {
 }
 
 // The last line: how many units there are of each answer.
-fn say_totals(tally: Tally) {
+fn say_totals(host: &Host, tally: Tally) {
     let answers = sum(sum(tally.yes, tally.no), tally.refused);
     let mut l = put_units(new_line(), sum(answers, tally.unfit), tally.yes);
     l = put_form(l, b"# no, # refused", tally.no as u64, tally.refused as u64);
     l = put_breaches(l, tally.breaches);
     l = put_some(l, tally.warned, b" yes with a warning");
     l = put_some(l, tally.unfit, b" with data of another size");
-    say_line(put_some(l, tally.unread, b" not read"));
+    say_line(host, put_some(l, tally.unread, b" not read"));
 }
 
 // The exit status: the highest of the rows.
@@ -432,27 +459,30 @@ fn status_of(tally: Tally) -> u8 {
 // ---- the table
 
 // How many columns the name of the argument i takes.
-fn width_of(i: usize, show: Show) -> usize {
+fn width_of(host: &Host, i: usize, show: Show) -> usize {
     let mut path = io::buffer();
-    let n = argument(i, &mut path);
+    let n = argument(host, i, &mut path);
     width(put_given(line_for(show), &path[..n]))
 }
 
 // How many columns the names take: the longest of the arguments from one on, up to the most.
-fn widest(from: usize, count: usize, show: Show) -> usize {
+fn widest(host: &Host, from: usize, count: usize, show: Show) -> usize {
     let mut widest = 4;
     let mut i = from;
     while i < count {
-        widest = most(widest, width_of(i, show));
+        widest = most(widest, width_of(host, i, show));
         i += 1;
     }
     least(widest, NAMES)
 }
 
 // The head of the table.
-fn say_head(width: usize) {
+fn say_head(host: &Host, width: usize) {
     let l = fill_to(put_text(new_line(), b"unit"), sum(width, 2));
-    say_line(put_text(l, b"bytes  answer   breaches  first  reason"));
+    say_line(
+        host,
+        put_text(l, b"bytes  answer   breaches  first  reason"),
+    );
 }
 
 // A tally of nothing.
@@ -470,6 +500,7 @@ fn no_tally() -> Tally {
 
 // The rows of the files that the arguments from one on name, and their totals; and the exit status. Each unit is asked over its own data, or over that of a file.
 pub fn check_files(
+    host: &Host,
     from: usize,
     count: usize,
     plain: bool,
@@ -479,18 +510,18 @@ pub fn check_files(
     show: Show,
 ) -> u8 {
     let t = Table {
-        width: widest(from, count, show),
+        width: widest(host, from, count, show),
         plain: plain,
         own: own,
         show: show,
     };
-    say_head(t.width);
+    say_head(host, t.width);
     let mut tally = no_tally();
     let mut i = from;
     while i < count {
-        tally = say_argument(tally, t, i, data, file);
+        tally = say_argument(host, tally, t, i, data, file);
         i += 1;
     }
-    say_totals(tally);
+    say_totals(host, tally);
     status_of(tally)
 }

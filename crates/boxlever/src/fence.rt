@@ -11,7 +11,7 @@ use crate::parts::field_of;
 use crate::phrase::{put_name, put_statement};
 use crate::picture::{frame_of, is_hit, say_picture};
 use crate::say::{
-    Line, Show, byte_at, cut, cut_to, least, less, line_for, new_line, put_bytes, put_form,
+    Host, Line, Show, byte_at, cut, cut_to, least, less, line_for, new_line, put_bytes, put_form,
     put_number, put_text, say, say_line, set, sum,
 };
 use crate::valid::{status_of, warn};
@@ -138,7 +138,7 @@ fn put_hits(l: Line, unit: &[u8], parts: Parts, names: &[u8], r: Breaking) -> Li
 }
 
 // The line of the bytes of a destination that is on decimal fields.
-fn say_on_decimal(unit: &[u8], parts: Parts, names: &[u8], field: Field, r: Breaking) {
+fn say_on_decimal(host: &Host, unit: &[u8], parts: Parts, names: &[u8], field: Field, r: Breaking) {
     let mut l = put_bytes(
         put_text(new_line(), b"   "),
         r.start as usize,
@@ -147,36 +147,44 @@ fn say_on_decimal(unit: &[u8], parts: Parts, names: &[u8], field: Field, r: Brea
     if 2 < r.form {
         l = put_field(l, names, field, r);
     }
-    say_line(put_hits(l, unit, parts, names, r));
+    say_line(host, put_hits(l, unit, parts, names, r));
 }
 
 // The line of the bytes that a reference would name.
-fn say_aim(parts: Parts, names: &[u8], field: Field, r: Breaking, a: Aim) {
+fn say_aim(host: &Host, parts: Parts, names: &[u8], field: Field, r: Breaking, a: Aim) {
     let mut l = put_aim(put_text(new_line(), b"    "), a);
     if a.none == NAMED {
         l = put_bytes(put_text(l, b"; the data has"), 0, parts.d as usize);
     }
-    say_line(put_field(l, names, field, r));
+    say_line(host, put_field(l, names, field, r));
 }
 
 // The line of the bytes of a reference of any other rule: those that it names, or that only the run finds them; and the bytes of its field.
-fn say_span(names: &[u8], field: Field, r: Breaking) {
+fn say_span(host: &Host, names: &[u8], field: Field, r: Breaking) {
     let mut l = put_text(new_line(), b"   ");
     if r.rule == 1 {
         l = put_text(l, b" found only by the run");
     } else {
         l = put_bytes(l, r.start as usize, r.len as usize);
     }
-    say_line(put_field(l, names, field, r));
+    say_line(host, put_field(l, names, field, r));
 }
 
 // The line of the bytes of a reference.
-fn say_bytes(unit: &[u8], parts: Parts, names: &[u8], field: Field, r: Breaking, a: Aim) {
+fn say_bytes(
+    host: &Host,
+    unit: &[u8],
+    parts: Parts,
+    names: &[u8],
+    field: Field,
+    r: Breaking,
+    a: Aim,
+) {
     let rule = r.rule;
     match rule {
-        2 => say_aim(parts, names, field, r, a),
-        6 => say_on_decimal(unit, parts, names, field, r),
-        _ => say_span(names, field, r),
+        2 => say_aim(host, parts, names, field, r, a),
+        6 => say_on_decimal(host, unit, parts, names, field, r),
+        _ => say_span(host, names, field, r),
     }
 }
 
@@ -200,9 +208,9 @@ fn is_drawn(told: &mut [u8], r: Breaking) -> bool {
 }
 
 // The line that tells how a breach of a rule is mended, once for a rule.
-fn say_mend(told: &mut [u8], rule: u16) {
+fn say_mend(host: &Host, told: &mut [u8], rule: u16) {
     if is_first(told, sum(HINTS, rule as usize)) {
-        say_line(put_mend(put_text(new_line(), b"    "), rule));
+        say_line(host, put_mend(put_text(new_line(), b"    "), rule));
     }
 }
 
@@ -260,31 +268,34 @@ fn put_lines(l: Line, notes: &[u16], names: &[u8], k: usize, more: usize) -> Lin
 }
 
 // The line of the other statements that have the same reference, if there are any.
-fn say_others(notes: &[u16], names: &[u8], k: usize) {
+fn say_others(host: &Host, notes: &[u16], names: &[u8], k: usize) {
     let more = more_of(notes, k) as usize;
     if more == 0 {
         return;
     }
     let l = put_more(put_text(new_line(), b"    "), notes, names, k, more);
-    say_line(put_lines(l, notes, names, k, more));
+    say_line(host, put_lines(l, notes, names, k, more));
 }
 
 // The statement i as text, with its number and its source line where that is known, behind a line with nothing in it.
-fn say_head(unit: &[u8], parts: Parts, names: &[u8], i: u16, show: Show) {
+fn say_head(host: &Host, unit: &[u8], parts: Parts, names: &[u8], i: u16, show: Show) {
     let line = source_line(names, i);
     let mut l = put_form(line_for(show), b"statement #", i as u64, 0);
     if 0 < line {
         l = put_form(l, b", line #", line as u64, 0);
     }
-    say(b"\n");
-    say_line(cut_to(
-        put_statement(put_text(l, b": "), unit, parts, names, i),
-        STATEMENT,
-    ));
+    say(host, b"\n");
+    say_line(
+        host,
+        cut_to(
+            put_statement(put_text(l, b": "), unit, parts, names, i),
+            STATEMENT,
+        ),
+    );
 }
 
 // The line of a reference: whether it is written or read, and the rule that it breaks.
-fn say_reference(unit: &[u8], parts: Parts, names: &[u8], r: Breaking) {
+fn say_reference(host: &Host, unit: &[u8], parts: Parts, names: &[u8], r: Breaking) {
     let mut l = put_text(new_line(), b"  ");
     l = put_reference(l, unit, parts, names, r);
     if 0 < r.written {
@@ -292,11 +303,12 @@ fn say_reference(unit: &[u8], parts: Parts, names: &[u8], r: Breaking) {
     } else {
         l = put_text(l, b" read: ");
     }
-    say_line(put_rule(l, r.rule));
+    say_line(host, put_rule(l, r.rule));
 }
 
 // The lines of a reference, with its picture if it has one.
 fn say_lines(
+    host: &Host,
     unit: &[u8],
     parts: Parts,
     names: &[u8],
@@ -307,15 +319,24 @@ fn say_lines(
 ) {
     let field = field_of(unit, parts, r.field);
     let a = aim_of(unit, parts, field, r);
-    say_reference(unit, parts, names, r);
-    say_bytes(unit, parts, names, field, r, a);
+    say_reference(host, unit, parts, names, r);
+    say_bytes(host, unit, parts, names, field, r, a);
     if drawn {
-        say_picture(unit, parts, names, data, frame_of(parts, field, r, a), show);
+        say_picture(
+            host,
+            unit,
+            parts,
+            names,
+            data,
+            frame_of(parts, field, r, a),
+            show,
+        );
     }
 }
 
 // The lines of the reference k of those kept, behind those of a statement; its own statement comes first where it is another one. The answer is its statement.
 fn say_kept(
+    host: &Host,
     unit: &[u8],
     parts: Parts,
     names: &[u8],
@@ -328,12 +349,12 @@ fn say_kept(
 ) -> u16 {
     let r = kept_of(notes, k);
     if r.statement != before {
-        say_head(unit, parts, names, r.statement, show);
+        say_head(host, unit, parts, names, r.statement, show);
     }
     let drawn = is_drawn(told, r);
-    say_lines(unit, parts, names, data, r, drawn, show);
-    say_others(notes, names, k);
-    say_mend(told, r.rule);
+    say_lines(host, unit, parts, names, data, r, drawn, show);
+    say_others(host, notes, names, k);
+    say_mend(host, told, r.rule);
     r.statement
 }
 
@@ -371,6 +392,7 @@ fn lines_of(notes: &[u16], told: &[u8], k: usize, before: u16) -> usize {
 
 // The lines of the first n references kept, as many of them as have room in so many lines; and how many these are.
 fn say_all(
+    host: &Host,
     unit: &[u8],
     parts: Parts,
     names: &[u8],
@@ -391,7 +413,7 @@ fn say_all(
             return k;
         }
         left -= lines;
-        before = say_kept(unit, parts, names, data, notes, told, k, before, show);
+        before = say_kept(host, unit, parts, names, data, notes, told, k, before, show);
         k += 1;
     }
     k
@@ -408,7 +430,7 @@ fn put_all(l: Line, kept: usize) -> Line {
 }
 
 // The line that tells how many references are not shown, if there are any.
-fn say_rest(kept: usize, shown: usize) {
+fn say_rest(host: &Host, kept: usize, shown: usize) {
     if kept <= shown {
         return;
     }
@@ -422,7 +444,7 @@ fn say_rest(kept: usize, shown: usize) {
     if more == 1 {
         l = put_text(new_line(), b"\n1 more reference is not shown");
     }
-    say_line(put_all(l, kept));
+    say_line(host, put_all(l, kept));
 }
 
 // Puts how many breaches there are of a rule, if there are any.
@@ -445,7 +467,7 @@ fn put_counts(l: Line, rules: [usize; 7]) -> Line {
 }
 
 // The last line: how many breaches there are, in how many statements, and of which rules.
-fn say_totals(tally: Tally, n: u16) {
+fn say_totals(host: &Host, tally: Tally, n: u16) {
     let rules = tally.rules;
     let mut l = put_form(new_line(), b"\n# breach", tally.breaches as u64, 0);
     if tally.breaches != 1 {
@@ -460,7 +482,7 @@ fn say_totals(tally: Tally, n: u16) {
     if n != 1 {
         l = put_text(l, b"s");
     }
-    say_line(put_counts(put_text(l, b":"), rules));
+    say_line(host, put_counts(put_text(l, b":"), rules));
 }
 
 // How many references are told at most: as many as are asked for, or twenty where no number is given.
@@ -481,6 +503,7 @@ fn room_for(first: usize, breaches: usize) -> usize {
 
 // The lines of a unit whose first breaking statement is given.
 fn say_breaches(
+    host: &Host,
     unit: &[u8],
     parts: Parts,
     names: &[u8],
@@ -496,29 +519,30 @@ fn say_breaches(
     let tally = tally_of(unit, parts, i, rows, notes);
     let most = least(most_told(first), least(tally.kept, KEPT_MOST));
     let room = room_for(first, tally.breaches);
-    let shown = say_all(unit, parts, names, data, notes, most, room, show);
-    say_rest(tally.kept, shown);
-    say_totals(tally, parts.n);
+    let shown = say_all(host, unit, parts, names, data, notes, most, room, show);
+    say_rest(host, tally.kept, shown);
+    say_totals(host, tally, parts.n);
 }
 
 // A no with the first statement that breaks a rule.
-fn say_no(unit: &[u8], names: &[u8], data: &[u8], i: u16, first: usize, show: Show) {
+fn say_no(host: &Host, unit: &[u8], names: &[u8], data: &[u8], i: u16, first: usize, show: Show) {
     match dibol::check(unit) {
-        Checked::Passed(parts) => say_breaches(unit, parts, names, data, i, first, show),
+        Checked::Passed(parts) => say_breaches(host, unit, parts, names, data, i, first, show),
         Checked::Refused(_) => (), // Never so: the fence has answered.
     }
 }
 
 // A refusal with its number and place, and in a line of its own the reason.
-fn say_refused(r: Refusal) {
+fn say_refused(host: &Host, r: Refusal) {
     let number = dibol::refusal_number(r) as u64;
     let place = dibol::refusal_place(r) as u64;
     let l = put_form(new_line(), b"refused # #\n  ", number, place);
-    say_line(put_refusal(l, r));
+    say_line(host, put_refusal(l, r));
 }
 
 // Says the answer over some data, the unit's own or that of a file, and what an owner needs to find and mend the first breaches; and gives the exit status.
 pub fn answer(
+    host: &Host,
     unit: &[u8],
     names: &[u8],
     data: &[u8],
@@ -529,17 +553,17 @@ pub fn answer(
 ) -> u8 {
     match dibol::fence(unit) {
         Verdict::Yes => {
-            say(b"yes\n");
-            status_of(warn(unit, names, data, own, path, show))
+            say(host, b"yes\n");
+            status_of(warn(host, unit, names, data, own, path, show))
         }
         Verdict::No(i) => {
-            say_line(put_form(new_line(), b"no #", i as u64, 0));
-            let warned = warn(unit, names, data, own, path, show);
-            say_no(unit, names, data, i, first, show);
+            say_line(host, put_form(new_line(), b"no #", i as u64, 0));
+            let warned = warn(host, unit, names, data, own, path, show);
+            say_no(host, unit, names, data, i, first, show);
             STOPPED
         }
         Verdict::Refused(r) => {
-            say_refused(r);
+            say_refused(host, r);
             REFUSED
         }
     }

@@ -2,8 +2,8 @@
 use crate::parts::{field_of, figures_of};
 use crate::phrase::{kind_number, put_name};
 use crate::say::{
-    Line, Show, cut, fill_to, least, less, line_for, most, new_line, part, piece, put, put_form,
-    put_number, put_quoted, put_right, put_text, say, say_line, sum, width,
+    Host, Line, Show, cut, fill_to, least, less, line_for, most, new_line, part, piece, put,
+    put_form, put_number, put_quoted, put_right, put_text, say, say_line, sum, width,
 };
 use rules_unit::{Field, Parts, Rule};
 
@@ -274,19 +274,19 @@ fn begins(at: usize, k: usize) -> bool {
 }
 
 // The row of an element's characters from a count on, if a row begins there.
-fn say_characters(s: &[u8], at: usize, t: Columns, show: Show) {
+fn say_characters(host: &Host, s: &[u8], at: usize, t: Columns, show: Show) {
     if !begins(at, ALPHA_ROOM) {
         return;
     }
     let l = fill_to(line_for(show), t.stored);
-    say_line(put_element(l, part(s, at, s.len())));
+    say_line(host, put_element(l, part(s, at, s.len())));
 }
 
 // The rows of an element's characters behind its first row.
-fn say_tail(s: &[u8], t: Columns, show: Show) {
+fn say_tail(host: &Host, s: &[u8], t: Columns, show: Show) {
     let mut at = 1;
     while at < s.len() {
-        say_characters(s, at, t, show);
+        say_characters(host, s, at, t, show);
         at += 1;
     }
 }
@@ -301,38 +301,47 @@ fn put_subscript(l: Line, t: Columns, i: u16) -> Line {
 }
 
 // The rows from the element i on, if a row begins there: that of the element, and those of its further characters.
-fn say_element(parts: Parts, data: &[u8], field: Field, i: u16, t: Columns, show: Show) {
+fn say_element(
+    host: &Host,
+    parts: Parts,
+    data: &[u8],
+    field: Field,
+    i: u16,
+    t: Columns,
+    show: Show,
+) {
     if !begins(i as usize, on_row(field)) {
         return;
     }
     let l = put_subscript(line_for(show), t, i);
-    say_line(put_held(l, t, parts, data, field, i));
-    say_tail(element_of(data, field, i), t, show);
+    say_line(host, put_held(l, t, parts, data, field, i));
+    say_tail(host, element_of(data, field, i), t, show);
 }
 
 // The rows of a field's elements behind those of its first row.
-fn say_others(parts: Parts, data: &[u8], field: Field, t: Columns, show: Show) {
+fn say_others(host: &Host, parts: Parts, data: &[u8], field: Field, t: Columns, show: Show) {
     let mut i: u16 = 1;
     while i < field.count {
-        say_element(parts, data, field, i, t, show);
+        say_element(host, parts, data, field, i, t, show);
         i += 1;
     }
 }
 
 // All rows of a field behind its first. A record has none, since it covers other fields.
-fn say_rest(parts: Parts, data: &[u8], field: Field, t: Columns, show: Show) {
+fn say_rest(host: &Host, parts: Parts, data: &[u8], field: Field, t: Columns, show: Show) {
     let kind = field.kind;
     if kind_number(kind) == RECORD {
         return;
     }
-    say_tail(element_of(data, field, 0), t, show);
-    say_others(parts, data, field, t, show);
+    say_tail(host, element_of(data, field, 0), t, show);
+    say_others(host, parts, data, field, t, show);
 }
 
 // ---- the table
 
 // The rows of the field i over some data: all that it holds, or one with its first elements and how many more there are.
 fn say_field(
+    host: &Host,
     unit: &[u8],
     parts: Parts,
     names: &[u8],
@@ -347,33 +356,41 @@ fn say_field(
     l = put_sizes(l, t, field);
     l = put_held(l, t, parts, data, field, 0);
     if whole {
-        say_line(l);
-        say_rest(parts, data, field, t, show);
+        say_line(host, l);
+        say_rest(host, parts, data, field, t, show);
         return;
     }
-    say_line(put_more(l, field));
+    say_line(host, put_more(l, field));
 }
 
 // The head of the table, after a line with nothing in it.
-fn say_head(t: Columns) {
-    say(b"\n");
+fn say_head(host: &Host, t: Columns) {
+    say(host, b"\n");
     let mut l = fill_to(put_text(new_line(), b"field"), t.kind);
     l = fill_to(put_text(l, b"kind"), t.span);
     l = put_text(l, b"bytes        size  count  stored");
     l = fill_to(l, t.value);
-    say_line(put_text(l, b"value"));
+    say_line(host, put_text(l, b"value"));
 }
 
 // The fields of a unit, with what they hold in some data, the whole of it or its beginning. A unit without fields has no table.
-pub fn say_fields(unit: &[u8], parts: Parts, names: &[u8], data: &[u8], whole: bool, show: Show) {
+pub fn say_fields(
+    host: &Host,
+    unit: &[u8],
+    parts: Parts,
+    names: &[u8],
+    data: &[u8],
+    whole: bool,
+    show: Show,
+) {
     if parts.f < 1 {
         return;
     }
     let t = columns_of(unit, parts, names, data, show);
-    say_head(t);
+    say_head(host, t);
     let mut i: u16 = 0;
     while i < parts.f {
-        say_field(unit, parts, names, data, i, t, whole, show);
+        say_field(host, unit, parts, names, data, i, t, whole, show);
         i += 1;
     }
 }

@@ -4,7 +4,7 @@ use crate::names::{has_lines, label_of, source_line};
 use crate::parts::statement_of;
 use crate::phrase::put_statement;
 use crate::say::{
-    Line, Show, byte_at, cut_to, fill_to, less, line_for, most, new_line, part, piece, put,
+    Host, Line, Show, byte_at, cut_to, fill_to, less, line_for, most, new_line, part, piece, put,
     put_form, put_hex, put_right, put_text, same, say, say_line, set, sum, width,
 };
 use crate::valid::{status_of, warn};
@@ -37,7 +37,7 @@ const UNMARKED: usize = 540;
 // ---- the parts
 
 // The row of the part k, and where the next one starts. A part of entries has a row with their number.
-fn say_part(k: u8, from: usize, len: usize, entries: u16) -> usize {
+fn say_part(host: &Host, k: u8, from: usize, len: usize, entries: u16) -> usize {
     let names = b"data|fields|expressions|literals|statements|trailer|";
     let mut l = put_text(new_line(), piece(names, k));
     l = fill_to(l, BYTES);
@@ -49,24 +49,24 @@ fn say_part(k: u8, from: usize, len: usize, entries: u16) -> usize {
     if 0 < entries {
         l = put_right(l, entries as u64, ENTRIES);
     }
-    say_line(l);
+    say_line(host, l);
     sum(from, len)
 }
 
 // The row of the part k, which has entries of eight bytes.
-fn say_entries(k: u8, from: usize, entries: u16) -> usize {
-    say_part(k, from, entries as usize * 8, entries)
+fn say_entries(host: &Host, k: u8, from: usize, entries: u16) -> usize {
+    say_part(host, k, from, entries as usize * 8, entries)
 }
 
 // The rows of the parts that the trailer names, and where they end.
-fn say_parts(parts: Parts) -> usize {
-    say(b"part         bytes        entries\n");
-    let mut at = say_part(0, 0, parts.d as usize, 0);
-    at = say_entries(1, at, parts.f);
-    at = say_part(2, at, parts.e as usize, 0);
-    at = say_part(3, at, parts.p as usize, 0);
-    at = say_entries(4, at, parts.n);
-    say_part(5, at, 12, 0)
+fn say_parts(host: &Host, parts: Parts) -> usize {
+    say(host, b"part         bytes        entries\n");
+    let mut at = say_part(host, 0, 0, parts.d as usize, 0);
+    at = say_entries(host, 1, at, parts.f);
+    at = say_part(host, 2, at, parts.e as usize, 0);
+    at = say_part(host, 3, at, parts.p as usize, 0);
+    at = say_entries(host, 4, at, parts.n);
+    say_part(host, 5, at, 12, 0)
 }
 
 // ---- the statements
@@ -172,6 +172,7 @@ fn put_place(
 
 // The row of the statement i. Before the first that breaks a rule none is asked for.
 fn say_statement(
+    host: &Host,
     unit: &[u8],
     parts: Parts,
     names: &[u8],
@@ -186,11 +187,12 @@ fn say_statement(
     if first <= i {
         l = put_broken(l, unit, i);
     }
-    say_line(l);
+    say_line(host, l);
 }
 
 // The rows of the statements, the targets among them being marked.
 fn say_rows(
+    host: &Host,
     unit: &[u8],
     parts: Parts,
     names: &[u8],
@@ -202,7 +204,7 @@ fn say_rows(
     let mut i: u16 = 0;
     while i < parts.n {
         let mark = byte_at(marks, i as usize);
-        say_statement(unit, parts, names, i, mark, first, t, show);
+        say_statement(host, unit, parts, names, i, mark, first, t, show);
         i += 1;
     }
 }
@@ -230,24 +232,24 @@ fn columns_of(parts: Parts, names: &[u8], marks: &[u8]) -> Columns {
 }
 
 // The head of the statements, after a line with nothing in it.
-fn say_columns(t: Columns) {
-    say(b"\n");
+fn say_columns(host: &Host, t: Columns) {
+    say(host, b"\n");
     let mut l = put_text(new_line(), b"stmt");
     if NUMBER < t.at {
         l = put_text(l, b"    line");
     }
     l = fill_to(put_text(l, b"     at  coded"), t.reads);
-    say_line(put_text(l, b"reads as"));
+    say_line(host, put_text(l, b"reads as"));
 }
 
 // The statements of a unit, of which the first that breaks a rule is given. A unit has at most 2,048 of them.
-fn say_statements(unit: &[u8], parts: Parts, names: &[u8], first: u16, show: Show) {
+fn say_statements(host: &Host, unit: &[u8], parts: Parts, names: &[u8], first: u16, show: Show) {
     let mut space = [0u8; 2048];
     let marks: &mut [u8] = &mut space;
     mark_targets(unit, parts, marks);
     let t = columns_of(parts, names, marks);
-    say_columns(t);
-    say_rows(unit, parts, names, marks, first, t, show);
+    say_columns(host, t);
+    say_rows(host, unit, parts, names, marks, first, t, show);
 }
 
 // ---- the whole
@@ -262,9 +264,9 @@ fn put_verdict(l: Line, v: Verdict) -> Line {
 }
 
 // The first line of a unit that passes its check.
-fn say_head(unit: &[u8], v: Verdict) {
+fn say_head(host: &Host, unit: &[u8], v: Verdict) {
     let l = put_form(new_line(), b"unit of # bytes", unit.len() as u64, 0);
-    say_line(put_verdict(l, v));
+    say_line(host, put_verdict(l, v));
 }
 
 // The first statement that breaks a rule; one past the last where none does.
@@ -277,29 +279,29 @@ fn first_of(v: Verdict, n: u16) -> u16 {
 
 // A unit that passes its check: what the fence says and whether its own data has an invalid decimal, its parts, its fields over that data, and its statements; and
 // the exit status.
-fn say_passed(unit: &[u8], parts: Parts, names: &[u8], show: Show) -> u8 {
+fn say_passed(host: &Host, unit: &[u8], parts: Parts, names: &[u8], show: Show) -> u8 {
     let v = dibol::fence(unit);
     let data = part(unit, 0, parts.d as usize);
-    say_head(unit, v);
-    let warned = warn(unit, names, data, true, b"", show);
-    say(b"\n");
-    let end = say_parts(parts);
-    say_fields(unit, parts, names, data, false, show);
-    say_statements(unit, parts, names, first_of(v, parts.n), show);
+    say_head(host, unit, v);
+    let warned = warn(host, unit, names, data, true, b"", show);
+    say(host, b"\n");
+    let end = say_parts(host, parts);
+    say_fields(host, unit, parts, names, data, false, show);
+    say_statements(host, unit, parts, names, first_of(v, parts.n), show);
     status_of(warned)
 }
 
 // Says that the parts that the trailer names do not end where the unit does.
-fn say_unfilled(end: usize, len: usize) {
+fn say_unfilled(host: &Host, end: usize, len: usize) {
     if end == len {
         return;
     }
     let form = b"the parts take # bytes, the unit has #";
-    say_line(put_form(new_line(), form, end as u64, len as u64));
+    say_line(host, put_form(new_line(), form, end as u64, len as u64));
 }
 
 // The parts of a unit that is refused, where its trailer can be read.
-fn say_trailer(unit: &[u8]) {
+fn say_trailer(host: &Host, unit: &[u8]) {
     let n = unit.len();
     if n < 12 {
         return;
@@ -307,23 +309,23 @@ fn say_trailer(unit: &[u8]) {
     if !same(part(unit, less(n, 2), 2), b"DB") {
         return;
     }
-    say(b"\n");
-    let end = say_parts(unit_decode::parts_of(unit));
-    say_unfilled(end, n);
+    say(host, b"\n");
+    let end = say_parts(host, unit_decode::parts_of(unit));
+    say_unfilled(host, end, n);
 }
 
 // A unit that is refused: the refusal, and the parts where the trailer can be read.
-fn say_refused(unit: &[u8], r: Refusal) {
-    say_line(put_refused(new_line(), r));
-    say_trailer(unit);
+fn say_refused(host: &Host, unit: &[u8], r: Refusal) {
+    say_line(host, put_refused(new_line(), r));
+    say_trailer(host, unit);
 }
 
 // All that a unit holds, as far as its check lets it be read; and the exit status.
-pub fn answer(unit: &[u8], names: &[u8], show: Show) -> u8 {
+pub fn answer(host: &Host, unit: &[u8], names: &[u8], show: Show) -> u8 {
     match dibol::check(unit) {
-        Checked::Passed(parts) => say_passed(unit, parts, names, show),
+        Checked::Passed(parts) => say_passed(host, unit, parts, names, show),
         Checked::Refused(r) => {
-            say_refused(unit, r);
+            say_refused(host, unit, r);
             REFUSED
         }
     }

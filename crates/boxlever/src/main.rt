@@ -18,9 +18,10 @@ mod words;
 
 use rules_unit::Checked;
 use say::{
-    Read, Show, argument, byte_at, is_number, new_line, number_in, part, piece, put_given,
-    put_text, read_file, same, sum, tell_line,
+    Host, Read, Show, arg_count, argument, byte_at, host_of, is_number, new_line, number_in, part,
+    piece, put_given, put_text, read_file, same, sum, tell_line,
 };
+use std::process::ExitCode;
 use valid::tell_size;
 use words::{FAILED, GOOD};
 
@@ -55,9 +56,6 @@ const NO_NUMBER: u8 = 2;
 
 const NO_FILE: u8 = 3;
 
-// The descriptor that the exit status is written to, where the wrapper asks for it.
-const STATUS: i32 = 3;
-
 // A call as far as it is understood: its word; what its options say, the file of the data being named by an argument, or by none, which is 0; the argument that comes
 // next, what is wrong with it, and whether it is no option.
 #[derive(Clone, Copy)]
@@ -73,120 +71,137 @@ struct Call {
 }
 
 // A call whose words are not those that `--help` tells: the word on standard output says so, the line on standard error why.
-fn usage(what: &[u8], why: &[u8]) -> u8 {
-    say::say(b"usage\n");
+fn usage(host: &Host, what: &[u8], why: &[u8]) -> u8 {
+    say::say(host, b"usage\n");
     let mut l = put_text(new_line(), b"boxlever: ");
     l = put_given(l, what);
     l = put_text(l, why);
-    tell_line(put_text(l, b"; try: boxlever --help"));
+    tell_line(host, put_text(l, b"; try: boxlever --help"));
     FAILED
 }
 
 // A file that cannot be read, for which the reason is told.
-fn unreadable() -> u8 {
-    say::say(b"unreadable\n");
+fn unreadable(host: &Host) -> u8 {
+    say::say(host, b"unreadable\n");
     FAILED
 }
 
 // A file whose bytes are not as many as the data of a unit has.
-fn unfit(path: &[u8], n: usize, file: &[u8], d: usize) -> u8 {
-    tell_size(path, n, file, d);
-    say::say(b"wrong size\n");
+fn unfit(host: &Host, path: &[u8], n: usize, file: &[u8], d: usize) -> u8 {
+    tell_size(host, path, n, file, d);
+    say::say(host, b"wrong size\n");
     FAILED
 }
 
 // ---- the unit and its data
 
 // What the word of a call says of a unit over some data, its own or that of a file, and the exit status.
-fn answer_over(c: Call, unit: &[u8], names: &[u8], data: &[u8], own: bool, file: &[u8]) -> u8 {
+fn answer_over(
+    host: &Host,
+    c: Call,
+    unit: &[u8],
+    names: &[u8],
+    data: &[u8],
+    own: bool,
+    file: &[u8],
+) -> u8 {
     let word = c.word;
     let show = c.show;
     match word {
-        RUN => run::answer(unit, names, data, own, file, show),
-        FENCE => fence::answer(unit, names, data, own, file, c.first, show),
-        _ => list::answer(unit, names, show),
+        RUN => run::answer(host, unit, names, data, own, file, show),
+        FENCE => fence::answer(host, unit, names, data, own, file, c.first, show),
+        _ => list::answer(host, unit, names, show),
     }
 }
 
 // The same over the data of a file, if it has as many bytes as the unit's.
-fn answer_file(c: Call, path: &[u8], unit: &[u8], names: &[u8], d: usize, file: &[u8]) -> u8 {
+fn answer_file(
+    host: &Host,
+    c: Call,
+    path: &[u8],
+    unit: &[u8],
+    names: &[u8],
+    d: usize,
+    file: &[u8],
+) -> u8 {
     let mut buf = io::large_buffer();
-    match read_file(file, &mut buf) {
+    match read_file(host, file, &mut buf) {
         Read::Whole(n) => {
             if n != d {
-                return unfit(path, n, file, d);
+                return unfit(host, path, n, file, d);
             }
-            answer_over(c, unit, names, part(&buf, 0, n), false, file)
+            answer_over(host, c, unit, names, part(&buf, 0, n), false, file)
         }
-        Read::Failed(_) => unreadable(),
+        Read::Failed(_) => unreadable(host),
     }
 }
 
 // The same over the data that the call names, of which the unit has so many bytes.
-fn answer_data(c: Call, path: &[u8], unit: &[u8], names: &[u8], d: usize) -> u8 {
+fn answer_data(host: &Host, c: Call, path: &[u8], unit: &[u8], names: &[u8], d: usize) -> u8 {
     if c.file == 0 {
-        return answer_over(c, unit, names, part(unit, 0, d), true, b"");
+        return answer_over(host, c, unit, names, part(unit, 0, d), true, b"");
     }
     let mut file = io::buffer();
-    let n = argument(c.file, &mut file);
-    answer_file(c, path, unit, names, d, &file[..n])
+    let n = argument(host, c.file, &mut file);
+    answer_file(host, c, path, unit, names, d, &file[..n])
 }
 
 // The same of a unit with its names. One that is refused is so whatever the data.
-fn answer_named(c: Call, path: &[u8], unit: &[u8], names: &[u8]) -> u8 {
+fn answer_named(host: &Host, c: Call, path: &[u8], unit: &[u8], names: &[u8]) -> u8 {
     match dibol::check(unit) {
-        Checked::Passed(parts) => answer_data(c, path, unit, names, parts.d as usize),
-        Checked::Refused(_) => answer_over(c, unit, names, part(unit, 0, 0), true, b""),
+        Checked::Passed(parts) => answer_data(host, c, path, unit, names, parts.d as usize),
+        Checked::Refused(_) => answer_over(host, c, unit, names, part(unit, 0, 0), true, b""),
     }
 }
 
 // The same of a unit by its name and its bytes.
-fn answer_unit(c: Call, path: &[u8], unit: &[u8]) -> u8 {
+fn answer_unit(host: &Host, c: Call, path: &[u8], unit: &[u8]) -> u8 {
     let mut space = io::large_buffer();
-    let n = names::read(path, unit, c.plain, &mut space);
-    answer_named(c, path, unit, part(&space, 0, n))
+    let n = names::read(host, path, unit, c.plain, &mut space);
+    answer_named(host, c, path, unit, part(&space, 0, n))
 }
 
 // The same of the unit in a file. More bytes than the longest unit has are read, so that a longer file is refused.
-fn answer_path(c: Call, path: &[u8]) -> u8 {
+fn answer_path(host: &Host, c: Call, path: &[u8]) -> u8 {
     let mut buf = io::large_buffer();
-    match read_file(path, &mut buf) {
-        Read::Whole(n) => answer_unit(c, path, part(&buf, 0, n)),
-        Read::Failed(_) => unreadable(),
+    match read_file(host, path, &mut buf) {
+        Read::Whole(n) => answer_unit(host, c, path, part(&buf, 0, n)),
+        Read::Failed(_) => unreadable(host),
     }
 }
 
 // Whether an argument is standard input. There is none with the number 0.
-fn is_input(at: usize) -> bool {
+fn is_input(host: &Host, at: usize) -> bool {
     if at == 0 {
         return false;
     }
     let mut name = io::buffer();
-    let n = argument(at, &mut name);
+    let n = argument(host, at, &mut name);
     same(&name[..n], b"-")
 }
 
 // What a word says of the one file that is named. Standard input is read once.
-fn answer_one(name: &[u8], c: Call) -> u8 {
-    if os::arg_count() != sum(c.at, 1) {
-        return usage(name, b": one FILE is wanted");
+fn answer_one(host: &Host, name: &[u8], c: Call) -> u8 {
+    if arg_count(host) != sum(c.at, 1) {
+        return usage(host, name, b": one FILE is wanted");
     }
-    if is_input(c.file) {
-        if is_input(c.at) {
-            return usage(b"--data", b": standard input is the unit already");
+    if is_input(host, c.file) {
+        if is_input(host, c.at) {
+            return usage(host, b"--data", b": standard input is the unit already");
         }
     }
     let mut path = io::buffer();
-    let n = argument(c.at, &mut path);
-    answer_path(c, &path[..n])
+    let n = argument(host, c.at, &mut path);
+    answer_path(host, c, &path[..n])
 }
 
 // The table of the files that are named, over the data of a file.
-fn check_over(c: Call, count: usize, file: &[u8]) -> u8 {
+fn check_over(host: &Host, c: Call, count: usize, file: &[u8]) -> u8 {
     let mut buf = io::large_buffer();
     let show = c.show;
-    match read_file(file, &mut buf) {
+    match read_file(host, file, &mut buf) {
         Read::Whole(n) => check::check_files(
+            host,
             c.at,
             count,
             c.plain,
@@ -195,23 +210,23 @@ fn check_over(c: Call, count: usize, file: &[u8]) -> u8 {
             file,
             show,
         ),
-        Read::Failed(_) => unreadable(),
+        Read::Failed(_) => unreadable(host),
     }
 }
 
 // The table of the files that are named.
-fn answer_check(c: Call) -> u8 {
-    let count = os::arg_count();
+fn answer_check(host: &Host, c: Call) -> u8 {
+    let count = arg_count(host);
     if count <= c.at {
-        return usage(b"check", b": FILES or FOLDERS are wanted");
+        return usage(host, b"check", b": FILES or FOLDERS are wanted");
     }
     if c.file == 0 {
         let show = c.show;
-        return check::check_files(c.at, count, c.plain, true, b"", b"", show);
+        return check::check_files(host, c.at, count, c.plain, true, b"", b"", show);
     }
     let mut file = io::buffer();
-    let n = argument(c.file, &mut file);
-    check_over(c, count, &file[..n])
+    let n = argument(host, c.file, &mut file);
+    check_over(host, c, count, &file[..n])
 }
 
 // ---- options
@@ -271,14 +286,14 @@ fn after_first(c: Call, value: &[u8]) -> Call {
 }
 
 // The call after the option k, which has a value.
-fn after_valued(c: Call, k: u8) -> Call {
+fn after_valued(host: &Host, c: Call, k: u8) -> Call {
     let at = sum(c.at, 1);
     if k == FIRST {
         let mut value = io::buffer();
-        let n = argument(at, &mut value);
+        let n = argument(host, at, &mut value);
         return after_first(c, &value[..n]);
     }
-    if os::arg_count() <= at {
+    if arg_count(host) <= at {
         return wrong(c, NO_FILE);
     }
     let mut next = moved(c, 2);
@@ -300,7 +315,7 @@ fn after_flag(c: Call, k: u8) -> Call {
 }
 
 // The call after an option.
-fn after_option(c: Call, arg: &[u8]) -> Call {
+fn after_option(host: &Host, c: Call, arg: &[u8]) -> Call {
     let k = place_in(b"--latin1|--plain|--raw|--first|--data|", arg, OPTIONS);
     if !has_option(c.word, k) {
         return wrong(c, UNKNOWN);
@@ -308,18 +323,18 @@ fn after_option(c: Call, arg: &[u8]) -> Call {
     if k < FIRST {
         return after_flag(c, k);
     }
-    after_valued(c, k)
+    after_valued(host, c, k)
 }
 
 // The call after its next argument. A `--` ends the options.
-fn taken(c: Call, arg: &[u8]) -> Call {
+fn taken(host: &Host, c: Call, arg: &[u8]) -> Call {
     let mut next = c;
     if !is_option(arg) {
         next.ready = true;
         return next;
     }
     if !same(arg, b"--") {
-        return after_option(c, arg);
+        return after_option(host, c, arg);
     }
     next.ready = true;
     next.at = sum(c.at, 1);
@@ -327,7 +342,7 @@ fn taken(c: Call, arg: &[u8]) -> Call {
 }
 
 // The call after its next argument, if that may be an option.
-fn with_option(c: Call) -> Call {
+fn with_option(host: &Host, c: Call) -> Call {
     if c.ready {
         return c;
     }
@@ -335,113 +350,117 @@ fn with_option(c: Call) -> Call {
         return c;
     }
     let mut arg = io::buffer();
-    let n = argument(c.at, &mut arg);
-    taken(c, &arg[..n])
+    let n = argument(host, c.at, &mut arg);
+    taken(host, c, &arg[..n])
 }
 
 // The call after all of its options, or before one that is wrong.
-fn with_options(c: Call) -> Call {
+fn with_options(host: &Host, c: Call) -> Call {
     let mut next = c;
-    let mut left = os::arg_count();
+    let mut left = arg_count(host);
     while 0 < left {
-        next = with_option(next);
+        next = with_option(host, next);
         left -= 1;
     }
     next
 }
 
 // A call with an option that is wrong.
-fn wrong_option(c: Call) -> u8 {
+fn wrong_option(host: &Host, c: Call) -> u8 {
     let mut arg = io::buffer();
-    let n = argument(c.at, &mut arg);
+    let n = argument(host, c.at, &mut arg);
     let whys = b"|\
         : there is no such option|\
         : a number from 1 on is wanted|\
         : a FILE is wanted|";
-    usage(&arg[..n], piece(whys, c.wrong))
+    usage(host, &arg[..n], piece(whys, c.wrong))
 }
 
 // Answers a call by a word that takes files, whose options and files stand from an argument on.
-fn answer_call(name: &[u8], word: u8, from: usize) -> u8 {
-    let c = with_options(Call {
-        word: word,
-        show: Show {
-            raw: false,
-            letters: false,
+fn answer_call(host: &Host, name: &[u8], word: u8, from: usize) -> u8 {
+    let c = with_options(
+        host,
+        Call {
+            word: word,
+            show: Show {
+                raw: false,
+                letters: false,
+            },
+            plain: false,
+            first: 0,
+            file: 0,
+            at: from,
+            wrong: NOTHING,
+            ready: false,
         },
-        plain: false,
-        first: 0,
-        file: 0,
-        at: from,
-        wrong: NOTHING,
-        ready: false,
-    });
+    );
     if c.wrong != NOTHING {
-        return wrong_option(c);
+        return wrong_option(host, c);
     }
     if c.word == CHECK {
-        return answer_check(c);
+        return answer_check(host, c);
     }
-    answer_one(name, c)
+    answer_one(host, name, c)
 }
 
 // ---- words
 
 // Writes all that the program can be called with.
-fn help() -> u8 {
+fn help(host: &Host) -> u8 {
     say::say(
+        host,
         b"usage: boxlever run [OPTIONS] FILE       run the unit, then show its fields\n       boxlever fence [OPTIONS] FILE     show whether it can slip, where and why\n       boxlever list [OPTIONS] FILE      show its parts, fields and statements\n       boxlever check [OPTIONS] FILES..  a row with the fence's answer for each\n\nFILE is a coded DIBOL unit, or - for standard input; of check it may be a\nfolder, too, and stands for each *.unit below it. Fields and labels have the\nnames that X.names beside X.unit gives them, where it fits the unit. A run\ntakes at most 100,000 statements. A byte that cannot be printed is shown as\n\\xHH, a backslash as \\\\.\n\noptions: --data FILE  not of list: take the data in FILE, not the unit's own\n         --first N    of fence: tell N references, not 20\n         --latin1     show the bytes A1 to FF, but AD, as letters of Latin-1\n         --plain      name fields and labels by numbers: A0, D3, L7\n         --raw        of run: leave the data, its second line, as it is\n         --           ends the options\n\nstatus:  0 yes, or the end of a run; 1 no, a run that stopped, or a warning;\n         2 refused; 3 wrong usage, or a file that cannot be used\n\nexample: boxlever fence fares.unit\n",
     );
     GOOD
 }
 
 // Writes the version.
-fn version() -> u8 {
-    say::say(b"boxlever 0.4.0\n");
+fn version(host: &Host) -> u8 {
+    say::say(host, b"boxlever 0.4.0\n");
     GOOD
 }
 
 // Answers a call by its word; what belongs to it stands from an argument on.
-fn answer_word(name: &[u8], from: usize) -> u8 {
+fn answer_word(host: &Host, name: &[u8], from: usize) -> u8 {
     let words = b"run|fence|list|check|--help|-h|--version|";
     let k = place_in(words, name, WORDS);
     if k < HELP {
-        return answer_call(name, k, from);
+        return answer_call(host, name, k, from);
     }
     match k {
-        VERSION => version(),
-        WORDS => usage(name, b": there is no such word"),
-        _ => help(),
+        VERSION => version(host),
+        WORDS => usage(host, name, b": there is no such word"),
+        _ => help(host),
     }
 }
 
 // Answers a call whose word is an argument, and gives the exit status.
-fn answer(at: usize) -> u8 {
-    if os::arg_count() <= at {
-        return usage(b"nothing", b" is asked");
+fn answer(host: &Host, at: usize) -> u8 {
+    if arg_count(host) <= at {
+        return usage(host, b"nothing", b" is asked");
     }
     let mut name = io::buffer();
-    let n = argument(at, &mut name);
-    answer_word(&name[..n], sum(at, 1))
+    let n = argument(host, at, &mut name);
+    answer_word(host, &name[..n], sum(at, 1))
 }
 
 // Answers a call, and gives the exit status: an answer that is not written to its end has failed.
-fn status_of(at: usize) -> u8 {
-    let status = answer(at);
-    if say::end() {
+fn status_of(host: &Host, at: usize) -> u8 {
+    let status = answer(host, at);
+    if say::end(host) {
         return status;
     }
     FAILED
 }
 
-// A program of the kit has no exit status. By `--status` as its first argument the wrapper asks for it as a digit on another descriptor.
-fn main() {
+// The exit status is that of the answer where the wrapper asks for it, by `--status` as the first argument; else it is 0.
+fn main(rt: HostRuntime) -> ExitCode {
+    let host = host_of(rt);
     let mut first = io::buffer();
-    let n = argument(1, &mut first);
+    let n = argument(&host, 1, &mut first);
     if same(&first[..n], b"--status") {
-        let status = status_of(2);
-        let done = io::write_all(STATUS, part(b"0123", status as usize, 1));
-        return;
+        return ExitCode::from(status_of(&host, 2));
     }
-    let status = status_of(1);
+    let status = status_of(&host, 1);
+    ExitCode::SUCCESS
 }

@@ -3,10 +3,13 @@
 // checked whole against its unit. One that fits is handed on as it is, and an empty text for any other; a row is found by halving, since the
 // rows rise. Names are shown and nothing more: no answer depends on one.
 use crate::say::{
-    Line, byte_at, is_figure, is_number, less, new_line, number_in, part, piece, piece_end,
-    put_form, put_given, put_hex, put_text, same, set, sum, tell_line, word,
+    Host, Line, MISSING, PATH, byte_at, fail, is_figure, is_number, less, new_line, number_in,
+    number_of, open, part, piece, piece_end, put_form, put_given, put_hex, put_text, read_full,
+    same, set, sum, tell_line, word,
 };
 use rules_unit::Parts;
+use std::fs::File;
+use std::io::{Error, Read};
 
 // The key of a statement's row is so much above its number, that of a field's row one: so the keys of the rows rise.
 const STATEMENT: usize = 100000;
@@ -20,10 +23,8 @@ const LENGTH_MOST: usize = 5;
 
 const CRC_FIGURES: usize = 8;
 
-// The bytes of a first line without its length and its source, and the room of the name of a names file.
+// The bytes of a first line without its length and its source.
 const HEAD: usize = 27;
-
-const PATH: usize = 4096;
 
 // How many names of fields and of labels are noted, each by where it stands.
 const SLOTS: usize = 4096;
@@ -572,21 +573,21 @@ fn told_of(path: &[u8]) -> Line {
 }
 
 // Ends a line that tells why names are not used.
-fn tell_unused(l: Line) {
-    tell_line(put_text(l, b"; names are not used"));
+fn tell_unused(host: &Host, l: Line) {
+    tell_line(host, put_text(l, b"; names are not used"));
 }
 
 // Tells that a first line is that of another unit.
-fn tell_other(path: &[u8], line: &[u8]) {
+fn tell_other(host: &Host, path: &[u8], line: &[u8]) {
     let mut l = put_text(told_of(path), b": is for another unit (");
     l = put_text(l, word(line, 3));
     l = put_text(l, b" bytes, ");
     l = put_text(l, word(line, 4));
-    tell_unused(put_text(l, b")"));
+    tell_unused(host, put_text(l, b")"));
 }
 
 // Tells what is wrong with a line.
-fn tell_fault(path: &[u8], line: usize, fault: u8) {
+fn tell_fault(host: &Host, path: &[u8], line: usize, fault: u8) {
     let faults = b"|\
         is not of the form that is wanted|\
         has a number that the unit has not|\
@@ -594,36 +595,36 @@ fn tell_fault(path: &[u8], line: usize, fault: u8) {
         has a name that stands above already|\
         has no end|";
     let l = put_form(told_of(path), b": line # ", line as u64, 0);
-    tell_unused(put_text(l, piece(faults, fault)));
+    tell_unused(host, put_text(l, piece(faults, fault)));
 }
 
 // Whether the rows of a names file fit its unit; if not, it is told why.
-fn has_rows(path: &[u8], names: &[u8], parts: Parts) -> bool {
+fn has_rows(host: &Host, path: &[u8], names: &[u8], parts: Parts) -> bool {
     let mut slots = [0u16; 8192];
     let w = walked(names, parts, &mut slots);
     if w.fault == NOTHING {
         return true;
     }
-    tell_fault(path, w.line, w.fault);
+    tell_fault(host, path, w.line, w.fault);
     false
 }
 
 // Whether a names file fits its unit; if not, it is told why.
-fn fits(path: &[u8], names: &[u8], unit: &[u8], parts: Parts) -> bool {
+fn fits(host: &Host, path: &[u8], names: &[u8], unit: &[u8], parts: Parts) -> bool {
     let line = line_at(names, 0);
     if !is_first(line) {
-        tell_fault(path, 1, FORM);
+        tell_fault(host, path, 1, FORM);
         return false;
     }
     if !is_of(line, unit) {
-        tell_other(path, line);
+        tell_other(host, path, line);
         return false;
     }
     if line.len() == names.len() {
-        tell_fault(path, 1, UNENDED);
+        tell_fault(host, path, 1, UNENDED);
         return false;
     }
-    has_rows(path, names, parts)
+    has_rows(host, path, names, parts)
 }
 
 // ---- its file
@@ -647,65 +648,80 @@ fn stem_of(path: &[u8]) -> usize {
 }
 
 // Tells that a names file is longer than any.
-fn tell_long(path: &[u8], most: usize) {
+fn tell_long(host: &Host, path: &[u8], most: usize) {
     let l = put_form(told_of(path), b": has more than # bytes", most as u64, 0);
-    tell_unused(l);
+    tell_unused(host, l);
 }
 
-// Tells why a names file cannot be read, right after the call that failed. That there is none is not told.
-fn tell_unread(path: &[u8]) {
-    if os::errno() == libc::ENOENT {
+// Tells why a names file cannot be read. That there is none is not told.
+fn tell_unread(host: &Host, path: &[u8], e: Error) {
+    if number_of(e) == MISSING {
         return;
     }
     let l = put_given(
         put_text(new_line(), b"boxlever: names are not used: "),
         path,
     );
-    let text = l.text;
-    os::fail(part(&text, 0, l.at));
+    fail(host, l, e);
 }
 
-// Whether a names file was read to its end, where `io::read_full` gave so many bytes as fill its buffer or less; if not, it is told why.
-fn is_whole(fd: i32, path: &[u8], most: usize) -> bool {
+// Whether a names file was read to its end, where `read_full` gave so many bytes as fill its buffer or less; if not, it is told why.
+fn is_whole(host: &Host, file: &mut File, path: &[u8], most: usize) -> bool {
     let mut space = [0u8; 1];
-    let got = libc::read(fd, &mut space);
-    if got == 0 {
-        return true;
+    match file.read(&mut space) {
+        Ok(0) => true,
+        Ok(_) => {
+            tell_long(host, path, most);
+            false
+        }
+        Err(e) => {
+            tell_unread(host, path, e);
+            false
+        }
     }
-    if got < 0 {
-        tell_unread(path);
-    } else {
-        tell_long(path, most);
-    }
-    false
 }
 
 // Reads a names file that is open into a buffer, and answers its length; 0 where it does not fit its unit.
-fn read_open(fd: i32, path: &[u8], unit: &[u8], parts: Parts, buf: &mut [u8]) -> usize {
-    let n = io::read_full(fd, buf);
-    if !is_whole(fd, path, buf.len()) {
+fn read_open(
+    host: &Host,
+    file: &mut File,
+    path: &[u8],
+    unit: &[u8],
+    parts: Parts,
+    buf: &mut [u8],
+) -> usize {
+    let n = match read_full(file, buf) {
+        Ok(n) => n,
+        Err(e) => {
+            tell_unread(host, path, e);
+            return 0;
+        }
+    };
+    if !is_whole(host, file, path, buf.len()) {
         return 0;
     }
-    if fits(path, part(buf, 0, n), unit, parts) {
+    if fits(host, path, part(buf, 0, n), unit, parts) {
         return n;
     }
     0
 }
 
 // The same of a names file by its name.
-fn read_file(path: &[u8], unit: &[u8], parts: Parts, buf: &mut [u8]) -> usize {
-    let fd = os::open_read(path);
-    if fd < 0 {
-        tell_unread(path);
-        return 0;
+fn read_file(host: &Host, path: &[u8], unit: &[u8], parts: Parts, buf: &mut [u8]) -> usize {
+    match open(host, path) {
+        Ok(file) => {
+            let mut file = file;
+            read_open(host, &mut file, path, unit, parts, buf)
+        }
+        Err(e) => {
+            tell_unread(host, path, e);
+            0
+        }
     }
-    let n = read_open(fd, path, unit, parts, buf);
-    let closed = libc::close(fd);
-    n
 }
 
 // The same of the names file of a unit by the unit's name. No file has a longer name than fits.
-fn read_beside(path: &[u8], unit: &[u8], parts: Parts, buf: &mut [u8]) -> usize {
+fn read_beside(host: &Host, path: &[u8], unit: &[u8], parts: Parts, buf: &mut [u8]) -> usize {
     let mut space = io::buffer();
     let n = stem_of(path);
     let end = sum(n, 6);
@@ -714,12 +730,12 @@ fn read_beside(path: &[u8], unit: &[u8], parts: Parts, buf: &mut [u8]) -> usize 
     }
     write_at(&mut space, 0, part(path, 0, n));
     write_at(&mut space, n, b".names");
-    read_file(part(&space, 0, end), unit, parts, buf)
+    read_file(host, part(&space, 0, end), unit, parts, buf)
 }
 
 // Reads the names of a unit into a buffer, and answers how many bytes they are: 0 where none are asked for, where the unit comes from standard input
 // or its parts do not fill it, and where its names file is missing or does not fit.
-pub fn read(path: &[u8], unit: &[u8], plain: bool, buf: &mut [u8]) -> usize {
+pub fn read(host: &Host, path: &[u8], unit: &[u8], plain: bool, buf: &mut [u8]) -> usize {
     if plain {
         return 0;
     }
@@ -733,5 +749,5 @@ pub fn read(path: &[u8], unit: &[u8], plain: bool, buf: &mut [u8]) -> usize {
     if unit_decode::full_length(parts) != unit.len() {
         return 0;
     }
-    read_beside(path, unit, parts, buf)
+    read_beside(host, path, unit, parts, buf)
 }

@@ -4,8 +4,8 @@
 use crate::names::{field_name, put_label, source_line};
 use crate::parts::{field_of, literal_of, next_of, statement_of};
 use crate::say::{
-    Line, ROOM, Show, byte_at, cut, less, line_for, piece, put, put_between, put_form, put_number,
-    put_quoted, put_text, say_line, sum,
+    Host, Line, ROOM, Show, byte_at, cut, less, line_for, piece, put, put_between, put_form,
+    put_number, put_quoted, put_text, say_line, sum,
 };
 use rules_unit::{Field, Form, Item, Kind, Op, Parts, Role, Statement};
 
@@ -388,7 +388,7 @@ fn put_place(l: Line, names: &[u8], i: u16) -> Line {
 }
 
 // The statement i as text, with its number.
-pub fn say_statement(unit: &[u8], parts: Parts, names: &[u8], i: u16, show: Show) {
+pub fn say_statement(host: &Host, unit: &[u8], parts: Parts, names: &[u8], i: u16, show: Show) {
     let l = put_text(put_place(line_for(show), names, i), b": ");
-    say_line(put_statement(l, unit, parts, names, i));
+    say_line(host, put_statement(l, unit, parts, names, i));
 }

@@ -7,8 +7,8 @@ use crate::fields::{is_strict, start_of};
 use crate::parts::field_of;
 use crate::phrase::{kind_number, put_name};
 use crate::say::{
-    Line, ROOM, Show, byte_at, cut, fill_to, least, less, line_for, most, new_line, part, put,
-    put_form, put_given, put_number, put_text, say_line, sum, width,
+    Host, Line, ROOM, Show, byte_at, cut, fill_to, least, less, line_for, most, new_line, part,
+    put, put_form, put_given, put_number, put_text, say_line, sum, width,
 };
 use rules_unit::{Field, Parts};
 
@@ -706,21 +706,29 @@ fn trimmed(l: Line) -> Line {
 }
 
 // Writes a line, if there is something in it.
-fn say_row(l: Line) {
+fn say_row(host: &Host, l: Line) {
     let row = trimmed(l);
     if 0 < row.at {
-        say_line(row);
+        say_line(host, row);
     }
 }
 
 // The four lines of a picture; none where no byte is named.
-pub fn say_picture(unit: &[u8], parts: Parts, names: &[u8], data: &[u8], f: Frame, show: Show) {
+pub fn say_picture(
+    host: &Host,
+    unit: &[u8],
+    parts: Parts,
+    names: &[u8],
+    data: &[u8],
+    f: Frame,
+    show: Show,
+) {
     if f.end <= f.from {
         return;
     }
     let c = chosen_for(unit, parts, f);
-    say_row(labels_of(unit, parts, names, f, c, false));
-    say_line(put_cells(line_for(show), parts, data, c));
-    say_row(labels_of(unit, parts, names, f, c, true));
-    say_row(marks_of(unit, parts, f, c));
+    say_row(host, labels_of(unit, parts, names, f, c, false));
+    say_line(host, put_cells(line_for(show), parts, data, c));
+    say_row(host, labels_of(unit, parts, names, f, c, true));
+    say_row(host, marks_of(unit, parts, f, c));
 }

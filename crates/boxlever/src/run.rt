@@ -3,7 +3,8 @@
 use crate::fields::say_fields;
 use crate::phrase::{put_statement, say_statement};
 use crate::say::{
-    Line, Show, line_for, new_line, put, put_form, put_number, put_text, say, say_line, say_shown,
+    Host, Line, Show, line_for, new_line, put, put_form, put_number, put_text, say, say_line,
+    say_shown,
 };
 use crate::valid::{status_of, warn};
 use crate::words::{REFUSED, STOPPED, put_place, put_stop};
@@ -11,9 +12,9 @@ use rules_run::{Caught, Loop, Outcome, State};
 use rules_unit::{Checked, Parts, Refusal};
 
 // The bench program's first line.
-fn say_numbers(number: u8, place: u16, count: u64) {
+fn say_numbers(host: &Host, number: u8, place: u16, count: u64) {
     let l = put_form(new_line(), b"# # ", number as u64, place as u64);
-    say_line(put_number(l, count));
+    say_line(host, put_number(l, count));
 }
 
 // Puts a stop and how many statements were completed.
@@ -25,15 +26,15 @@ fn put_count(l: Line, number: u8, count: u64) -> Line {
 }
 
 // The stop of a run in words.
-fn say_stop(number: u8, count: u64) {
+fn say_stop(host: &Host, number: u8, count: u64) {
     let l = put_count(new_line(), number, count);
-    say_line(put_stop(l, number));
+    say_line(host, put_stop(l, number));
 }
 
 // The statement that could not be completed, or that would be the next; there is none at the end.
-fn say_place(unit: &[u8], parts: Parts, names: &[u8], place: u16, show: Show) {
+fn say_place(host: &Host, unit: &[u8], parts: Parts, names: &[u8], place: u16, show: Show) {
     if place < parts.n {
-        say_statement(unit, parts, names, place, show);
+        say_statement(host, unit, parts, names, place, show);
     }
 }
 
@@ -47,7 +48,7 @@ fn put_value(l: Line, v: i64) -> Line {
 }
 
 // An open loop: its FOR, with the limit and the step that it was entered with.
-fn say_loop(unit: &[u8], parts: Parts, names: &[u8], open: Loop, show: Show) {
+fn say_loop(host: &Host, unit: &[u8], parts: Parts, names: &[u8], open: Loop, show: Show) {
     let entry = open.entry;
     let mut l = put_form(
         line_for(show),
@@ -58,72 +59,97 @@ fn say_loop(unit: &[u8], parts: Parts, names: &[u8], open: Loop, show: Show) {
     l = put_value(l, open.limit);
     l = put_value(put_text(l, b" by "), open.step);
     l = put_text(l, b": ");
-    say_line(put_statement(l, unit, parts, names, entry));
+    say_line(host, put_statement(l, unit, parts, names, entry));
 }
 
 // The loops that are still open, the one opened last first.
-fn say_loops(unit: &[u8], parts: Parts, names: &[u8], state: State, show: Show) {
+fn say_loops(host: &Host, unit: &[u8], parts: Parts, names: &[u8], state: State, show: Show) {
     let loops = state.loops;
     let mut left = state.opened as usize;
     while 0 < left {
         left -= 1;
         if left < 16 {
-            say_loop(unit, parts, names, loops[left], show);
+            say_loop(host, unit, parts, names, loops[left], show);
         }
     }
 }
 
 // An error that was trapped, and its statement.
-fn say_error(unit: &[u8], parts: Parts, names: &[u8], number: u8, statement: u16, show: Show) {
-    say(b"\n");
+fn say_error(
+    host: &Host,
+    unit: &[u8],
+    parts: Parts,
+    names: &[u8],
+    number: u8,
+    statement: u16,
+    show: Show,
+) {
+    say(host, b"\n");
     let l = put_form(new_line(), b"last trapped error #: ", number as u64, 0);
-    say_line(put_stop(l, number));
-    say_statement(unit, parts, names, statement, show);
+    say_line(host, put_stop(l, number));
+    say_statement(host, unit, parts, names, statement, show);
 }
 
 // The last error, where one was trapped.
-fn say_caught(unit: &[u8], parts: Parts, names: &[u8], caught: Caught, show: Show) {
+fn say_caught(host: &Host, unit: &[u8], parts: Parts, names: &[u8], caught: Caught, show: Show) {
     match caught {
         Caught::None => {}
         Caught::Error { number, statement } => {
-            say_error(unit, parts, names, number, statement, show)
+            say_error(host, unit, parts, names, number, statement, show)
         }
     }
 }
 
 // The data: as it is shown, or as it is.
-fn say_data(data: &[u8], show: Show) {
+fn say_data(host: &Host, data: &[u8], show: Show) {
     if !show.raw {
-        say_shown(data, show);
+        say_shown(host, data, show);
         return;
     }
-    say(data);
-    say(b"\n");
+    say(host, data);
+    say(host, b"\n");
 }
 
 // What is said of how a run ended: the bench program's lines, the stop in words with its statement, and the open loops.
-fn say_end(unit: &[u8], parts: Parts, names: &[u8], data: &[u8], out: Outcome, show: Show) -> u8 {
+fn say_end(
+    host: &Host,
+    unit: &[u8],
+    parts: Parts,
+    names: &[u8],
+    data: &[u8],
+    out: Outcome,
+    show: Show,
+) -> u8 {
     let stop = out.stop;
     let number = dibol::stop_number(stop);
-    say_numbers(number, out.place, out.count);
-    say_data(data, show);
-    say_stop(number, out.count);
-    say_place(unit, parts, names, out.place, show);
-    say_loops(unit, parts, names, out.state, show);
+    say_numbers(host, number, out.place, out.count);
+    say_data(host, data, show);
+    say_stop(host, number, out.count);
+    say_place(host, unit, parts, names, out.place, show);
+    say_loops(host, unit, parts, names, out.state, show);
     number
 }
 
 // What is said of what a run leaves: the fields, and the last error that was trapped.
-fn say_left(unit: &[u8], parts: Parts, names: &[u8], data: &[u8], out: Outcome, show: Show) {
-    say_fields(unit, parts, names, data, true, show);
+fn say_left(
+    host: &Host,
+    unit: &[u8],
+    parts: Parts,
+    names: &[u8],
+    data: &[u8],
+    out: Outcome,
+    show: Show,
+) {
+    say_fields(host, unit, parts, names, data, true, show);
     let state = out.state;
     let trap = state.trap;
     let caught = trap.caught;
-    say_caught(unit, parts, names, caught, show);
+    say_caught(host, unit, parts, names, caught, show);
 }
 
 // Runs a unit over data that starts as the bytes given, and gives the exit status.
 fn run_data(
+    host: &Host,
     unit: &[u8],
     parts: Parts,
     names: &[u8],
@@ -135,9 +161,9 @@ fn run_data(
 ) -> u8 {
     alpha::fit(data, from);
     let out = dibol::run(unit, data, dibol::start(), 100000);
-    let number = say_end(unit, parts, names, data, out, show);
-    let warned = warn(unit, names, from, own, path, show);
-    say_left(unit, parts, names, data, out, show);
+    let number = say_end(host, unit, parts, names, data, out, show);
+    let warned = warn(host, unit, names, from, own, path, show);
+    say_left(host, unit, parts, names, data, out, show);
     if number == 0 {
         return status_of(warned);
     }
@@ -146,6 +172,7 @@ fn run_data(
 
 // Runs a unit that passes its check, and gives the exit status.
 fn run_unit(
+    host: &Host,
     unit: &[u8],
     parts: Parts,
     names: &[u8],
@@ -156,25 +183,43 @@ fn run_unit(
 ) -> u8 {
     let mut data = [0u8; 65536];
     let end = parts.d as usize;
-    run_data(unit, parts, names, from, own, path, &mut data[0..end], show)
+    run_data(
+        host,
+        unit,
+        parts,
+        names,
+        from,
+        own,
+        path,
+        &mut data[0..end],
+        show,
+    )
 }
 
 // Of a unit that is refused there is the first line and the reason.
-fn say_refused(r: Refusal) {
+fn say_refused(host: &Host, r: Refusal) {
     let number = dibol::refusal_number(r);
-    say_numbers(number, dibol::refusal_place(r), 0);
+    say_numbers(host, number, dibol::refusal_place(r), 0);
     let mut l = put_form(new_line(), b"stop #", number as u64, 0);
     l = put_place(l, r);
     l = put_text(l, b": ");
-    say_line(put_stop(l, number));
+    say_line(host, put_stop(l, number));
 }
 
 // Runs a unit from some data, its own or that of a file, or tells why it is refused; and gives the exit status.
-pub fn answer(unit: &[u8], names: &[u8], data: &[u8], own: bool, path: &[u8], show: Show) -> u8 {
+pub fn answer(
+    host: &Host,
+    unit: &[u8],
+    names: &[u8],
+    data: &[u8],
+    own: bool,
+    path: &[u8],
+    show: Show,
+) -> u8 {
     match dibol::check(unit) {
-        Checked::Passed(parts) => run_unit(unit, parts, names, data, own, path, show),
+        Checked::Passed(parts) => run_unit(host, unit, parts, names, data, own, path, show),
         Checked::Refused(r) => {
-            say_refused(r);
+            say_refused(host, r);
             REFUSED
         }
     }

@@ -1,6 +1,14 @@
 // What every word of the program writes by. A line in the making is a value: each function that puts something takes the line so far and
 // answers the line with that behind it, and `say_line` writes the whole. A line has room for so many bytes; a full one takes no more.
 ghost use Rattle.io.specs.Counts.{IsPrefixLen};
+ghost use Rattle.std.specs.Io.{ReadsAtMost};
+
+use std::cell::Cell;
+use std::env::FillError;
+use std::fs::File;
+use std::io::{Error, Print, Read as Reads};
+use std::rt::Env;
+use std::{fmt, fs, str};
 
 // The bytes that a line has room for.
 pub const ROOM: usize = 600;
@@ -34,92 +42,205 @@ pub struct Line {
     pub text: [u8; 600],
 }
 
-// ---- files
+// The host of the program: its arguments, files and streams; whether a write to standard output has failed; and whether standard input was read.
+#[derive(Drop)]
+pub struct Host {
+    rt: HostRuntime,
+    lost: Cell<bool>,
+    used: Cell<bool>,
+}
+
+// The reason of an error in the making: the line that it is put to.
+#[derive(Drop)]
+struct Reason {
+    line: Line,
+}
+
+impl fmt::Write for Reason {
+    fn write_str(&mut self, s: &str) -> fmt::Result {
+        self.line = put_text(self.line, s.as_bytes());
+        Ok(())
+    }
+}
+
+// ---- the host
+
+// The system's numbers of errors that are told apart here: there is no such file; a descriptor is closed; a name is too long, or is no text in UTF-8.
+pub const MISSING: i32 = 2;
+
+const CLOSED: i32 = 9;
+
+const LONG: i32 = 36;
+
+const NO_TEXT: i32 = 84;
+
+// The bytes of a name that is too long for any file.
+pub const PATH: usize = 4096;
+
+// The host at the start of the program.
+pub fn host_of(rt: HostRuntime) -> Host {
+    Host {
+        rt: rt,
+        lost: Cell::new(false),
+        used: Cell::new(false),
+    }
+}
+
+// The system's number of an error, or 0.
+pub fn number_of(e: Error) -> i32 {
+    match e.raw_os_error() {
+        Some(number) => number,
+        None => 0,
+    }
+}
+
+// Where the reason ends in an error as it is printed: ` (os error 2)` stands behind it.
+fn reason_end(text: &[u8]) -> usize {
+    let mut i = 0;
+    while i < text.len() {
+        if same(part(text, i, 11), b" (os error ") {
+            return i;
+        }
+        i += 1;
+    }
+    i
+}
+
+// The reason of an error, as the system has it.
+fn reason_of(e: Error) -> Line {
+    let mut reason = Reason { line: new_line() };
+    let done = fmt::Write::write(&mut reason, e);
+    let text = reason.line.text;
+    let all = part(&text, 0, reason.line.at);
+    cut(reason.line, reason_end(all))
+}
+
+// Reports an error: a line with what failed, and the reason.
+pub fn fail(host: &Host, what: Line, e: Error) {
+    let reason = reason_of(e);
+    let text = what.text;
+    let words = reason.text;
+    let done = host.rt.stderr().write_all(part(&text, 0, what.at));
+    let mut l = put_text(new_line(), b": ");
+    l = put_text(l, part(&words, 0, reason.at));
+    tell_line(host, l);
+}
 
 // Reports why standard output cannot be written, unless it is closed.
-fn tell_lost() {
-    if os::errno() == libc::EBADF {
+fn tell_lost(host: &Host, e: Error) {
+    if number_of(e) == CLOSED {
         return;
     }
-    os::fail(b"boxlever: standard output");
+    fail(host, put_text(new_line(), b"boxlever: standard output"), e);
 }
 
-// Writes to standard output. After a write that fails it is closed: the rest is not written, the reason is reported once, and `end` knows.
-pub fn say(s: &[u8]) {
-    if io::write_all(libc::STDOUT_FILENO, s) {
+// Writes to standard output. After a write that fails it is lost: the rest is not written, the reason is reported once, and `end` knows.
+pub fn say(host: &Host, s: &[u8]) {
+    if host.lost.get() {
         return;
     }
-    tell_lost();
-    let closed = libc::close(libc::STDOUT_FILENO);
+    match host.rt.stdout().write_all(s) {
+        Ok(_) => {}
+        Err(e) => {
+            host.lost.set(true);
+            tell_lost(host, e);
+        }
+    }
 }
 
-// Closes standard output, and answers whether all that was said has been written.
-pub fn end() -> bool {
-    if libc::close(libc::STDOUT_FILENO) == 0 {
-        return true;
+// Whether all that was said has been written.
+pub fn end(host: &Host) -> bool {
+    !host.lost.get()
+}
+
+// How many arguments the program was started with, its own name among them.
+pub fn arg_count(host: &Host) -> usize {
+    let mut space = [0u8; 1];
+    for i in 0..usize::MAX {
+        match host.rt.arg(i, &mut space) {
+            Ok(_) => {}
+            Err(FillError::TooLong) => {}
+            Err(FillError::NotPresent) => return i,
+        }
     }
-    tell_lost();
-    false
+    usize::MAX
 }
 
 // Puts an argument at the start of a buffer, and answers its length. One that is too long fills it, and no file has such a name.
-pub fn argument(i: usize, buf: &mut [u8]) -> usize
+pub fn argument(host: &Host, i: usize, buf: &mut [u8]) -> usize
     ensures { IsPrefixLen result buf.new }
 {
-    let n = os::arg(i, buf);
-    if os::errno() == libc::ENAMETOOLONG {
-        return io::count(isize::MAX, buf);
+    match host.rt.arg(i, buf) {
+        Ok(n) => n,
+        Err(FillError::TooLong) => buf.len(),
+        Err(FillError::NotPresent) => 0,
     }
-    n
 }
 
-// Opens a file for reading, and answers its descriptor, or one below 0; `-` is standard input.
-fn open(path: &[u8]) -> i32 {
-    if same(path, b"-") {
-        return libc::STDIN_FILENO;
+// ---- files
+
+// Opens a file for reading.
+pub fn open(host: &Host, path: &[u8]) -> Result<File, Error> {
+    if PATH <= path.len() {
+        return Err(Error::from_raw_os_error(LONG));
     }
-    os::open_read(path)
+    match str::from_utf8(path) {
+        Ok(text) => fs::open(&host.rt, text),
+        Err(_) => Err(Error::from_raw_os_error(NO_TEXT)),
+    }
 }
 
-// Whether a file was read to its end, or is longer than the buffer, where `io::read_full` gave n bytes of it. That gives what it has where
-// a read fails, too, as that of a folder does; then one byte more is asked for, and only at the end of a file there is none.
-fn is_read(fd: i32, n: usize) -> bool {
-    if n == BUFFER {
-        return true;
+// Reads until the buffer is full or the file ends, and answers how many bytes it put at the start of the buffer.
+pub fn read_full<R: Reads>(reader: &mut R, buf: &mut [u8]) -> Result<usize, Error>
+    ensures { ReadsAtMost result buf.new }
+{
+    let mut done = 0;
+    while done < buf.len() {
+        let n = reader.read(&mut buf[done..])?;
+        if n == 0 {
+            break;
+        }
+        done += n;
     }
-    let mut space = [0u8; 1];
-    let got = libc::read(fd, &mut space);
-    got == 0
+    Ok(done)
 }
 
-// Reports why a file cannot be read, right after the call that failed, and answers that.
-fn unread(path: &[u8]) -> Read {
-    let error = os::errno();
-    let l = put_given(put_text(new_line(), b"boxlever: "), path);
-    let text = l.text;
-    os::fail(part(&text, 0, l.at));
-    Read::Failed(error)
+// Reports why a file cannot be read, and answers that.
+fn unread(host: &Host, path: &[u8], e: Error) -> Read {
+    fail(
+        host,
+        put_given(put_text(new_line(), b"boxlever: "), path),
+        e,
+    );
+    Read::Failed(number_of(e))
 }
 
 // Reads a file that is open into a buffer.
-fn read_open(fd: i32, path: &[u8], buf: &mut [u8]) -> Read {
-    let n = io::read_full(fd, buf);
-    if is_read(fd, n) {
-        return Read::Whole(n);
+fn read_open<R: Reads + Drop>(host: &Host, mut reader: R, path: &[u8], buf: &mut [u8]) -> Read {
+    match read_full(&mut reader, buf) {
+        Ok(n) => Read::Whole(n),
+        Err(e) => unread(host, path, e),
     }
-    unread(path)
 }
 
-// Reads a file into a buffer of so many bytes, and answers how many it has, or all that fit; or reports why it cannot be read. Standard input is closed
-// like any other file, since it is read once.
-pub fn read_file(path: &[u8], buf: &mut [u8]) -> Read {
-    let fd = open(path);
-    if fd < 0 {
-        return unread(path);
+// Reads standard input, which is read once, into a buffer.
+fn read_input(host: &Host, path: &[u8], buf: &mut [u8]) -> Read {
+    if host.used.get() {
+        return unread(host, path, Error::from_raw_os_error(CLOSED));
     }
-    let got = read_open(fd, path, buf);
-    let closed = libc::close(fd);
-    got
+    host.used.set(true);
+    read_open(host, host.rt.stdin(), path, buf)
+}
+
+// Reads a file into a buffer of so many bytes, and answers how many it has, or all that fit; or reports why it cannot be read. `-` is standard input.
+pub fn read_file(host: &Host, path: &[u8], buf: &mut [u8]) -> Read {
+    if same(path, b"-") {
+        return read_input(host, path, buf);
+    }
+    match open(host, path) {
+        Ok(file) => read_open(host, file, path, buf),
+        Err(e) => unread(host, path, e),
+    }
 }
 
 // ---- numbers and texts
@@ -588,44 +709,44 @@ pub fn put_between(l: Line, other: Line, from: usize, to: usize) -> Line {
 }
 
 // Writes the line that is made, without an end.
-pub fn say_text(l: Line) {
+pub fn say_text(host: &Host, l: Line) {
     let text = l.text;
-    say(part(&text, 0, l.at));
+    say(host, part(&text, 0, l.at));
 }
 
 // Writes the line that is made. A full one ends in two dots.
-pub fn say_line(l: Line) {
+pub fn say_line(host: &Host, l: Line) {
     if l.at < ROOM {
-        say_text(put(l, b'\n'));
+        say_text(host, put(l, b'\n'));
         return;
     }
-    say_text(cut_whole(l, ROOM));
-    say(b"..\n");
+    say_text(host, cut_whole(l, ROOM));
+    say(host, b"..\n");
 }
 
 // The line, if it has room for any character; else it is written, and an empty one goes on.
-fn drained(l: Line) -> Line {
+fn drained(host: &Host, l: Line) -> Line {
     if l.at < ROOM - 4 {
         return l;
     }
-    say_text(l);
+    say_text(host, l);
     cut(l, 0)
 }
 
 // Writes data of any length as it is shown, and ends its line.
-pub fn say_shown(s: &[u8], show: Show) {
+pub fn say_shown(host: &Host, s: &[u8], show: Show) {
     let mut l = line_for(show);
     let mut i = 0;
     while i < s.len() {
-        l = put_byte(drained(l), s[i], false);
+        l = put_byte(drained(host, l), s[i], false);
         i += 1;
     }
-    say_line(l);
+    say_line(host, l);
 }
 
 // Writes the line that is made to standard error.
-pub fn tell_line(l: Line) {
+pub fn tell_line(host: &Host, l: Line) {
     let next = put(l, b'\n');
     let text = next.text;
-    let done = io::write_all(libc::STDERR_FILENO, part(&text, 0, next.at));
+    let done = host.rt.stderr().write_all(part(&text, 0, next.at));
 }

@@ -3,8 +3,8 @@ use crate::fields::{element_of, start_of};
 use crate::parts::field_of;
 use crate::phrase::put_name;
 use crate::say::{
-    BUFFER, Line, Show, line_for, new_line, put_bytes, put_form, put_given, put_quoted, put_text,
-    say, say_line, tell_line,
+    BUFFER, Host, Line, Show, line_for, new_line, put_bytes, put_form, put_given, put_quoted,
+    put_text, say, say_line, tell_line,
 };
 use crate::words::{GOOD, STOPPED};
 use rules_fence::Validity;
@@ -99,15 +99,24 @@ fn put_warning(
 }
 
 // Says of which element a warning is, and what it means.
-fn say_warning(l: Line) {
-    say_line(l);
+fn say_warning(host: &Host, l: Line) {
+    say_line(host, l);
     say(
+        host,
         b"  a yes holds for data whose decimals are all valid; a run from this data can stop with 22\n",
     );
 }
 
 // Says a warning where some data of a unit, its own or that of a file, has an element that is no number, and answers whether it has.
-pub fn warn(unit: &[u8], names: &[u8], data: &[u8], own: bool, path: &[u8], show: Show) -> bool {
+pub fn warn(
+    host: &Host,
+    unit: &[u8],
+    names: &[u8],
+    data: &[u8],
+    own: bool,
+    path: &[u8],
+    show: Show,
+) -> bool {
     let bad = invalid_in(unit, data);
     if !bad.is_one {
         return false;
@@ -115,7 +124,10 @@ pub fn warn(unit: &[u8], names: &[u8], data: &[u8], own: bool, path: &[u8], show
     match dibol::check(unit) {
         Checked::Passed(parts) => {
             let l = line_for(show);
-            say_warning(put_warning(l, unit, parts, names, data, bad, own, path));
+            say_warning(
+                host,
+                put_warning(l, unit, parts, names, data, bad, own, path),
+            );
         }
         Checked::Refused(_) => (), // Never so: a refused unit has no such element.
     }
@@ -139,9 +151,9 @@ pub fn put_size(l: Line, n: usize) -> Line {
 }
 
 // Tells that a file has so many bytes, and the data of a unit another number of them.
-pub fn tell_size(path: &[u8], n: usize, file: &[u8], d: usize) {
+pub fn tell_size(host: &Host, path: &[u8], n: usize, file: &[u8], d: usize) {
     let mut l = put_given(put_text(new_line(), b"boxlever: "), file);
     l = put_size(put_text(l, b": "), n);
     l = put_given(put_text(l, b"; the data of "), path);
-    tell_line(put_form(l, b" has #", d as u64, 0));
+    tell_line(host, put_form(l, b" has #", d as u64, 0));
 }
