@@ -30,7 +30,7 @@
 use Rattle.std.specs.Prelude.{ℕ, suc, ◌+◌, ◌*◌, ◌^◌, ◌<◌, ◌≤◌, ◌≡◌, refl, ◌↔◌, Bool, true, false, List, [], ◌∷◌, pos, negsuc, length, get_or, replicate, eqb}
 use Rattle.std.proofs.Common.{sym, ap, ◌∙◌, subst, eq-eqb, ne_eqb}
 use contract.Lifetimes
-use Rattle.rules.specs.Tests.{◌&&◌}
+use Rattle.rules.specs.Tests.{◌and◌}
 use Rattle.rules_unit.specs.declared.Parts.{Parts}
 use Rattle.rules_unit.specs.declared.Refusal.{Refusal}
 use Rattle.rules_unit.specs.declared.Checked.TheVariants as checked
@@ -234,7 +234,7 @@ pub error_without_number : (w : List ℕ) → get_or w 102 0 ≡ 0 → (get_or w
 unfolding stateb
 error_without_number w e n = rw (eq-eqb (get_or w 102 0) 0 e, ne_eqb (get_or w 103 0) 0 n) (by (eqb (length w) 104) (good_from 0 w))
   where
-    by : (x y : Bool) → x && (y && false) ≡ false
+    by : (x y : Bool) → x and (y and false) ≡ false
     by true true = refl
     by true false = refl
     by false y = refl

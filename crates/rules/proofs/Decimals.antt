@@ -15,7 +15,7 @@ use lib.IntN.{ℤ, nat_abs}
 use lib.ListN.{length, get_or, length-replicate, get_or-replicate, length-map}
 use borrow.Author.Tests.{ltb-true, leb-true, lt-ltb, le-ltb, le-leb, lt-leb, ne_eqb}
 use Rattle.rules.proofs.Tests.{both}
-use Rattle.rules.specs.Tests.{◌&&◌}
+use Rattle.rules.specs.Tests.{◌and◌}
 use Rattle.rules.specs.declared.Num.TheVariants.{Value}
 use Rattle.rules.specs.Values.{Letters, signed, is_neg, is_from, Figures, last_digit, read_from, padded_read, read_of}
 use Rattle.rules.specs.Moves.{placed, zero_at, digit_at, written, shown_at, width, shown, fitted, upper, lower, upcased, locased, blanks, zeros}
@@ -30,7 +30,7 @@ length_placed f zero = refl
 length_placed f (suc n) = ap suc (length_placed f n)
 
 pub length_written : (sign n : ℕ) (v : ℤ) → length (written sign n v) ≡ n
-length_written sign n v = length_placed (digit_at (cond (is_neg v && ltb 0 (nat_abs v % 10 ^ n)) sign 48) (nat_abs v)) n
+length_written sign n v = length_placed (digit_at (cond (is_neg v and ltb 0 (nat_abs v % 10 ^ n)) sign 48) (nat_abs v)) n
 
 pub length_shown : (n : ℕ) (v : ℤ) → length (shown n v) ≡ n
 length_shown n v = length_placed (shown_at (is_neg v) (nat_abs v) (width (nat_abs v))) n
@@ -92,7 +92,7 @@ next_digit acc m k =
 -- ---- a written number reads back
 
 -- Where all digits kept are 0 there is no sign, and none is needed.
-sign_kept : (t : Bool) (x : ℕ) → signed (t && ltb 0 x) x ≡ signed t x
+sign_kept : (t : Bool) (x : ℕ) → signed (t and ltb 0 x) x ≡ signed t x
 sign_kept false x = refl
 sign_kept true zero = refl
 sign_kept true (suc x) = rw (lt-ltb 0 (suc x) (omega arith))
@@ -124,7 +124,7 @@ module _ {sign : ℕ} (letters : Letters sign) where
   read_written limit (suc k) v h l =
       let m = nat_abs v in
       let x = m % 10 ^ suc k in
-      let t = is_neg v && ltb 0 x in
+      let t = is_neg v and ltb 0 x in
       rw (length_placed (digit_at (cond t sign 48) m) k, le-ltb limit (suc k) l, first_figure t k (m / 10 ^ k % 10))
       (read_digits t k m 0 ∙ ap (λ (y : ℕ). Value (signed t y)) (omega arith) ∙ ap Value (sign_kept (is_neg v) x))
 
@@ -134,7 +134,7 @@ module _ {sign : ℕ} (letters : Letters sign) where
   written_figures limit zero v h l = absurd (omega arith)
   written_figures limit (suc k) v h l =
       let m = nat_abs v in
-      let t = is_neg v && ltb 0 (m % 10 ^ suc k) in
+      let t = is_neg v and ltb 0 (m % 10 ^ suc k) in
       reads_figures (rw (length_placed (digit_at (cond t sign 48) m) k) l) (read_digits t k m 0)
 
 -- What CLEAR writes to a decimal has no spaces either.

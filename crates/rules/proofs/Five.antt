@@ -6,13 +6,13 @@ use mathlib.Core.Bool.{Bool, true, false, ◌||◌, false≢true}
 use mathlib.Core.Logic.{inl, inr}
 use lib.Dec.{leb, eqb}
 use borrow.Author.Tests.{leb-true, le-leb, lt-leb, eqb-true, ne_eqb}
-use Rattle.rules.specs.Tests.{◌&&◌}
+use Rattle.rules.specs.Tests.{◌and◌}
 use Rattle.rules.specs.Stops.{trappedb, Trappable}
 
 pub trapped_to : (n : ℕ) → trappedb n ≡ true → Trappable n
 trapped_to n = by (leb 20 n) refl (leb n 23) refl (eqb n 26) refl
   where
-    by : (t : Bool) → leb 20 n ≡ t → (u : Bool) → leb n 23 ≡ u → (v : Bool) → eqb n 26 ≡ v → (t && u) || v ≡ true → Trappable n
+    by : (t : Bool) → leb 20 n ≡ t → (u : Bool) → leb n 23 ≡ u → (v : Bool) → eqb n 26 ≡ v → (t and u) || v ≡ true → Trappable n
     by true e true f v g h = inl (leb-true 20 n e, leb-true n 23 f)
     by true e false f true g h = inr (eqb-true n 26 g)
     by true e false f false g h = absurd (false≢true h)

@@ -13,7 +13,7 @@ use lib.ListN.{length, get_or}
 use borrow.Author.Tests.{ltb-true, ltb-false, leb-true, le-leb, lt-leb, eq-eqb, ne_eqb, eqb-true}
 use Rattle.rules.proofs.Tests.{both}
 use Rattle.rules.proofs.Walk.{cond_case, cond_either}
-use Rattle.rules.specs.Tests.{◌&&◌}
+use Rattle.rules.specs.Tests.{◌and◌}
 use Rattle.rules.specs.declared.Num.{Num}
 use Rattle.rules.specs.declared.Num.TheVariants.{Value, Failed}
 use Rattle.rules.specs.declared.Fault.TheVariants as fault
@@ -167,7 +167,7 @@ from_is : (sign acc b : ℕ) (bs : List ℕ) → is_value (read_from sign acc b 
 unfolding read_from valid_from
 from_is sign acc b [] = value_or (is_from 48 b) (is_from sign b) (pos (acc * 10 + (b - 48))) (signed true (acc * 10 + (b - sign)))
 from_is sign acc b (x ∷ xs) =
-    value_cond (is_from 48 b) (read_from sign (acc * 10 + (b - 48)) x xs) (Failed fault.BadDigit) ∙ ap (λ (t : Bool). is_from 48 b && t) (from_is sign (acc * 10 + (b - 48)) x xs)
+    value_cond (is_from 48 b) (read_from sign (acc * 10 + (b - 48)) x xs) (Failed fault.BadDigit) ∙ ap (λ (t : Bool). is_from 48 b and t) (from_is sign (acc * 10 + (b - 48)) x xs)
 
 padded_is : (sign : ℕ) (s : List ℕ) → is_value (padded_read sign s) ≡ paddedb sign s
 unfolding padded_read paddedb
@@ -179,7 +179,7 @@ unfolding read_of validb
 read_is limit sign [] = refl
 read_is limit sign (b ∷ bs) = by (ltb limit (length (b ∷ bs))) refl
   where
-    by : (t : Bool) → ltb limit (length (b ∷ bs)) ≡ t → is_value (cond t (Failed fault.TooLong) (padded_read sign (b ∷ bs))) ≡ (leb (length (b ∷ bs)) limit && paddedb sign (b ∷ bs))
+    by : (t : Bool) → ltb limit (length (b ∷ bs)) ≡ t → is_value (cond t (Failed fault.TooLong) (padded_read sign (b ∷ bs))) ≡ (leb (length (b ∷ bs)) limit and paddedb sign (b ∷ bs))
     by true e = rw (lt-leb (length (b ∷ bs)) limit (ltb-true limit (length (b ∷ bs)) e))
     by false e = rw (le-leb (length (b ∷ bs)) limit (ltb-false limit (length (b ∷ bs)) e)) (padded_is sign (b ∷ bs))
 

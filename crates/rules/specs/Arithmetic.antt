@@ -8,7 +8,7 @@
 -- Assumes nothing.
 use Rattle.std.specs.Prelude.{Bool, true, false, cond, not, ◌||◌, List, ℕ, ◌+◌, ◌/◌, ◌^◌, ltb, leb, eqb, ℤ, pos, negsuc, nat_abs, ◌+ℤ◌, ◌-ℤ◌, ◌*ℤ◌}
 use Rattle.std.specs.Int.Signed.{quot_z, lt_z, le_z}
-use Rattle.rules.specs.Tests.{◌&&◌}
+use Rattle.rules.specs.Tests.{◌and◌}
 use Rattle.rules.specs.Charts.{Charts}
 use Rattle.rules.specs.declared.Num.{Num}
 use Rattle.rules.specs.declared.Num.TheVariants.{Value, Failed}
@@ -78,7 +78,7 @@ abbrev pub not_of : ℤ → ℤ
 not_of a = truth (not (is_true a))
 
 abbrev pub and_of : ℤ → ℤ → ℤ
-and_of a b = truth (is_true a && is_true b)
+and_of a b = truth (is_true a and is_true b)
 
 abbrev pub or_of : ℤ → ℤ → ℤ
 or_of a b = truth (is_true a || is_true b)

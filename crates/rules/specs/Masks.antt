@@ -21,7 +21,7 @@ use Rattle.rules.specs.declared.Tally.{Tally}
 use Rattle.rules.specs.declared.Picture.{Picture}
 use Rattle.rules.specs.declared.Sight.{Sight}
 use Rattle.rules.specs.declared.Plan.{Plan}
-use Rattle.rules.specs.Tests.{◌&&◌}
+use Rattle.rules.specs.Tests.{◌and◌}
 use Rattle.rules.specs.Values.{is_neg}
 use Rattle.rules.specs.Moves.{blanks}
 
@@ -30,7 +30,7 @@ use Rattle.rules.specs.Moves.{blanks}
 -- "Each X represents a digit position", so does Z, *, and "Each money sign"; "Non-money characters to the left of the money sign are
 -- considered as non-format control characters". Here with so many money signs to its right.
 abbrev pub placeb : ℕ → ℕ → Bool
-placeb c right = cond (eqb c 36) true (eqb right 0 && cond (eqb c 88) true (cond (eqb c 90) true (eqb c 42)))
+placeb c right = cond (eqb c 36) true (eqb right 0 and cond (eqb c 88) true (cond (eqb c 90) true (eqb c 42)))
 
 -- whether a digit place is an X, here or to the right
 abbrev pub plain_by : ℕ → Tally → Bool
@@ -55,11 +55,11 @@ last_digits m n = m % 10 ^ n
 
 -- "If nexp is zero and the field is zero suppressed"
 abbrev pub blankb : Tally → ℕ → Bool
-blankb t left = leb 1 t.places && eqb left 0 && not t.plain
+blankb t left = leb 1 t.places and eqb left 0 and not t.plain
 
 -- "If the number is negative, a minus appears, otherwise a space is inserted": judged by the digits left, as for all moves
 abbrev pub negativeb : Bool → ℕ → Bool
-negativeb neg left = neg && ltb 0 left
+negativeb neg left = neg and ltb 0 left
 
 -- of a number with the sign given, and the digits left
 abbrev pub picture_by : Tally → ℕ → Bool → ℕ → Picture
@@ -175,7 +175,7 @@ can_be_money class.Sign = false
 can_be_money class.Mark = false
 
 abbrev pub money_by : Sight → Class → Bool
-money_by n k = can_be_money k && not n.significant && eqb n.lead 36
+money_by n k = can_be_money k and not n.significant and eqb n.lead 36
 
 unfoldable pub moneyb : Picture → Sight → ℕ → Bool
 moneyb p w c = money_by (sighted p w c) (class_of p w c)

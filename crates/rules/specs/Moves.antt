@@ -9,7 +9,7 @@
 -- Each answers the new characters alone: where they are stored is no matter of these rules. 32 is a space, 43 '+', 45 '-', 48 '0'.
 -- Assumes nothing.
 use Rattle.std.specs.Prelude.{Bool, true, false, cond, List, [], ◌∷◌, map, ℕ, zero, suc, ◌+◌, ◌-◌, ◌*◌, ◌/◌, ◌%◌, ◌^◌, ltb, leb, eqb, ℤ, nat_abs, replicate}
-use Rattle.rules.specs.Tests.{◌&&◌}
+use Rattle.rules.specs.Tests.{◌and◌}
 use Rattle.rules.specs.declared.Num.{Num}
 use Rattle.rules.specs.declared.Num.TheVariants.{Failed}
 use Rattle.rules.specs.declared.Fault.TheVariants as fault
@@ -32,7 +32,7 @@ digit_at z m k = zero_at z k + m / 10 ^ k % 10
 
 -- "right-justified, zeros in front, high digits dropped silently. The sign stays if the digits kept are not all 0."
 abbrev pub written : ℕ → ℕ → ℤ → List ℕ
-written sign n v = placed (digit_at (cond (is_neg v && ltb 0 (nat_abs v % 10 ^ n)) sign 48) (nat_abs v)) n
+written sign n v = placed (digit_at (cond (is_neg v and ltb 0 (nat_abs v % 10 ^ n)) sign 48) (nat_abs v)) n
 
 -- ---- number to alpha
 
@@ -47,7 +47,7 @@ width m = width_from 17 1 m
 
 -- "shortest digits, a minus in front if negative, right-justified behind spaces": the character at the place k
 abbrev pub shown_at : Bool → ℕ → ℕ → ℕ → ℕ
-shown_at neg m w k = cond (ltb k w) (48 + m / 10 ^ k % 10) (cond (neg && eqb k w) 45 32)
+shown_at neg m w k = cond (ltb k w) (48 + m / 10 ^ k % 10) (cond (neg and eqb k w) 45 32)
 
 -- "the left is cut if too long"
 abbrev pub shown : ℕ → ℤ → List ℕ
@@ -81,10 +81,10 @@ fitted (suc n) (x ∷ xs) = x ∷ fitted n xs
 
 -- "UPCASE turns bytes 61 to 7A (hex) into 41 to 5A, LOCASE the reverse; other bytes stay."
 abbrev pub upper : ℕ → ℕ
-upper b = cond (leb 0x61 b && leb b 0x7a) (b - 0x20) b
+upper b = cond (leb 0x61 b and leb b 0x7a) (b - 0x20) b
 
 abbrev pub lower : ℕ → ℕ
-lower b = cond (leb 0x41 b && leb b 0x5a) (b + 0x20) b
+lower b = cond (leb 0x41 b and leb b 0x5a) (b + 0x20) b
 
 abbrev pub upcased : List ℕ → List ℕ
 upcased s = map upper s

@@ -3,7 +3,7 @@
 --   trappedb n       n is the number of an error that a handler traps; Trappable n says the same
 -- Assumes nothing.
 use Rattle.std.specs.Prelude.{ℕ, ◌≤◌, ◌≡◌, ◌⊎◌, Bool, ◌||◌, leb, eqb}
-use Rattle.rules.specs.Tests.{◌&&◌}
+use Rattle.rules.specs.Tests.{◌and◌}
 use Rattle.rules.specs.declared.Fault.{Fault}
 use Rattle.rules.specs.declared.Fault.TheVariants.{Malformed, TooLong, Outside, BadDigit, ZeroDivisor, CallsFull, NoCall, RoundCount, ZeroStep, LoopsFull, NoLoop}
 
@@ -25,7 +25,7 @@ fault_number NoLoop = 29
 
 -- "one of the errors 20, 21, 22, 23 or 26"; "Errors 24, 25, 27, 28 and 29 are not trapped."
 abbrev pub trappedb : ℕ → Bool
-trappedb n = (leb 20 n && leb n 23) || eqb n 26
+trappedb n = (leb 20 n and leb n 23) || eqb n 26
 
 abbrev pub Trappable : ℕ → Type 0
 Trappable n = ((20 ≤ n) × (n ≤ 23)) ⊎ (n ≡ 26)

@@ -9,7 +9,7 @@
 -- last digit 0 with a minus. Document 01's own dialect is 18, 10 ^ 18 and 112 ('p'). 32 is a space, 48 '0'.
 -- Assumes nothing.
 use Rattle.std.specs.Prelude.{◌≡◌, Bool, true, false, cond, ◌||◌, ◌⊎◌, List, [], ◌∷◌, ℕ, ◌+◌, ◌-◌, ◌*◌, ◌^◌, ◌<◌, ◌≤◌, ltb, leb, eqb, ℤ, pos, negsuc, nat_abs, neg_ℤ, length, get_or}
-use Rattle.rules.specs.Tests.{◌&&◌}
+use Rattle.rules.specs.Tests.{◌and◌}
 use Rattle.rules.specs.declared.Num.{Num}
 use Rattle.rules.specs.declared.Num.TheVariants.{Value, Failed}
 use Rattle.rules.specs.declared.Fault.TheVariants as fault
@@ -43,12 +43,12 @@ is_neg (negsuc n) = true
 
 -- "0 to 9", and "p to y for a negative number ending in 0 to 9"
 abbrev pub is_from : ℕ → ℕ → Bool
-is_from z b = leb z b && ltb b (z + 10)
+is_from z b = leb z b and ltb b (z + 10)
 
 -- "all but the last are 0 to 9 and the last is 0 to 9, or p to y": the character b and those after it
 unfoldable pub valid_from : ℕ → ℕ → List ℕ → Bool
 valid_from sign b [] = is_from 48 b || is_from sign b
-valid_from sign b (x ∷ xs) = let rest = valid_from sign x xs in is_from 48 b && rest
+valid_from sign b (x ∷ xs) = let rest = valid_from sign x xs in is_from 48 b and rest
 
 -- "leading spaces as zeros, and an all-space span as 0. A space after a digit is still 22."
 unfoldable pub paddedb : ℕ → List ℕ → Bool
@@ -61,7 +61,7 @@ paddedb sign (b ∷ bs) =
 -- "A decimal of 1 to 18 characters is valid when .."
 unfoldable pub validb : ℕ → ℕ → List ℕ → Bool
 validb limit sign [] = false
-validb limit sign (b ∷ bs) = let rest = paddedb sign (b ∷ bs) in leb (length (b ∷ bs)) limit && rest
+validb limit sign (b ∷ bs) = let rest = paddedb sign (b ∷ bs) in leb (length (b ∷ bs)) limit and rest
 
 -- The same sentence with quantifiers: j goes over the leading spaces, as many as `blanks` says, and then over all characters behind them but the last.
 pub record Valid (limit sign : ℕ) (s : List ℕ) : Type 0 where

@@ -7,7 +7,7 @@
 --   fence_of u                    the check's answer; breach_in u i the breach of a statement of a unit in bytes
 -- Assumes nothing.
 use Rattle.std.specs.Prelude.{ℕ, zero, suc, ◌+◌, ◌-◌, ◌*◌, ◌/◌, Bool, true, false, cond, ◌||◌, List, [], ◌∷◌, ltb, leb, eqb}
-use Rattle.rules.specs.Tests.{◌&&◌}
+use Rattle.rules.specs.Tests.{◌and◌}
 use Rattle.rules_unit.specs.declared.Field.{Field}
 use Rattle.rules_unit.specs.declared.Form.{Form}
 use Rattle.rules_unit.specs.declared.Item.{Item}
@@ -72,7 +72,7 @@ apart_of f a n = cond (is_decimal f.kind) (leb (a + n) f.offset || leb (f.offset
 -- The k fields from g on.
 unfoldable pub apart_from : Code → ℕ → ℕ → ℕ → ℕ → Bool
 apart_from c a n zero g = true
-apart_from c a n (suc k) g = let rest = apart_from c a n k (g + 1) in apart_of (c.field g) a n && rest
+apart_from c a n (suc k) g = let rest = apart_from c a n k (g + 1) in apart_of (c.field g) a n and rest
 
 -- "An alpha destination shares no byte with a decimal field."
 unfoldable pub alpha_breach : Code → Bool → ℕ → ℕ → Breach

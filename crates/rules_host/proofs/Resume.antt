@@ -10,7 +10,7 @@ use lib.Dec.{ltb, eqb}
 use lib.ListN.{length, get_or, replicate, length-set}
 use borrow.Author.Tests.{le-leb, lt-leb, eqb-true, ltb-true, ltb-false}
 use Rattle.rules.specs.Stops.{Trappable}
-use Rattle.rules.specs.Tests.{◌&&◌}
+use Rattle.rules.specs.Tests.{◌and◌}
 use Rattle.rules.specs.Values.{Val}
 use Rattle.rules.proofs.Tests.{both}
 use Rattle.rules.proofs.Walk.{cond_either}
@@ -120,7 +120,7 @@ sound_state u w p e t = by (stateb w) refl
 
 state_104 : (w : List ℕ) → stateb w ≡ true → length w ≡ 104
 unfolding stateb
-state_104 w e = eqb-true (length w) 104 ((both (eqb (length w) 104) (good_from 0 w && pairb (get_or w 102 0) (get_or w 103 0))).0 e).0
+state_104 w e = eqb-true (length w) 104 ((both (eqb (length w) 104) (good_from 0 w and pairb (get_or w 102 0) (get_or w 103 0))).0 e).0
 
 state_returns : (w : List ℕ) → stateb w ≡ true → length (state_of w).returns ≡ 50
 unfolding state_of

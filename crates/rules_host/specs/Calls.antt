@@ -7,7 +7,7 @@
 --   HostReads u d w m a h                what a host reads of what is left
 -- Assumes nothing.
 use Rattle.std.specs.Prelude.{ℕ, ◌+◌, ◌-◌, ◌*◌, ◌≤◌, ◌≡◌, Bool, cond, List, [], ◌∷◌, ltb, leb}
-use Rattle.rules.specs.Tests.{◌&&◌}
+use Rattle.rules.specs.Tests.{◌and◌}
 use Rattle.rules_unit.specs.declared.Kind.{Kind}
 use Rattle.rules_unit.specs.declared.Kind.TheVariants as kind
 use Rattle.rules_unit.specs.declared.Rule.{Rule}
@@ -108,7 +108,7 @@ pub record Handed : Type 0 where
 
 -- 1 to 7
 unfoldable pub refusedb : ℕ → Bool
-refusedb n = leb 1 n && leb n 7
+refusedb n = leb 1 n and leb n 7
 
 -- The state's numbers stay as they were after 1 to 7, and are those of the next state after any other stop; in the answer are the stop, the
 -- place and the count.

@@ -12,7 +12,7 @@
 --   state_of w      the state that they stand for; where they stand for none, one that is sound for no unit
 -- Assumes nothing.
 use Rattle.std.specs.Prelude.{ℕ, zero, suc, ◌+◌, ◌-◌, ◌*◌, ◌/◌, ◌%◌, ◌^◌, ◌<◌, ◌≤◌, ◌≡◌, Bool, true, cond, ◌||◌, List, [], ◌∷◌, ltb, leb, eqb, ℤ, pos, negsuc, length, get_or, replicate}
-use Rattle.rules.specs.Tests.{◌&&◌}
+use Rattle.rules.specs.Tests.{◌and◌}
 use Rattle.rules.specs.Values.{Val}
 use Rattle.rules_run.specs.declared.Caught.{Caught}
 use Rattle.rules_run.specs.declared.Caught.TheVariants as caught
@@ -99,7 +99,7 @@ pub record Fits (s : State) : Type 0 where
 
 -- The number k is a limit or a step.
 abbrev pub signedb : ℕ → Bool
-signedb k = leb 53 k && ltb k 101 && ltb 0 ((k - 53) % 3)
+signedb k = leb 53 k and ltb k 101 and ltb 0 ((k - 53) % 3)
 
 unfoldable pub goodb : ℕ → ℕ → Bool
 goodb k x = cond (signedb k) (valueb x) (cond (eqb k 102) (leb x 255) (leb x 65535))
@@ -107,14 +107,14 @@ goodb k x = cond (signedb k) (valueb x) (cond (eqb k 102) (leb x 255) (leb x 655
 -- The numbers from the place k on.
 unfoldable pub good_from : ℕ → List ℕ → Bool
 good_from k [] = true
-good_from k (x ∷ xs) = let rest = good_from (k + 1) xs in goodb k x && rest
+good_from k (x ∷ xs) = let rest = good_from (k + 1) xs in goodb k x and rest
 
 -- Where there is no error, there is no statement of one.
 abbrev pub pairb : ℕ → ℕ → Bool
 pairb n i = cond (eqb n 0) (eqb i 0) true
 
 unfoldable pub stateb : List ℕ → Bool
-stateb w = eqb (length w) 104 && good_from 0 w && pairb (get_or w 102 0) (get_or w 103 0)
+stateb w = eqb (length w) 104 and good_from 0 w and pairb (get_or w 102 0) (get_or w 103 0)
 
 -- Sound for no unit: N is at most 2,048.
 abbrev pub no_state : State

@@ -12,7 +12,7 @@ use lib.IntN.{ℤ, pos, ◌+ℤ◌, ◌-ℤ◌, ◌*ℤ◌}
 use lib.Signed.{lt_z, le_z}
 use lib.ListN.{length, take, drop, length-take}
 use borrow.Author.Tests.{leb-true}
-use Rattle.rules.specs.Tests.{◌&&◌}
+use Rattle.rules.specs.Tests.{◌and◌}
 use Rattle.rules.specs.declared.Num.{Num}
 use Rattle.rules.specs.declared.Num.TheVariants.{Value, Failed}
 use Rattle.rules.specs.declared.Fault.TheVariants as fault
@@ -70,7 +70,7 @@ module _ (c : Code) (d : List ℕ) (bound : ℕ) (truths : 1 < bound) (sums : c.
   calc_range op.Ge x y vx vy = range_truth (le_z y x) truths
   calc_range op.Le x y vx vy = range_truth (le_z x y) truths
   calc_range op.Not x y vx vy = range_truth (not (is_true x)) truths
-  calc_range op.And x y vx vy = range_truth (is_true x && is_true y) truths
+  calc_range op.And x y vx vy = range_truth (is_true x and is_true y) truths
   calc_range op.Or x y vx vy = range_truth (is_true x || is_true y) truths
   calc_range op.Xor x y vx vy = range_truth (xorb (is_true x) (is_true y)) truths
 

@@ -10,7 +10,7 @@
 -- Assumes nothing.
 use Rattle.std.specs.Prelude.{◌≡◌, ℕ, zero, suc, ◌+◌, ◌*◌, ◌≤◌, Bool, cond, leb, ℤ, pos, negsuc, nat_abs, ◌+ℤ◌, ◌-ℤ◌, ◌*ℤ◌}
 use Rattle.std.specs.Int.Signed.{le_z}
-use Rattle.rules.specs.Tests.{◌&&◌}
+use Rattle.rules.specs.Tests.{◌and◌}
 use Rattle.rules_unit.specs.declared.Rule.{Rule}
 use Rattle.rules_unit.specs.declared.Rule.TheVariants as rule
 use Rattle.rules_unit.specs.declared.Field.{Field}
@@ -54,7 +54,7 @@ span_of size f form.PosLength x y = pos_length_span size f.offset x y
 
 -- "that field's size x count bytes": the n bytes from a on lie inside them
 abbrev pub insideb : Field → ℕ → ℕ → Bool
-insideb f a n = leb f.offset a && leb (a + n) (f.offset + f.count * f.size)
+insideb f a n = leb f.offset a and leb (a + n) (f.offset + f.count * f.size)
 
 -- "with it, 21 is given whenever the span leaves that field's size x count bytes"
 abbrev pub held_to : Rule → Field → Span → Span

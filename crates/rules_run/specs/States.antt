@@ -10,7 +10,7 @@
 -- Assumes nothing.
 use Rattle.std.specs.Prelude.{◌≡◌, Bool, true, cond, List, [], ◌∷◌, ℕ, ◌+◌, ◌-◌, ◌<◌, ◌≤◌, ltb, leb, eqb, ℤ, pos, nat_abs, length, get_or, set, replicate}
 use Rattle.rules.specs.Stops.{trappedb, Trappable}
-use Rattle.rules.specs.Tests.{◌&&◌}
+use Rattle.rules.specs.Tests.{◌and◌}
 use Rattle.rules.specs.Values.{Val}
 use Rattle.rules_unit.specs.Codes.{Code}
 use Rattle.rules_run.specs.declared.Caught.{Caught}
@@ -30,7 +30,7 @@ returnb n depth i x = cond (ltb i depth) (leb x n) (eqb x 0)
 -- The return numbers from the place i on.
 unfoldable pub returnsb : ℕ → ℕ → ℕ → List ℕ → Bool
 returnsb n depth i [] = true
-returnsb n depth i (x ∷ xs) = let rest = returnsb n depth (i + 1) xs in returnb n depth i x && rest
+returnsb n depth i (x ∷ xs) = let rest = returnsb n depth (i + 1) xs in returnb n depth i x and rest
 
 -- ---- loops
 
@@ -42,13 +42,13 @@ no_loop = record { entry = 0; limit = pos 0; step = pos 0 }
 unfoldable pub loopb : Code → Loop → Bool
 loopb c l =
     ltb l.entry c.statements
-    && eqb (c.statement l.entry).code 14
-    && ltb (nat_abs l.limit) c.dialect.top
-    && ltb (nat_abs l.step) c.dialect.top
-    && ltb 0 (nat_abs l.step)
+    and eqb (c.statement l.entry).code 14
+    and ltb (nat_abs l.limit) c.dialect.top
+    and ltb (nat_abs l.step) c.dialect.top
+    and ltb 0 (nat_abs l.step)
 
 unfoldable pub emptyb : Loop → Bool
-emptyb l = eqb l.entry 0 && eqb (nat_abs l.limit) 0 && eqb (nat_abs l.step) 0
+emptyb l = eqb l.entry 0 and eqb (nat_abs l.limit) 0 and eqb (nat_abs l.step) 0
 
 abbrev pub slotb : Code → ℕ → ℕ → Loop → Bool
 slotb c opened i l = cond (ltb i opened) (loopb c l) (emptyb l)
@@ -56,7 +56,7 @@ slotb c opened i l = cond (ltb i opened) (loopb c l) (emptyb l)
 -- The slots from the place i on.
 unfoldable pub slotsb : Code → ℕ → ℕ → List Loop → Bool
 slotsb c opened i [] = true
-slotsb c opened i (l ∷ ls) = let rest = slotsb c opened (i + 1) ls in slotb c opened i l && rest
+slotsb c opened i (l ∷ ls) = let rest = slotsb c opened (i + 1) ls in slotb c opened i l and rest
 
 -- The same sentence as a statement.
 pub record LoopSound (c : Code) (l : Loop) : Type 0 where
@@ -75,7 +75,7 @@ handlerb n (handler.At i) = ltb i n
 
 abbrev pub caughtb : ℕ → Caught → Bool
 caughtb n caught.None = true
-caughtb n (caught.Error e i) = trappedb e && ltb i n
+caughtb n (caught.Error e i) = trappedb e and ltb i n
 
 -- The same sentence as statements.
 abbrev pub HandlerSound : ℕ → Handler → Type 0
@@ -93,13 +93,13 @@ CaughtSound n (caught.Error e i) = Trappable e × (i < n)
 unfoldable pub soundb : Code → State → Bool
 soundb c s =
     leb s.at c.statements
-    && leb s.depth 50
-    && returnsb c.statements s.depth 0 s.returns
-    && leb s.opened 16
-    && eqb (length s.loops) 16
-    && slotsb c s.opened 0 s.loops
-    && handlerb c.statements s.trap.handler
-    && caughtb c.statements s.trap.caught
+    and leb s.depth 50
+    and returnsb c.statements s.depth 0 s.returns
+    and leb s.opened 16
+    and eqb (length s.loops) 16
+    and slotsb c s.opened 0 s.loops
+    and handlerb c.statements s.trap.handler
+    and caughtb c.statements s.trap.caught
 
 -- The same sentences with quantifiers.
 pub record Sound (c : Code) (s : State) : Type 0 where

@@ -6,7 +6,7 @@ use mathlib.Core.Path.{◌≡◌, refl, subst}
 use mathlib.Core.Bool.{Bool, true, false, cond, not, false≢true, true≢false}
 use lib.Dec.{ltb, leb, eqb}
 use borrow.Author.Tests.{ltb-true, ltb-false, leb-true, eqb-true, lt-ltb, le-leb, eq-eqb}
-use Rattle.rules.specs.Tests.{◌&&◌}
+use Rattle.rules.specs.Tests.{◌and◌}
 use Rattle.rules.proofs.Tests.{both}
 
 -- The test t is true exactly when P holds.
@@ -34,7 +34,7 @@ pub tells_as : {t : Bool} {P Q : Type 0} → (P → Q) → (Q → P) → Tells t
 tells_as f g s = record { to = λ e. f (s.to e); of = λ x. s.of (g x) }
 
 -- both of two tests
-pub tells_and : {t x : Bool} {P Q : Type 0} → Tells t P → Tells x Q → Tells (t && x) (P × Q)
+pub tells_and : {t x : Bool} {P Q : Type 0} → Tells t P → Tells x Q → Tells (t and x) (P × Q)
 tells_and {t} {x} p q =
     record { to = λ e. (p.to ((both t x).0 e).0, q.to ((both t x).0 e).1); of = λ r. (both t x).1 (p.of r.0, q.of r.1) }
 

@@ -9,7 +9,7 @@
 --   refusal_number, refusal_place    the table's number and place of a refusal
 -- Assumes nothing.
 use Rattle.std.specs.Prelude.{ℕ, zero, suc, ◌+◌, Bool, true, false, cond, not, ltb, leb, eqb, List, length}
-use Rattle.rules.specs.Tests.{◌&&◌}
+use Rattle.rules.specs.Tests.{◌and◌}
 use Rattle.rules_unit.specs.declared.Parts.{Parts}
 use Rattle.rules_unit.specs.declared.Statement.{Statement}
 use Rattle.rules_unit.specs.declared.Role.{Role}
@@ -44,18 +44,18 @@ refusal_place (refusal.BadStatement i) = i
 -- "1 | length under 12 or over 57,353, wrong mark, or parts don't fill the unit"
 unfoldable pub filledb : List ℕ → Bool
 filledb u =
-    leb 12 (length u) && leb (length u) 57353 && not (wrong_mark (mark_of u)) && eqb (full_length (parts_of u)) (length u)
+    leb 12 (length u) and leb (length u) 57353 and not (wrong_mark (mark_of u)) and eqb (full_length (parts_of u)) (length u)
 
 -- "D is 1 to 16,383; F 0 to 512; E 0 to 16,383; P 0 to 4,095; N 1 to 2,048."
 unfoldable pub rangesb : Parts → Bool
 rangesb p =
     leb 1 p.d
-    && leb p.d 16383
-    && leb p.f 512
-    && leb p.e 16383
-    && leb p.p 4095
-    && leb 1 p.n
-    && leb p.n 2048
+    and leb p.d 16383
+    and leb p.f 512
+    and leb p.e 16383
+    and leb p.p 4095
+    and leb 1 p.n
+    and leb p.n 2048
 
 -- ---- fields
 
@@ -69,11 +69,11 @@ choiceb z = cond (eqb z 0) true (eqb z 0x80)
 unfoldable pub entryb : Code → ℕ → ℕ → Bool
 entryb c i floor =
     not (is_bad (c.field i).kind)
-    && choiceb (c.field i).zero
-    && leb 1 (size_of c i)
-    && leb 1 (count_of c i)
-    && leb (end_of c i) c.size
-    && cond (recordb c i) (eqb (count_of c i) 1) (leb floor (offset_of c i) && cond (decimalb c i) (leb (size_of c i) c.dialect.limit) true)
+    and choiceb (c.field i).zero
+    and leb 1 (size_of c i)
+    and leb 1 (count_of c i)
+    and leb (end_of c i) c.size
+    and cond (recordb c i) (eqb (count_of c i) 1) (leb floor (offset_of c i) and cond (decimalb c i) (leb (size_of c i) c.dialect.limit) true)
 
 abbrev pub floor_after : Code → ℕ → ℕ → ℕ
 floor_after c i floor = cond (recordb c i) floor (end_of c i)
@@ -92,12 +92,12 @@ is_goto s = eqb s.code 7
 -- The k statements from i on are GOTO statements.
 unfoldable pub gotosb : Code → ℕ → ℕ → Bool
 gotosb c zero i = true
-gotosb c (suc k) i = let rest = gotosb c k (i + 1) in is_goto (c.statement i) && rest
+gotosb c (suc k) i = let rest = gotosb c k (i + 1) in is_goto (c.statement i) and rest
 
 -- "a = n from 1 to 255"; "Code 12 at statement i needs n GOTO statements right after it inside the unit"
 unfoldable pub tableb : Code → ℕ → ℕ → Bool
 tableb c i n =
-    leb 1 n && leb n 255 && ltb (i + n) c.statements && gotosb c n (i + 1)
+    leb 1 n and leb n 255 and ltb (i + n) c.statements and gotosb c n (i + 1)
 
 -- The code of a loop end.
 abbrev pub is_loop_end : Statement → Bool
@@ -105,7 +105,7 @@ is_loop_end s = eqb s.code 15
 
 -- "the number of a loop end (code 15) that stands behind the statement, inside the unit" (docs/ENCODING.md): of the FOR at i.
 unfoldable pub endb : Code → ℕ → ℕ → Bool
-endb c i end = ltb i end && ltb end c.statements && is_loop_end (c.statement end)
+endb c i end = ltb i end and ltb end c.statements and is_loop_end (c.statement end)
 
 -- "Unused parts are zero."; "Targets are below N."
 abbrev pub roleb : Code → ℕ → Role → ℕ → Bool
@@ -119,11 +119,11 @@ roleb c i role.End x = endb c i x
 roleb c i role.Never x = false
 
 unfoldable pub rowb : Code → ℕ → Row → Statement → Bool
-rowb c i r s = roleb c i r.a s.a && roleb c i r.b s.b && roleb c i r.c s.c
+rowb c i r s = roleb c i r.a s.a and roleb c i r.b s.b and roleb c i r.c s.c
 
 -- "5 | statement code, zero part, count or target wrong"
 unfoldable pub shapeb : Code → ℕ → Bool
-shapeb c i = eqb (c.statement i).zero 0 && rowb c i (row_of (verb_of (c.statement i).code)) (c.statement i)
+shapeb c i = eqb (c.statement i).zero 0 and rowb c i (row_of (verb_of (c.statement i).code)) (c.statement i)
 
 -- "5 before a's 4 before b's 4": both 4 name the statement
 unfoldable pub found_of : Code → ℕ → Found

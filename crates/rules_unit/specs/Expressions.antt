@@ -8,7 +8,7 @@
 --   suits w k          whether an expression of the sort k is of the sort wanted
 -- Assumes nothing.
 use Rattle.std.specs.Prelude.{◌≡◌, ℕ, ◌+◌, ◌-◌, Bool, true, false, cond, List, [], ◌∷◌, ltb, leb, eqb, length, take, drop}
-use Rattle.rules.specs.Tests.{◌&&◌}
+use Rattle.rules.specs.Tests.{◌and◌}
 use Rattle.rules.specs.Values.{is_from}
 use Rattle.rules_unit.specs.declared.Form.{Form}
 use Rattle.rules_unit.specs.declared.Form.TheVariants as form
@@ -30,7 +30,7 @@ use Rattle.rules_unit.specs.Decode.{width_of}
 -- "all digits 0 to 9"
 unfoldable pub digitsb : List ℕ → Bool
 digitsb [] = true
-digitsb (b ∷ bs) = let rest = digitsb bs in is_from 48 b && rest
+digitsb (b ∷ bs) = let rest = digitsb bs in is_from 48 b and rest
 
 -- The operators take two values, but for negate and NOT.
 abbrev pub op_takes : Op → ℕ
@@ -69,11 +69,11 @@ takes item.Bad = 0
 -- "length (1 byte, 1 to 18), all digits 0 to 9"; "Offsets, field numbers and literals lie inside their parts."
 unfoldable pub numberb : Code → ℕ → ℕ → Bool
 numberb c place len =
-    leb 1 len && leb len c.dialect.limit && leb (place + len) (length c.literals) && digitsb (take len (drop place c.literals))
+    leb 1 len and leb len c.dialect.limit and leb (place + len) (length c.literals) and digitsb (take len (drop place c.literals))
 
 -- "length (2 bytes, at least 1)"
 unfoldable pub textb : Code → ℕ → ℕ → Bool
-textb c place len = leb 1 len && leb (place + len) (length c.literals)
+textb c place len = leb 1 len and leb (place + len) (length c.literals)
 
 abbrev pub itemb : Code → Item → Bool
 itemb c (item.Number place len) = numberb c place len
@@ -195,4 +195,4 @@ useb c (use-of.Of w at written) = suits w (sort_at c at)
 
 unfoldable pub usesb : Code → List Use → Bool
 usesb c [] = true
-usesb c (x ∷ xs) = let rest = usesb c xs in useb c x && rest
+usesb c (x ∷ xs) = let rest = usesb c xs in useb c x and rest

@@ -14,7 +14,7 @@ use Rattle.rules_unit.specs.declared.Form.TheVariants as form
 use Rattle.rules_unit.specs.Decode.{Fills, SoundDialect, word_at, items_at, code_of}
 use Rattle.rules_run.specs.declared.Worked.{Worked}
 use Rattle.rules_run.specs.Evaluation.{place_by, worked_of}
-use Rattle.rules.specs.Tests.{◌&&◌}
+use Rattle.rules.specs.Tests.{◌and◌}
 use Rattle.rules.proofs.Tests.{both}
 use Rattle.run_evaluate.specs.Steps.{loneb}
 use Rattle.run_evaluate.proofs.Held.{vals_zero}
@@ -25,15 +25,15 @@ use Rattle.run_evaluate.proofs.Steps.{rest_start, field_place}
 record Lone (es : List ℕ) (i : ℕ) : Type 0 where
   there : i < length es
   field : get_or es i 0 ≡ 2
-  closes : ltb (i + 3) (length es) && eqb (get_or es (i + 3) 0) 0 ≡ true
+  closes : ltb (i + 3) (length es) and eqb (get_or es (i + 3) 0) 0 ≡ true
   room : i + 3 < length es
 
 -- t is what the code's own test answers
 module _ (es : List ℕ) (i : ℕ) (t : Bool) (et : t ≡ loneb es i) (o : t ≡ true) where
   lone_tells : Lone es i
   lone_tells =
-      let closes : Bool = ltb (i + 3) (length es) && eqb (get_or es (i + 3) 0) 0 in
-      let first = (both (ltb i (length es)) (eqb (get_or es i 0) 2 && closes)).0 (sym et ∙ o) in
+      let closes : Bool = ltb (i + 3) (length es) and eqb (get_or es (i + 3) 0) 0 in
+      let first = (both (ltb i (length es)) (eqb (get_or es i 0) 2 and closes)).0 (sym et ∙ o) in
       let second = (both (eqb (get_or es i 0) 2) closes).0 first.1 in
       record {
         there = ltb-true i (length es) first.0;

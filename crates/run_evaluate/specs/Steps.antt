@@ -9,7 +9,7 @@
 -- The rule itself is `worked_of` of rules_run, over the list of items.
 -- Assumes nothing.
 use Rattle.std.specs.Prelude.{ℕ, zero, suc, ◌+◌, ◌^◌, ◌<◌, ◌≡◌, Bool, cond, List, [], ◌∷◌, ltb, eqb, ℤ, pos, length, get_or}
-use Rattle.rules.specs.Tests.{◌&&◌}
+use Rattle.rules.specs.Tests.{◌and◌}
 use Rattle.rules.specs.declared.Num.{Num}
 use Rattle.rules.specs.declared.Num.TheVariants.{Value, Failed}
 use Rattle.rules.specs.Values.{Val}
@@ -42,7 +42,7 @@ form_of code = cond (eqb code 0x03) form.Subscript (cond (eqb code 0x04) form.St
 
 abbrev pub loneb : List ℕ → ℕ → Bool
 loneb es i =
-    ltb i (length es) && eqb (get_or es i 0) 0x02 && ltb (i + 3) (length es) && eqb (get_or es (i + 3) 0) 0
+    ltb i (length es) and eqb (get_or es i 0) 0x02 and ltb (i + 3) (length es) and eqb (get_or es (i + 3) 0) 0
 
 -- Every value of the array is in the range.
 abbrev pub Vals : List ℤ → Type 0

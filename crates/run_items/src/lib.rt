@@ -4,7 +4,7 @@
 
 ghost use Rattle.std.specs.Prelude.{◌≡◌, true, false, cond, ◌+◌, ◌^◌, ◌<◌, ◌≤◌, ltb, eqb, pos, length, get_or, take, drop};
 ghost use Rattle.rules.specs.declared.Fault.TheVariants as fault;
-ghost use Rattle.rules.specs.Tests.{◌&&◌};
+ghost use Rattle.rules.specs.Tests.{◌and◌};
 ghost use Rattle.rules.specs.Values.{Val, Top, read_of};
 ghost use Rattle.rules_unit.specs.declared.Form.TheVariants as form;
 ghost use Rattle.rules_unit.specs.Decode.{Fills, SoundDialect, code_of};
@@ -266,7 +266,7 @@ pub fn text_by(unit: &[u8], parts: Parts, place: u16, len: u16, n: usize) -> Wor
 
 // Whether the expression ends at an offset: 00 stands there.
 pub fn ends(es: &[u8], at: usize) -> bool
-    ensures { result ≡ (ltb at (length es.now) && eqb (get_or es.now at 0) 0) }
+    ensures { result ≡ (ltb at (length es.now) and eqb (get_or es.now at 0) 0) }
 {
     if at < es.len() {
         return es[at] == 0;

@@ -9,7 +9,7 @@ use mathlib.Core.List.{List}
 use lib.ListN.{length, get_or, drop, drop_of_length-le}
 use lib.Seq.{drop-cons}
 use borrow.Author.Tests.{le-leb, lt-leb, eq-eqb, not-true, not-false}
-use Rattle.rules.specs.Tests.{◌&&◌}
+use Rattle.rules.specs.Tests.{◌and◌}
 use Rattle.rules_unit.specs.declared.Parts.{Parts}
 use Rattle.rules_unit.specs.Decode.{code_of}
 use Rattle.rules_run.specs.declared.State.{State}
@@ -63,7 +63,7 @@ module _ (u : List ℕ) (p : Parts) (s : State) where
 
         module _ (o : not x ≡ false) (y : Bool) (i : y ≡ handlerb p.n s.trap.handler) where
           -- What is left is asked of the handler and of the last error.
-          rest : soundb (code_of u p) s ≡ (y && caughtb p.n s.trap.caught)
+          rest : soundb (code_of u p) s ≡ (y and caughtb p.n s.trap.caught)
           unfolding soundb
           rest =
               rw (

@@ -7,7 +7,7 @@ use mathlib.Core.List.{List}
 use lib.Dec.{leb}
 use native.Mathlib.Nat.{add-sub_cancel_left}
 use borrow.Author.Tests.{lt-ltb, le-ltb, lt-leb, le-leb, eq-eqb, ne_eqb, not-true, not-false}
-use Rattle.rules.specs.Tests.{◌&&◌}
+use Rattle.rules.specs.Tests.{◌and◌}
 use Rattle.rules_unit.specs.declared.Parts.{Parts}
 use Rattle.rules_unit.specs.declared.Statement.{Statement}
 use Rattle.rules_unit.specs.declared.Verb.{Verb}
@@ -57,7 +57,7 @@ module _ (u : List ℕ) (p : Parts) (i : ℕ) where
     unfolding tableb
     table_past h = rw (le-ltb (i + n) p.n (omega arith)) (by (leb 1 n) (leb n 255))
       where
-        by : (x y : Bool) → false ≡ (x && y && false)
+        by : (x y : Bool) → false ≡ (x and y and false)
         by true true = refl
         by true false = refl
         by false y = refl

@@ -6,7 +6,7 @@ use mathlib.Core.List.{List}
 use lib.Dec.{leb, eqb}
 use lib.ListN.{length}
 use borrow.Author.Tests.{lt-leb, le-leb, not-false}
-use Rattle.rules.specs.Tests.{◌&&◌}
+use Rattle.rules.specs.Tests.{◌and◌}
 use Rattle.rules.proofs.Walk.{cond_no, cond_yes, denied_yes, denied_no, seen_yes, seen_no}
 use Rattle.rules_unit.specs.declared.Mark.{Mark}
 use Rattle.rules_unit.specs.declared.Parts.{Parts}
@@ -32,11 +32,11 @@ module _ (u : List ℕ) (m : Mark) (w : Bool) (least : 12 ≤ length u) (most : 
 abbrev rest_of : ℕ → ℕ → Field → ℕ → Bool
 rest_of limit size f floor =
     leb (f.offset + f.count * f.size) size
-    && cond (is_record f.kind) (eqb f.count 1) (leb floor f.offset && cond (is_decimal f.kind) (leb f.size limit) true)
+    and cond (is_record f.kind) (eqb f.count 1) (leb floor f.offset and cond (is_decimal f.kind) (leb f.size limit) true)
 
 abbrev entry_of : ℕ → ℕ → Field → ℕ → Bool
 entry_of limit size f floor =
-    not (is_bad f.kind) && choiceb f.zero && leb 1 f.size && leb 1 f.count && rest_of limit size f floor
+    not (is_bad f.kind) and choiceb f.zero and leb 1 f.size and leb 1 f.count and rest_of limit size f floor
 
 module _ (u : List ℕ) (p : Parts) (i floor : ℕ) (f : Field) (read : f ≡ (code_of u p).field i) where
   pub entry_by_lem : (z : Bool) → z ≡ entry_of p.dialect.limit p.d f floor → z ≡ entryb (code_of u p) i floor
