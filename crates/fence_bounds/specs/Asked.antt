@@ -1,5 +1,5 @@
 -- What the code asks of the bounds that stand before a reference, and two readings of them.
---   first_bound, last_bound s    the two bounds, 0 where there is none; startBound h s the one that a reference starts from
+--   first_bound, last_bound s    the two bounds, 0 where there is none; start_bound h s the one that a reference starts from
 --   Small s                    the bounds are in the range of values
 -- Assumes nothing.
 use Rattle.std.specs.Prelude.{◌^◌, ℤ, pos}

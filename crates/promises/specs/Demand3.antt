@@ -18,12 +18,12 @@
 --   valid_exactly, first_exactly, size_exactly, no_unit_exactly    each answer about a data buffer is given exactly when what it says is so
 --   invalid_first                               the element that is named is not valid, and all before it are
 --   cannot_slip                                 what holds of every run of a unit with a yes, and its five parts in the letter's words
---   errors_safe                                 what holds of every error that is given in such a run, and its two parts in the letter's words, never-21 and
---                                               bad-digit-only-text
+--   errors_safe                                 what holds of every error that is given in such a run, and its two parts in the letter's words, never_21 and
+--                                               bad_digit_only_text
 --   last_error_never_21                         so that 21 never becomes the last error
 --   says_exactly, names_exactly, keeps_exactly, data_exactly, run_cannot_slip   the same of the contracts themselves: of whatever `dibol::fence`, `dibol::breach`,
 --                                               `dibol::invalid` and `dibol::run` are permitted to answer and leave
---   asked_cannot_slip                           run-cannot-slip where all that it takes is asked: the fence answered yes, and the data had no invalid decimal
+--   asked_cannot_slip                           run_cannot_slip where all that it takes is asked: the fence answered yes, and the data had no invalid decimal
 -- Assumes nothing.
 use Rattle.std.specs.Prelude.{ℕ, ◌+◌, ◌<◌, ◌≡◌, true, ◌↔◌, ◌⊎◌, List, length, get_or, take, drop}
 use Rattle.std.proofs.Common.{sym, ◌∙◌, subst, inl, inr}

@@ -17,9 +17,9 @@
 --   breaches_settled, statement_breaches_settled    the count that `dibol::breaches` and `dibol::statement_breaches` answer, and each number of the rows
 --   c_run_settled      the stop that `dibol_run` answers, each byte of the data, and each number of the state and of the answer
 --   c_check_settled, c_fence_settled, c_literal_settled    what `dibol_check`, `dibol_fence` and `dibol_literal` answer, and each number of the answer
---   c_words_settled, c_breach_words_settled    as words-settled, of `dibol_words` and `dibol_breach_words`
+--   c_words_settled, c_breach_words_settled    as words_settled, of `dibol_words` and `dibol_breach_words`
 --   c_parts_settled, c_field_settled, c_invalid_settled    what `dibol_parts`, `dibol_field` and `dibol_invalid` answer, and each number of the answer
---   c_breaches_settled    as breaches-settled, of `dibol_breaches`
+--   c_breaches_settled    as breaches_settled, of `dibol_breaches`
 --   c_breach_settled, c_version_settled, c_state_len_settled    the numbers that `dibol_breach`, `dibol_version` and `dibol_state_len` answer
 -- Assumes nothing.
 use Rattle.std.specs.Prelude.{ℕ, ◌≡◌}

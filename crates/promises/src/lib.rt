@@ -1,3 +1,2 @@
 // This crate holds the theorems for readers, in specs/; it has no code.
 #![tactic(auto)]
-

@@ -4,8 +4,8 @@
 --   digit_own          a digit that is shown is the number's own
 --   edit_at_lem            each character is shown by the one rule, in the state that the walk has come to
 --   sight_exact        the counters of that state are what is left: characters, money signs and digit places
---   holds_on           significance, once begun, holds to the end; digit-shows: from there on a digit place shows its digit
---   mark_stays         a fixed mark is shown as it is; other-stays: so is what is no control character, wherever it stands
+--   holds_on           significance, once begun, holds to the end; digit_shows: from there on a digit place shows its digit
+--   mark_stays         a fixed mark is shown as it is; other_stays: so is what is no control character, wherever it stands
 --   money_once         no more than one money sign is shown
 --   finished_is        a mask edited where it stands, at the right end of its destination, is the number formatted
 --   plan_small         the digits left have places in the table of powers

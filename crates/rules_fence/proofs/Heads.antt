@@ -2,7 +2,7 @@
 --   first_rule_lem     the rule of the first reference of a statement is the one that the statement breaks first; none_left, there is none exactly where it breaks none;
 --                  some_left, where it breaks one, the first reference stands in that statement
 --   yes_none       the list of a sound unit is empty exactly for a yes
---   no_first       the first reference stands in the statement that a no names; no-rule, and breaks the rule that this one breaks first
+--   no_first       the first reference stands in the statement that a no names; no_rule, and breaks the rule that this one breaks first
 --   none_exactly   there is none exactly for a yes and for a refusal
 --   rising         the statements rise
 -- Assumes nothing.

@@ -2,7 +2,7 @@
 -- and a decimal place has no more characters than a number has digits.
 --   Bounded bound c size w    w is in the range below the bound, or lies inside the data's size bytes or the literals
 --   place_room                a decimal place that is found in a sound unit has some characters, and no more than the limit's
---   worked_within             what an expression comes to lies where the rules say; place-within, of a place that is found
+--   worked_within             what an expression comes to lies where the rules say; place_within, of a place that is found
 -- Assumes nothing.
 use mathlib.Core.Path.{◌≡◌, refl, subst}
 use mathlib.Core.Bool.{Bool, true, false}

@@ -1,6 +1,6 @@
 -- Expressions in a row: what is left from an offset on ends where the whole does, and that is inside the expressions.
 --   not_end                           what the code's `if let Item::End` leaves
---   row_ends, row_bad, row_on         one turn of the loop over the items; row-past behind their end
+--   row_ends, row_bad, row_on         one turn of the loop over the items; row_past behind their end
 --   row_noted, rows_more, rows_none   what is noted
 --   part_is, next_part, next_small    the expressions as the part of the unit that the code reads
 -- Assumes nothing.
