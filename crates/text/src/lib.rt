@@ -67,7 +67,8 @@ pub fn read(limit: usize, sign: u64, s: &[u8]) -> Num
     }
     let mut from = 0;
     while from < n {
-        if s[from] != 32 {
+        let other = s[from] != 32;
+        if other {
             return figures(sign, s, from);
         }
         from += 1;
@@ -99,7 +100,8 @@ pub fn write(sign: u8, s: &mut [u8], v: i64)
     let m = number::magnitude(v);
     put_digits(s, m);
     if number::is_neg(v) {
-        let kept = m % number::power(n);
+        let tens = number::power(n);
+        let kept = m % tens;
         if 0 < kept {
             s[n - 1] = sign + (m % 10) as u8;
         }

@@ -14,8 +14,8 @@ returns-then-limit-n c = let a = c.args in sym (read_long a.limit a.sign a.s.now
 pub loop-from-init : goal.loop-from-init
 loop-from-init c = let a = c.args in read_start a.limit a.sign a.s.now c.if-n-eq0.false c.if-limit-n.false
 
-pub returns-then-s-from-ne32 : goal.returns-then-s-from-ne32
-returns-then-s-from-ne32 c =
+pub returns-then-other : goal.returns-then-other
+returns-then-other c =
     let a = c.args in
     c.figures.ensures ∙ sym (c.loop-from.invariant ∙ padded_figures a.sign a.s.now c.loop-from.from c.loop-from-test.true (λ e. omega arith))
 
@@ -28,7 +28,7 @@ loop-from-smaller c = omega arith
 pub loop-from-preserved : goal.loop-from-preserved
 loop-from-preserved c =
     let a = c.args in
-    c.loop-from.invariant ∙ padded_on a.sign a.s.now c.loop-from.from c.loop-from-test.true c.if-s-from-ne32.false
+    c.loop-from.invariant ∙ padded_on a.sign a.s.now c.loop-from.from c.loop-from-test.true c.if-other.false
 
 pub returns : goal.returns
 returns c =
