@@ -5,52 +5,77 @@
 ghost use Rattle.std.specs.Prelude.{◌≤◌, length};
 
 use rules_unit::Checked;
-use std::io::{Print, Read, Stdin};
+use std::cell::Cell;
+use std::io;
+use std::io::{ErrorKind, Print, Read, Stdin};
+use std::process::ExitCode;
 
-// Writes to standard output. A failure to write is not told.
-fn say(rt: &HostRuntime, s: &[u8]) {
-    let done = rt.write_all(s);
+// The exit status of a program that the system ends by the signal 13, as it does where nobody reads what is written.
+const UNHEARD: u8 = 141;
+
+// The host of the program, and whether who reads its output has gone away.
+#[derive(Drop)]
+struct Host {
+    rt: HostRuntime,
+    gone: Cell<bool>,
+}
+
+// Notes what became of a write. A failure is not told.
+fn note(host: &Host, done: io::Result<()>) {
+    match done {
+        Ok(_) => {}
+        Err(e) => {
+            if e.kind() == ErrorKind::BrokenPipe {
+                host.gone.set(true);
+            }
+        }
+    }
+}
+
+// Writes to standard output.
+fn say(host: &Host, s: &[u8]) {
+    note(host, host.rt.write_all(s));
 }
 
 // Writes a number in figures, without leading zeros.
-fn say_number(rt: &HostRuntime, n: u64) {
-    let done = rt.print(n);
+fn say_number(host: &Host, n: u64) {
+    note(host, host.rt.print(n));
 }
 
 // The first line.
-fn say_stop(rt: &HostRuntime, number: u8, place: u16, count: u64) {
-    say_number(rt, number as u64);
-    say(rt, b" ");
-    say_number(rt, place as u64);
-    say(rt, b" ");
-    say_number(rt, count);
-    say(rt, b"\n");
+fn say_stop(host: &Host, number: u8, place: u16, count: u64) {
+    say_number(host, number as u64);
+    say(host, b" ");
+    say_number(host, place as u64);
+    say(host, b" ");
+    say_number(host, count);
+    say(host, b"\n");
 }
 
 // Runs a unit over its data, which starts as its image, the first bytes of the unit; and writes both lines.
-fn run_data(rt: &HostRuntime, unit: &[u8], data: &mut [u8]) {
+fn run_data(host: &Host, unit: &[u8], data: &mut [u8]) {
     alpha::fit(data, unit);
     let out = dibol::run(unit, data, dibol::start(), 100000);
     let stop = out.stop;
-    say_stop(rt, dibol::stop_number(stop), out.place, out.count);
-    say(rt, data);
-    say(rt, b"\n");
+    say_stop(host, dibol::stop_number(stop), out.place, out.count);
+    say(host, data);
+    say(host, b"\n");
 }
 
 // Runs a unit that passes its checks, with d bytes of data.
-fn run_unit(rt: &HostRuntime, unit: &[u8], d: u16) {
+fn run_unit(host: &Host, unit: &[u8], d: u16) {
     let mut data = [0u8; 65536];
     let end = d as usize;
-    run_data(rt, unit, &mut data[0..end]);
+    run_data(host, unit, &mut data[0..end]);
 }
 
 // After 1 to 5 the second line is absent.
-fn bench(rt: &HostRuntime, unit: &[u8]) {
+fn bench(host: &Host, unit: &[u8]) {
     match dibol::check(unit) {
         Checked::Refused(r) => {
-            say_stop(rt, dibol::refusal_number(r), dibol::refusal_place(r), 0)
+            say_stop(host, dibol::refusal_number(r), dibol::refusal_place(r), 0)
         }
-        Checked::Passed(p) => run_unit(rt, unit, p.d),
+        Checked::Passed(p) => run_unit(host, unit, p.d),
     }
 }
 
@@ -69,9 +94,18 @@ fn read_full(mut input: Stdin, buf: &mut [u8]) -> usize
     done
 }
 
-// One byte more than the longest unit is read, so that a longer input is refused.
-fn main(rt: HostRuntime) {
+// One byte more than the longest unit is read, so that a longer input is refused. Where who reads the output goes away the program ends as one does that the
+// system ends then.
+fn main(rt: HostRuntime) -> ExitCode {
+    let host = Host {
+        rt: rt,
+        gone: Cell::new(false),
+    };
     let mut input = [0u8; 57354];
     let n = read_full(rt.stdin(), &mut input);
-    bench(&rt, &input[..n]);
+    bench(&host, &input[..n]);
+    if host.gone.get() {
+        return ExitCode::from(UNHEARD);
+    }
+    ExitCode::SUCCESS
 }

@@ -501,6 +501,29 @@ fn room_for(first: usize, breaches: usize) -> usize {
     LINES
 }
 
+// The lines of a unit whose first breaking statement is given, with room for a page of rows and for notes.
+fn say_noted(
+    host: &Host,
+    unit: &[u8],
+    parts: Parts,
+    names: &[u8],
+    data: &[u8],
+    i: u16,
+    first: usize,
+    show: Show,
+    page: &mut [u64; PAGE_ROOM],
+    space: &mut [u16; NOTES],
+) {
+    let rows: &mut [u64] = page;
+    let notes: &mut [u16] = space;
+    let tally = tally_of(unit, parts, i, rows, notes);
+    let most = least(most_told(first), least(tally.kept, KEPT_MOST));
+    let room = room_for(first, tally.breaches);
+    let shown = say_all(host, unit, parts, names, data, notes, most, room, show);
+    say_rest(host, tally.kept, shown);
+    say_totals(host, tally, parts.n);
+}
+
 // The lines of a unit whose first breaking statement is given.
 fn say_breaches(
     host: &Host,
@@ -514,14 +537,9 @@ fn say_breaches(
 ) {
     let mut page = [0u64; PAGE_ROOM];
     let mut space = [0u16; NOTES];
-    let rows: &mut [u64] = &mut page;
-    let notes: &mut [u16] = &mut space;
-    let tally = tally_of(unit, parts, i, rows, notes);
-    let most = least(most_told(first), least(tally.kept, KEPT_MOST));
-    let room = room_for(first, tally.breaches);
-    let shown = say_all(host, unit, parts, names, data, notes, most, room, show);
-    say_rest(host, tally.kept, shown);
-    say_totals(host, tally, parts.n);
+    say_noted(
+        host, unit, parts, names, data, i, first, show, &mut page, &mut space,
+    );
 }
 
 // A no with the first statement that breaks a rule.

@@ -18,12 +18,16 @@ mod words;
 
 use rules_unit::Checked;
 use say::{
-    Host, Read, Show, arg_count, argument, byte_at, host_of, is_number, new_line, number_in, part,
-    piece, put_given, put_text, read_file, same, sum, tell_line,
+    Host, Read, Show, arg_count, argument, byte_at, call_at, host_of, is_number, is_unheard,
+    is_word, new_line, number_in, part, piece, put_given, put_text, read_file, same, sum,
+    tell_line,
 };
 use std::process::ExitCode;
 use valid::tell_size;
 use words::{FAILED, GOOD};
+
+// The exit status of a program that the system ends by the signal 13, as it does where nobody reads what is written.
+const UNHEARD: u8 = 141;
 
 // The words by their numbers. The first four take files, and the first three of them one.
 const RUN: u8 = 0;
@@ -453,14 +457,18 @@ fn status_of(host: &Host, at: usize) -> u8 {
     FAILED
 }
 
-// The exit status is that of the answer where the wrapper asks for it, by `--status` as the first argument; else it is 0.
+// Answers a call, and ends the program. Where who reads the answer goes away it ends as one does that the system ends then. The exit status is that of the
+// answer where the wrapper asks for it, by `--status` as the first argument; else it is 0.
 fn main(rt: HostRuntime) -> ExitCode {
     let host = host_of(rt);
-    let mut first = io::buffer();
-    let n = argument(&host, 1, &mut first);
-    if same(&first[..n], b"--status") {
-        return ExitCode::from(status_of(&host, 2));
+    let asked = is_word(&host, 1, b"--status");
+    let at = if asked { call_at(&host) } else { 1 };
+    let status = status_of(&host, at);
+    if is_unheard(&host) {
+        return ExitCode::from(UNHEARD);
     }
-    let status = status_of(&host, 1);
+    if asked {
+        return ExitCode::from(status);
+    }
     ExitCode::SUCCESS
 }

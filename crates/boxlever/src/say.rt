@@ -42,15 +42,17 @@ pub struct Line {
     pub text: [u8; 600],
 }
 
-// The host of the program: its arguments, files and streams; whether a write to standard output has failed; and whether standard input was read.
+// The host of the program: its arguments, files and streams; whether a write to standard output has failed; whether who reads one of the streams has gone
+// away; and whether standard input was read.
 #[derive(Drop)]
 pub struct Host {
     rt: HostRuntime,
     lost: Cell<bool>,
+    gone: Cell<bool>,
     used: Cell<bool>,
 }
 
-// The reason of an error in the making: the line that it is put to.
+// A writer of text: the line that it puts what is written to.
 #[derive(Drop)]
 struct Reason {
     line: Line,
@@ -65,10 +67,13 @@ impl fmt::Write for Reason {
 
 // ---- the host
 
-// The system's numbers of errors that are told apart here: there is no such file; a descriptor is closed; a name is too long, or is no text in UTF-8.
+// The system's numbers of errors that are told apart here: there is no such file; a descriptor is closed; nobody reads a pipe; a name is too long, or is no
+// text in UTF-8.
 pub const MISSING: i32 = 2;
 
 const CLOSED: i32 = 9;
+
+const UNHEARD: i32 = 32;
 
 const LONG: i32 = 36;
 
@@ -82,6 +87,7 @@ pub fn host_of(rt: HostRuntime) -> Host {
     Host {
         rt: rt,
         lost: Cell::new(false),
+        gone: Cell::new(false),
         used: Cell::new(false),
     }
 }
@@ -106,13 +112,36 @@ fn reason_end(text: &[u8]) -> usize {
     i
 }
 
-// The reason of an error, as the system has it.
-fn reason_of(e: Error) -> Line {
+// An error as it is printed.
+fn printed(e: Error) -> Line {
     let mut reason = Reason { line: new_line() };
     let done = fmt::Write::write(&mut reason, e);
-    let text = reason.line.text;
-    let all = part(&text, 0, reason.line.at);
-    cut(reason.line, reason_end(all))
+    reason.line
+}
+
+// The reason of an error, as the system has it.
+fn reason_of(e: Error) -> Line {
+    let l = printed(e);
+    let text = l.text;
+    cut(l, reason_end(part(&text, 0, l.at)))
+}
+
+// Notes an error of a write. From where nobody reads a stream on, nothing is written to either.
+fn note_unheard(host: &Host, e: Error) {
+    if number_of(e) == UNHEARD {
+        host.gone.set(true);
+    }
+}
+
+// Writes to standard error. A failure is not told.
+fn tell(host: &Host, s: &[u8]) {
+    if host.gone.get() {
+        return;
+    }
+    match host.rt.stderr().write_all(s) {
+        Ok(_) => {}
+        Err(e) => note_unheard(host, e),
+    }
 }
 
 // Reports an error: a line with what failed, and the reason.
@@ -120,10 +149,9 @@ pub fn fail(host: &Host, what: Line, e: Error) {
     let reason = reason_of(e);
     let text = what.text;
     let words = reason.text;
-    let done = host.rt.stderr().write_all(part(&text, 0, what.at));
-    let mut l = put_text(new_line(), b": ");
-    l = put_text(l, part(&words, 0, reason.at));
-    tell_line(host, l);
+    tell(host, part(&text, 0, what.at));
+    let l = put_text(new_line(), b": ");
+    tell_line(host, put_text(l, part(&words, 0, reason.at)));
 }
 
 // Reports why standard output cannot be written, unless it is closed.
@@ -143,6 +171,7 @@ pub fn say(host: &Host, s: &[u8]) {
         Ok(_) => {}
         Err(e) => {
             host.lost.set(true);
+            note_unheard(host, e);
             tell_lost(host, e);
         }
     }
@@ -151,6 +180,11 @@ pub fn say(host: &Host, s: &[u8]) {
 // Whether all that was said has been written.
 pub fn end(host: &Host) -> bool {
     !host.lost.get()
+}
+
+// Whether who reads one of the streams has gone away.
+pub fn is_unheard(host: &Host) -> bool {
+    host.gone.get()
 }
 
 // How many arguments the program was started with, its own name among them.
@@ -177,7 +211,61 @@ pub fn argument(host: &Host, i: usize, buf: &mut [u8]) -> usize
     }
 }
 
+// Whether an argument is a word.
+pub fn is_word(host: &Host, i: usize, word: &[u8]) -> bool {
+    let mut space = io::buffer();
+    let n = argument(host, i, &mut space);
+    same(&space[..n], word)
+}
+
 // ---- files
+// A program of the kit opens a file by a name that is a text in UTF-8. The wrapper opens those with other names, and tells of each in three words in front of
+// those of the call: `--open`, the name, and a name by which what it has opened is opened again, or the system's number of the error.
+
+// The number of the argument with which a call begins whose first argument is `--status`.
+pub fn call_at(host: &Host) -> usize {
+    let mut at = 2;
+    for _ in 0..arg_count(host) {
+        if !is_word(host, at, b"--open") {
+            return at;
+        }
+        at = sum(at, 3);
+    }
+    at
+}
+
+// The number of the argument behind the name of a file that the wrapper has opened, or 0.
+fn opened_at(host: &Host, path: &[u8]) -> usize {
+    if !is_word(host, 1, b"--status") {
+        return 0;
+    }
+    for i in 2..arg_count(host) {
+        if is_word(host, i, b"--open") {
+            if is_word(host, sum(i, 1), path) {
+                return sum(i, 2);
+            }
+        }
+    }
+    0
+}
+
+// Opens a file that the wrapper has opened.
+fn open_again(host: &Host, path: &[u8]) -> Result<File, Error> {
+    let mut space = io::buffer();
+    let at = opened_at(host, path);
+    if at == 0 {
+        return Err(Error::from_raw_os_error(NO_TEXT));
+    }
+    let n = argument(host, at, &mut space);
+    let way = &space[..n];
+    if is_number(way) {
+        return Err(Error::from_raw_os_error((number_in(way) % 256) as i32));
+    }
+    match str::from_utf8(way) {
+        Ok(text) => fs::open(&host.rt, text),
+        Err(_) => Err(Error::from_raw_os_error(NO_TEXT)),
+    }
+}
 
 // Opens a file for reading.
 pub fn open(host: &Host, path: &[u8]) -> Result<File, Error> {
@@ -186,7 +274,7 @@ pub fn open(host: &Host, path: &[u8]) -> Result<File, Error> {
     }
     match str::from_utf8(path) {
         Ok(text) => fs::open(&host.rt, text),
-        Err(_) => Err(Error::from_raw_os_error(NO_TEXT)),
+        Err(_) => open_again(host, path),
     }
 }
 
@@ -748,5 +836,5 @@ pub fn say_shown(host: &Host, s: &[u8], show: Show) {
 pub fn tell_line(host: &Host, l: Line) {
     let next = put(l, b'\n');
     let text = next.text;
-    let done = host.rt.stderr().write_all(part(&text, 0, next.at));
+    tell(host, part(&text, 0, next.at));
 }

@@ -1,0 +1,10 @@
+-- `boxlever::picture::covered` ends: each turn puts one byte.
+-- The invariant: nothing is kept. The measure: the bytes that are left. Assumes nothing.
+use Prim.Native.Nat.{◌-◌}
+use Rattle.boxlever.proofs.picture.covered.Given as goal
+
+abbrev pub invariant-loop-i : goal.invariant-loop-i
+invariant-loop-i l = Unit {0}
+
+abbrev pub decreases-loop-i : goal.decreases-loop-i
+decreases-loop-i l = l.label.at - l.i

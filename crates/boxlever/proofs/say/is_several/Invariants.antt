@@ -1,0 +1,11 @@
+-- `boxlever::say::is_several` reads inside the text, and ends.
+-- The invariant: nothing is kept. The measure: the bytes that are left. Assumes nothing.
+use Prim.Native.Nat.{◌-◌}
+use lib.ListN.{length}
+use Rattle.boxlever.proofs.say.is_several.Given as goal
+
+abbrev pub invariant-loop-i : goal.invariant-loop-i
+invariant-loop-i l = Unit {0}
+
+abbrev pub decreases-loop-i : goal.decreases-loop-i
+decreases-loop-i l = length l.s - l.i

@@ -1,0 +1,11 @@
+-- `boxlever::say::say_shown` ends: each turn shows one byte.
+-- The invariant: nothing is kept. The measure: the bytes that are left. Assumes nothing.
+use Prim.Native.Nat.{◌-◌}
+use lib.ListN.{length}
+use Rattle.boxlever.proofs.say.say_shown.Given as goal
+
+abbrev pub invariant-loop-i : goal.invariant-loop-i
+invariant-loop-i l = Unit {0}
+
+abbrev pub decreases-loop-i : goal.decreases-loop-i
+decreases-loop-i l = length l.s - l.i
