@@ -4,7 +4,7 @@
 mod bounds;
 mod breaches;
 mod check;
-mod fence;
+mod fencing;
 mod fields;
 mod list;
 mod names;
@@ -113,7 +113,7 @@ fn answer_over(
     let show = c.show;
     match word {
         RUN => run::answer(host, unit, names, data, own, file, show),
-        FENCE => fence::answer(host, unit, names, data, own, file, c.first, show),
+        FENCE => fencing::answer(host, unit, names, data, own, file, c.first, show),
         _ => list::answer(host, unit, names, show),
     }
 }

@@ -1,7 +1,7 @@
 -- `boxlever::fence::put_hits` ends: each turn looks at one field.
 -- The invariant: nothing is kept. The measure: the fields that are left. Assumes nothing.
 use Prim.Native.Nat.{◌-◌}
-use Rattle.boxlever.proofs.fence.put_hits.Given as goal
+use Rattle.boxlever.proofs.fencing.put_hits.Given as goal
 
 abbrev pub invariant-loop-i : goal.invariant-loop-i
 invariant-loop-i l = Unit {0}

@@ -3,7 +3,7 @@
 use mathlib.Core.Path.{◌≡◌}
 use Prim.Native.Nat.{◌-◌}
 use lib.ListN.{length}
-use Rattle.boxlever.proofs.fence.say_all.Given as goal
+use Rattle.boxlever.proofs.fencing.say_all.Given as goal
 
 abbrev pub invariant-loop-k : goal.invariant-loop-k
 invariant-loop-k l = length l.told ≡ length l.initial.told
