@@ -3,8 +3,8 @@
 use crate::breaches::put_first;
 use crate::names::{field_name, source_line};
 use crate::say::{
-    Host, Line, Read, Show, argument, fill_to, least, less, line_for, most, new_line, part, piece,
-    put, put_form, put_given, put_right, put_text, read_file, say_line, sum, width,
+    Host, Line, Read, Show, argument, fill_to, is_unheard, least, less, line_for, most, new_line,
+    part, piece, put, put_form, put_given, put_right, put_text, read_file, say_line, sum, width,
 };
 use crate::valid::{Invalid, invalid_in, put_invalid, put_size, tell_size};
 use crate::words::{FAILED, GOOD, REFUSED, STOPPED, put_refusal};
@@ -521,6 +521,9 @@ pub fn check_files(
     while i < count {
         tally = say_argument(host, tally, t, i, data, file);
         i += 1;
+        if is_unheard(host) {
+            return status_of(tally);
+        }
     }
     say_totals(host, tally);
     status_of(tally)

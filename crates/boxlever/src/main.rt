@@ -18,8 +18,8 @@ mod words;
 
 use rules_unit::Checked;
 use say::{
-    Host, Read, Show, arg_count, argument, byte_at, call_at, host_of, is_number, is_unheard,
-    is_word, new_line, number_in, part, piece, put_given, put_text, read_file, same, sum,
+    Host, Read, Show, arg_count, argument, byte_at, call_at, host_of, is_asked, is_number,
+    is_unheard, new_line, number_in, part, piece, put_given, put_text, read_file, same, sum,
     tell_line,
 };
 use std::process::ExitCode;
@@ -458,10 +458,10 @@ fn status_of(host: &Host, at: usize) -> u8 {
 }
 
 // Answers a call, and ends the program. Where who reads the answer goes away it ends as one does that the system ends then. The exit status is that of the
-// answer where the wrapper asks for it, by `--status` as the first argument; else it is 0.
+// answer where the wrapper asks for it, by its first argument; else it is 0.
 fn main(rt: HostRuntime) -> ExitCode {
     let host = host_of(rt);
-    let asked = is_word(&host, 1, b"--status");
+    let asked = is_asked(&host);
     let at = if asked { call_at(&host) } else { 1 };
     let status = status_of(&host, at);
     if is_unheard(&host) {

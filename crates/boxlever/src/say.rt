@@ -167,6 +167,9 @@ pub fn say(host: &Host, s: &[u8]) {
     if host.lost.get() {
         return;
     }
+    if host.gone.get() {
+        return;
+    }
     match host.rt.stdout().write_all(s) {
         Ok(_) => {}
         Err(e) => {
@@ -219,31 +222,42 @@ pub fn is_word(host: &Host, i: usize, word: &[u8]) -> bool {
 }
 
 // ---- files
-// A program of the kit opens a file by a name that is a text in UTF-8. The wrapper opens those with other names, and tells of each in three words in front of
-// those of the call: `--open`, the name, and a name by which what it has opened is opened again, or the system's number of the error.
+// A program of the kit opens a file by a name that is a text in UTF-8. The wrapper opens those with other names, and tells of them in front of the call:
+// `--handed`, how many they are, and of each its name and a name by which what is open is opened again, or the system's number of the error.
 
-// The number of the argument with which a call begins whose first argument is `--status`.
-pub fn call_at(host: &Host) -> usize {
-    let mut at = 2;
-    for _ in 0..arg_count(host) {
-        if !is_word(host, at, b"--open") {
-            return at;
-        }
-        at = sum(at, 3);
+// How many files the wrapper has opened for the call.
+fn handed(host: &Host) -> usize {
+    if !is_word(host, 1, b"--handed") {
+        return 0;
     }
-    at
+    let mut space = io::buffer();
+    let n = argument(host, 2, &mut space);
+    least(number_in(&space[..n]), arg_count(host))
+}
+
+// Whether the wrapper made the call, which asks for the exit status by the first argument.
+pub fn is_asked(host: &Host) -> bool {
+    if is_word(host, 1, b"--handed") {
+        return true;
+    }
+    is_word(host, 1, b"--status")
+}
+
+// The number of the argument with which a call of the wrapper begins.
+pub fn call_at(host: &Host) -> usize {
+    if !is_word(host, 1, b"--handed") {
+        return 2;
+    }
+    let count = handed(host);
+    sum(3, sum(count, count))
 }
 
 // The number of the argument behind the name of a file that the wrapper has opened, or 0.
 fn opened_at(host: &Host, path: &[u8]) -> usize {
-    if !is_word(host, 1, b"--status") {
-        return 0;
-    }
-    for i in 2..arg_count(host) {
-        if is_word(host, i, b"--open") {
-            if is_word(host, sum(i, 1), path) {
-                return sum(i, 2);
-            }
+    for i in 0..handed(host) {
+        let at = sum(3, sum(i, i));
+        if is_word(host, at, path) {
+            return sum(at, 1);
         }
     }
     0
