@@ -10,17 +10,17 @@ use std::io;
 use std::io::{ErrorKind, Print, Read, Stdin};
 use std::process::ExitCode;
 
-// The exit status of a program that the system ends by the signal 13, as it does where nobody reads what is written.
+// The exit status that a shell reports after SIGPIPE. The kit's runtime ignores that signal, so the program returns the status itself.
 const UNHEARD: u8 = 141;
 
-// The host of the program, and whether who reads its output has gone away.
+// The runtime, and whether a write found that nobody reads standard output.
 #[derive(Drop)]
 struct Host {
     rt: HostRuntime,
     gone: Cell<bool>,
 }
 
-// Notes what became of a write. A failure is not told.
+// Records whether a write found that nobody reads standard output. Other failures are ignored.
 fn note(host: &Host, done: io::Result<()>) {
     match done {
         Ok(_) => {}
@@ -79,7 +79,7 @@ fn bench(host: &Host, unit: &[u8]) {
     }
 }
 
-// Reads until the buffer is full, the input ends or a read fails, and answers how many bytes it put at the start of the buffer.
+// Reads until the buffer is full, the input ends or a read fails, and returns the number of bytes read.
 fn read_full(mut input: Stdin, buf: &mut [u8]) -> usize
     ensures { result ≤ length buf.new }
 {
@@ -94,8 +94,7 @@ fn read_full(mut input: Stdin, buf: &mut [u8]) -> usize
     done
 }
 
-// One byte more than the longest unit is read, so that a longer input is refused. Where who reads the output goes away the program ends as one does that the
-// system ends then.
+// Reads one byte more than the longest unit, so that a longer input is refused. The exit status is 141 if nobody reads the output, else 0.
 fn main(rt: HostRuntime) -> ExitCode {
     let host = Host {
         rt: rt,

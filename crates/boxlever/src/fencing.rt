@@ -501,7 +501,7 @@ fn room_for(first: usize, breaches: usize) -> usize {
     LINES
 }
 
-// The lines of a unit whose first breaking statement is given, with room for a page of rows and for notes.
+// Writes the breaches of a unit, of which statement i is the first that breaks a rule. `page` and `space` are room for rows and notes.
 fn say_noted(
     host: &Host,
     unit: &[u8],

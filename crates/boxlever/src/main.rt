@@ -26,7 +26,7 @@ use std::process::ExitCode;
 use valid::tell_size;
 use words::{FAILED, GOOD};
 
-// The exit status of a program that the system ends by the signal 13, as it does where nobody reads what is written.
+// The exit status that a shell reports after SIGPIPE. The kit's runtime ignores that signal, so the program returns the status itself.
 const UNHEARD: u8 = 141;
 
 // The words by their numbers. The first four take files, and the first three of them one.
@@ -457,8 +457,8 @@ fn status_of(host: &Host, at: usize) -> u8 {
     FAILED
 }
 
-// Answers a call, and ends the program. Where who reads the answer goes away it ends as one does that the system ends then. The exit status is that of the
-// answer where the wrapper asks for it, by its first argument; else it is 0.
+// Answers a call. The exit status is 141 if nobody reads the answer or the errors; the status of the answer if the wrapper asks for it by the first argument;
+// else 0.
 fn main(rt: HostRuntime) -> ExitCode {
     let host = host_of(rt);
     let asked = is_asked(&host);

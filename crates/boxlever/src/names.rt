@@ -653,7 +653,7 @@ fn tell_long(host: &Host, path: &[u8], most: usize) {
     tell_unused(host, l);
 }
 
-// Tells why a names file cannot be read. That there is none is not told.
+// Reports why a names file cannot be read. A missing file is not reported.
 fn tell_unread(host: &Host, path: &[u8], e: Error) {
     if number_of(e) == MISSING {
         return;
@@ -665,7 +665,7 @@ fn tell_unread(host: &Host, path: &[u8], e: Error) {
     fail(host, l, e);
 }
 
-// Whether a names file was read to its end, where `read_full` gave so many bytes as fill its buffer or less; if not, it is told why.
+// Whether the rest of a names file was read to its end; if not, reports why.
 fn is_whole(host: &Host, file: &mut File, path: &[u8], most: usize) -> bool {
     let mut space = [0u8; 1];
     match file.read(&mut space) {

@@ -42,8 +42,8 @@ pub struct Line {
     pub text: [u8; 600],
 }
 
-// The host of the program: its arguments, files and streams; whether a write to standard output has failed; whether who reads one of the streams has gone
-// away; and whether standard input was read.
+// The runtime, which has the arguments, files and streams; and whether a write to standard output has failed, whether a write found that nobody reads its
+// stream, and whether standard input has been read.
 #[derive(Drop)]
 pub struct Host {
     rt: HostRuntime,
@@ -52,7 +52,7 @@ pub struct Host {
     used: Cell<bool>,
 }
 
-// A writer of text: the line that it puts what is written to.
+// A line as a writer of text: what is written is appended to it.
 #[derive(Drop)]
 struct Reason {
     line: Line,
@@ -67,8 +67,8 @@ impl fmt::Write for Reason {
 
 // ---- the host
 
-// The system's numbers of errors that are told apart here: there is no such file; a descriptor is closed; nobody reads a pipe; a name is too long, or is no
-// text in UTF-8.
+// The system's error numbers that the program distinguishes: no such file, a closed descriptor, a pipe that nobody reads, a name that is too long, a name that
+// is not UTF-8.
 pub const MISSING: i32 = 2;
 
 const CLOSED: i32 = 9;
@@ -79,7 +79,7 @@ const LONG: i32 = 36;
 
 const NO_TEXT: i32 = 84;
 
-// The bytes of a name that is too long for any file.
+// A file name of this many bytes is too long to open.
 pub const PATH: usize = 4096;
 
 // The host at the start of the program.
@@ -92,7 +92,7 @@ pub fn host_of(rt: HostRuntime) -> Host {
     }
 }
 
-// The system's number of an error, or 0.
+// The system's number of an error, or 0 if it has none.
 pub fn number_of(e: Error) -> i32 {
     match e.raw_os_error() {
         Some(number) => number,
@@ -100,7 +100,7 @@ pub fn number_of(e: Error) -> i32 {
     }
 }
 
-// Where the reason ends in an error as it is printed: ` (os error 2)` stands behind it.
+// Where the reason ends in an error as std prints it: before ` (os error 2)`.
 fn reason_end(text: &[u8]) -> usize {
     let mut i = 0;
     while i < text.len() {
@@ -112,28 +112,28 @@ fn reason_end(text: &[u8]) -> usize {
     i
 }
 
-// An error as it is printed.
+// An error as std prints it.
 fn printed(e: Error) -> Line {
     let mut reason = Reason { line: new_line() };
     let done = fmt::Write::write(&mut reason, e);
     reason.line
 }
 
-// The reason of an error, as the system has it.
+// The system's words for an error.
 fn reason_of(e: Error) -> Line {
     let l = printed(e);
     let text = l.text;
     cut(l, reason_end(part(&text, 0, l.at)))
 }
 
-// Notes an error of a write. From where nobody reads a stream on, nothing is written to either.
+// Records a write that failed because nobody reads the stream. After that the program writes to neither stream.
 fn note_unheard(host: &Host, e: Error) {
     if number_of(e) == UNHEARD {
         host.gone.set(true);
     }
 }
 
-// Writes to standard error. A failure is not told.
+// Writes to standard error. A failure is not reported.
 fn tell(host: &Host, s: &[u8]) {
     if host.gone.get() {
         return;
@@ -162,7 +162,7 @@ fn tell_lost(host: &Host, e: Error) {
     fail(host, put_text(new_line(), b"boxlever: standard output"), e);
 }
 
-// Writes to standard output. After a write that fails it is lost: the rest is not written, the reason is reported once, and `end` knows.
+// Writes to standard output. The first failure is reported; after it nothing more is written, and `end` returns false.
 pub fn say(host: &Host, s: &[u8]) {
     if host.lost.get() {
         return;
@@ -185,7 +185,7 @@ pub fn end(host: &Host) -> bool {
     !host.lost.get()
 }
 
-// Whether who reads one of the streams has gone away.
+// Whether a write found that nobody reads its stream.
 pub fn is_unheard(host: &Host) -> bool {
     host.gone.get()
 }
@@ -222,8 +222,8 @@ pub fn is_word(host: &Host, i: usize, word: &[u8]) -> bool {
 }
 
 // ---- files
-// A program of the kit opens a file by a name that is a text in UTF-8. The wrapper opens those with other names, and tells of them in front of the call:
-// `--handed`, how many they are, and of each its name and a name by which what is open is opened again, or the system's number of the error.
+// std opens a file only by a name that is UTF-8. The wrapper opens files with other names, and passes these words in front of the call: `--handed`, the number
+// of files, and for each file its name and then either a name by which the program opens it again or the system's number of the error.
 
 // How many files the wrapper has opened for the call.
 fn handed(host: &Host) -> usize {
@@ -235,7 +235,7 @@ fn handed(host: &Host) -> usize {
     least(number_in(&space[..n]), arg_count(host))
 }
 
-// Whether the wrapper made the call, which asks for the exit status by the first argument.
+// Whether the first argument asks for the exit status, as the wrapper does.
 pub fn is_asked(host: &Host) -> bool {
     if is_word(host, 1, b"--handed") {
         return true;
@@ -243,7 +243,7 @@ pub fn is_asked(host: &Host) -> bool {
     is_word(host, 1, b"--status")
 }
 
-// The number of the argument with which a call of the wrapper begins.
+// The number of the argument with which the call begins, behind the wrapper's own words.
 pub fn call_at(host: &Host) -> usize {
     if !is_word(host, 1, b"--handed") {
         return 2;
@@ -252,7 +252,7 @@ pub fn call_at(host: &Host) -> usize {
     sum(3, sum(count, count))
 }
 
-// The number of the argument behind the name of a file that the wrapper has opened, or 0.
+// The number of the argument after the name of a file that the wrapper has opened, or 0 if it has opened no file of that name.
 fn opened_at(host: &Host, path: &[u8]) -> usize {
     for i in 0..handed(host) {
         let at = sum(3, sum(i, i));
@@ -263,7 +263,7 @@ fn opened_at(host: &Host, path: &[u8]) -> usize {
     0
 }
 
-// Opens a file that the wrapper has opened.
+// Opens again a file that the wrapper has opened.
 fn open_again(host: &Host, path: &[u8]) -> Result<File, Error> {
     let mut space = io::buffer();
     let at = opened_at(host, path);
@@ -292,7 +292,7 @@ pub fn open(host: &Host, path: &[u8]) -> Result<File, Error> {
     }
 }
 
-// Reads until the buffer is full or the file ends, and answers how many bytes it put at the start of the buffer.
+// Reads until the buffer is full or the file ends, and returns the number of bytes read.
 pub fn read_full<R: Reads>(reader: &mut R, buf: &mut [u8]) -> Result<usize, Error>
     ensures { ReadsAtMost result buf.new }
 {
@@ -307,7 +307,7 @@ pub fn read_full<R: Reads>(reader: &mut R, buf: &mut [u8]) -> Result<usize, Erro
     Ok(done)
 }
 
-// Reports why a file cannot be read, and answers that.
+// Reports why a file cannot be read, and returns the system's number of the error.
 fn unread(host: &Host, path: &[u8], e: Error) -> Read {
     fail(
         host,
@@ -325,7 +325,7 @@ fn read_open<R: Reads + Drop>(host: &Host, mut reader: R, path: &[u8], buf: &mut
     }
 }
 
-// Reads standard input, which is read once, into a buffer.
+// Reads standard input into a buffer. After the first time, it reports standard input as closed.
 fn read_input(host: &Host, path: &[u8], buf: &mut [u8]) -> Read {
     if host.used.get() {
         return unread(host, path, Error::from_raw_os_error(CLOSED));
@@ -334,7 +334,7 @@ fn read_input(host: &Host, path: &[u8], buf: &mut [u8]) -> Read {
     read_open(host, host.rt.stdin(), path, buf)
 }
 
-// Reads a file into a buffer of so many bytes, and answers how many it has, or all that fit; or reports why it cannot be read. `-` is standard input.
+// Reads a file into a buffer, as much as fits, and returns the number of bytes read; or reports why the file cannot be read. `-` is standard input.
 pub fn read_file(host: &Host, path: &[u8], buf: &mut [u8]) -> Read {
     if same(path, b"-") {
         return read_input(host, path, buf);

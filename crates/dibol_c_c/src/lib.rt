@@ -1,5 +1,5 @@
-// The public face for C as a static library: each function of `dibol_c` under its own name, with its contract. Nothing is computed here, and
-// `dibol_c` says what each function answers and leaves.
+// The public face for C as a static library: exports each function of `dibol_c` under the same name, with the same contract. The comments of `dibol_c` describe
+// the functions.
 #![tactic(auto)]
 
 ghost use Rattle.std.specs.Prelude.{◌≡◌};
