@@ -21,14 +21,14 @@ help: ## Lists the targets.
 
 # ---- What is proved and built ----
 
-# It is built anew where the sources of a crate have changed since. rt knows by itself which crates that concerns.
+# make calls rt if any source is newer; rt knows which crates have changed.
 sources := $(shell find $(wildcard crates.txt crates/*/src crates/*/specs crates/*/proofs))
 
 build/bin/bench build/bin/boxlever: build/bin/%: $(sources)
 	@tools/prove build/$*.log $*
 	@install -D crates/$*/out/$* $@
 
-# Hosts link the archive by another name than that of its crate.
+# The installed archive is not named after its crate.
 build/lib/libdibol.a: $(sources)
 	@tools/prove build/lib.log dibol_c_c
 	@install -D -m 644 crates/dibol_c_c/out/libdibol_c_c.a $@
