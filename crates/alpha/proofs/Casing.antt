@@ -1,11 +1,11 @@
--- Laws of a loop that puts f of each byte in the byte's place, for any f: changing case, and filling, where f is constant.
+-- Laws of a loop that puts f of each byte in the byte's place, for any f.
 -- Assumes nothing.
-use mathlib.Core.Path.{◌≡◌, refl, ap, ◌∙◌}
-use mathlib.Core.List.{List, [], ◌∷◌, ◌++◌, map, append-nil}
+use mathlib.Core.Path.{◌≡◌, ap, ◌∙◌}
+use mathlib.Core.List.{List, ◌∷◌, ◌++◌, map, append-nil}
 use Prim.Native.Nat.{ℕ, suc, ◌+◌, ◌≤◌, ◌<◌}
 use native.Mathlib.Numerals.{add-one}
 use native.Mathlib.Omega.{arith}
-use lib.ListN.{length, get_or, take, drop, set, replicate, drop_of_length-le}
+use lib.ListN.{length, get_or, take, drop, set, drop_of_length-le}
 use lib.Seq.{drop-cons, take-suc-set, drop-set-lt, take_all, append_snoc}
 
 -- what is done, with what is still to do: at the start it is `map f s` by computation
@@ -20,7 +20,3 @@ module _ (f : ℕ → ℕ) where
 
   pub map_end : (s : List ℕ) (i : ℕ) → length s ≤ i → mapped_from f i s ≡ s
   map_end s i h = rw (drop_of_length-le s h) (append-nil (take i s) ∙ take_all i s h)
-
-pub map_constant : (b : ℕ) (s : List ℕ) → map (λ (x : ℕ). b) s ≡ replicate (length s) b
-map_constant b [] = refl
-map_constant b (x ∷ xs) = ap (λ (l : List ℕ). b ∷ l) (map_constant b xs)

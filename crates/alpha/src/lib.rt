@@ -1,7 +1,7 @@
 // Letters in bytes: alpha to alpha, case, filling.
 #![tactic(auto)]
 
-ghost use Rattle.std.specs.Prelude.{◌≡◌, min, length, replicate};
+ghost use Rattle.std.specs.Prelude.{◌≡◌, ℕ, map, length, replicate};
 ghost use Rattle.rules.specs.Charts.{Charts};
 ghost use Rattle.rules.specs.Moves.{fitted, upper, lower, upcased, locased};
 
@@ -43,41 +43,44 @@ const LOWER: [u8; 256] = *b"\
     \xe0\xe1\xe2\xe3\xe4\xe5\xe6\xe7\xe8\xe9\xea\xeb\xec\xed\xee\xef\
     \xf0\xf1\xf2\xf3\xf4\xf5\xf6\xf7\xf8\xf9\xfa\xfb\xfc\xfd\xfe\xff";
 
-// The chart of UPCASE, which a run binds once and lends: a constant that is indexed is laid out anew each time.
-pub fn upper_chart() -> [u8; 256]
-    ensures { Charts upper 256 result }
+// Puts what a chart has for each byte in the byte's place: f of the byte, of whichever rule f it is the chart.
+fn recase(chart: &[u8; 256], s: &mut [u8])
+    ensures { (f : ℕ → ℕ) → Charts f 256 chart.now → s.new ≡ map f s.old }
 {
-    UPPER
-}
-
-// The chart of LOCASE, to be bound likewise.
-pub fn lower_chart() -> [u8; 256]
-    ensures { Charts lower 256 result }
-{
-    LOWER
-}
-
-// UPCASE, by its chart.
-pub fn upcase(uppers: &[u8; 256], s: &mut [u8])
-    requires { Charts upper 256 uppers.now }
-    ensures { s.new ≡ upcased s.old }
-{
-    let mut i = 0;
-    while i < s.len() {
-        s[i] = uppers[s[i] as usize];
-        i += 1;
+    for b in s.iter_mut() {
+        *b = chart[*b as usize];
     }
 }
 
-// LOCASE, by its chart.
-pub fn locase(lowers: &[u8; 256], s: &mut [u8])
-    requires { Charts lower 256 lowers.now }
-    ensures { s.new ≡ locased s.old }
-{
-    let mut i = 0;
-    while i < s.len() {
-        s[i] = lowers[s[i] as usize];
-        i += 1;
+// The two charts, which a run binds once and lends: a constant that is indexed is laid out anew each time.
+#[derive(Drop)]
+pub struct Cases {
+    pub uppers: [u8; 256],
+    pub lowers: [u8; 256],
+    pub ghost upper: { Charts upper 256 uppers },
+    pub ghost lower: { Charts lower 256 lowers },
+}
+
+impl Cases {
+    pub fn new() -> Cases {
+        Cases {
+            uppers: UPPER,
+            lowers: LOWER,
+        }
+    }
+
+    // UPCASE.
+    pub fn upcase(&self, s: &mut [u8])
+        ensures { s.new ≡ upcased s.old }
+    {
+        recase(&self.uppers, s)
+    }
+
+    // LOCASE.
+    pub fn locase(&self, s: &mut [u8])
+        ensures { s.new ≡ locased s.old }
+    {
+        recase(&self.lowers, s)
     }
 }
 
@@ -85,30 +88,14 @@ pub fn locase(lowers: &[u8; 256], s: &mut [u8])
 pub fn fill(s: &mut [u8], b: u8)
     ensures { s.new ≡ replicate (length s.old) b }
 {
-    let mut i = 0;
-    while i < s.len() {
-        s[i] = b;
-        i += 1;
-    }
-}
-
-// The lesser of two lengths.
-fn least(a: usize, b: usize) -> usize
-    ensures { result ≡ min a b }
-{
-    if a < b { a } else { b }
+    s.fill(b)
 }
 
 // Alpha to alpha, from text that lies elsewhere: what fits is copied, and spaces fill the rest.
 pub fn fit(s: &mut [u8], from: &[u8])
     ensures { s.new ≡ fitted (length s.old) from.now }
 {
-    let n = s.len();
-    let m = least(n, from.len());
-    let mut i = 0;
-    while i < m {
-        s[i] = from[i];
-        i += 1;
-    }
-    fill(&mut s[m..n], 32)
+    let n = s.len().min(from.len());
+    s[..n].copy_from_slice(&from[..n]);
+    s[n..].fill(32)
 }

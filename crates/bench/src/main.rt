@@ -4,7 +4,6 @@
 
 ghost use Rattle.std.specs.Prelude.{◌≤◌, length};
 
-use rules_unit::Checked;
 use std::cell::Cell;
 use std::io;
 use std::io::{ErrorKind, Print, Read, Stdin};
@@ -22,12 +21,9 @@ struct Host {
 
 // Records whether a write found that nobody reads standard output. Other failures are ignored.
 fn note(host: &Host, done: io::Result<()>) {
-    match done {
-        Ok(_) => {}
-        Err(e) => {
-            if e.kind() == ErrorKind::BrokenPipe {
-                host.gone.set(true);
-            }
+    if let Err(e) = done {
+        if e.kind() == ErrorKind::BrokenPipe {
+            host.gone.set(true);
         }
     }
 }
@@ -44,9 +40,9 @@ fn say_number(host: &Host, n: u64) {
 
 // The first line.
 fn say_stop(host: &Host, number: u8, place: u16, count: u64) {
-    say_number(host, number as u64);
+    say_number(host, u64::from(number));
     say(host, b" ");
-    say_number(host, place as u64);
+    say_number(host, u64::from(place));
     say(host, b" ");
     say_number(host, count);
     say(host, b"\n");
@@ -56,8 +52,7 @@ fn say_stop(host: &Host, number: u8, place: u16, count: u64) {
 fn run_data(host: &Host, unit: &[u8], data: &mut [u8]) {
     alpha::fit(data, unit);
     let out = dibol::run(unit, data, dibol::start(), 100000);
-    let stop = out.stop;
-    say_stop(host, dibol::stop_number(stop), out.place, out.count);
+    say_stop(host, dibol::stop_number(out.stop), out.place, out.count);
     say(host, data);
     say(host, b"\n");
 }
@@ -65,17 +60,14 @@ fn run_data(host: &Host, unit: &[u8], data: &mut [u8]) {
 // Runs a unit that passes its checks, with d bytes of data.
 fn run_unit(host: &Host, unit: &[u8], d: u16) {
     let mut data = [0u8; 65536];
-    let end = d as usize;
-    run_data(host, unit, &mut data[0..end]);
+    run_data(host, unit, &mut data[..usize::from(d)]);
 }
 
 // After 1 to 5 the second line is absent.
 fn bench(host: &Host, unit: &[u8]) {
     match dibol::check(unit) {
-        Checked::Refused(r) => {
-            say_stop(host, dibol::refusal_number(r), dibol::refusal_place(r), 0)
-        }
-        Checked::Passed(p) => run_unit(host, unit, p.d),
+        Err(r) => { say_stop(host, dibol::refusal_number(r), dibol::refusal_place(r), 0) }
+        Ok(p) => run_unit(host, unit, p.d),
     }
 }
 
@@ -97,7 +89,7 @@ fn read_full(mut input: Stdin, buf: &mut [u8]) -> usize
 // Reads one byte more than the longest unit, so that a longer input is refused. The exit status is 141 if nobody reads the output, else 0.
 fn main(rt: HostRuntime) -> ExitCode {
     let host = Host {
-        rt: rt,
+        rt,
         gone: Cell::new(false),
     };
     let mut input = [0u8; 57354];

@@ -1,11 +1,11 @@
 // The table of a unit's fields: a row for each with what its first elements hold, and where all is told further rows with the others.
-use crate::parts::{field_of, figures_of};
-use crate::phrase::{kind_number, put_name};
-use crate::say::{
-    Host, Line, Show, cut, fill_to, least, less, line_for, most, new_line, part, piece, put,
-    put_form, put_number, put_quoted, put_right, put_text, say, say_line, sum, width,
-};
-use rules_unit::{Field, Parts, Rule};
+ghost use Rattle.std.specs.Prelude.{◌<◌};
+
+use crate::lines::{Line, part};
+use crate::parts::Unit;
+use crate::phrase::put_name;
+use crate::say::Host;
+use rules_unit::{Field, Kind, Rule};
 
 // The columns of the table: where a field's kind and its bytes begin, where its size and its count end, where what is stored begins, and where its value in
 // figures does.
@@ -17,6 +17,14 @@ struct Columns {
     count: usize,
     stored: usize,
     value: usize,
+}
+
+// The table of a unit's fields over some data.
+#[derive(Clone, Copy)]
+struct Table<'a> {
+    unit: Unit<'a>,
+    data: &'a [u8],
+    columns: Columns,
 }
 
 // The least column of the kinds, and how far behind it the bytes begin, without strict fields and with them.
@@ -31,366 +39,269 @@ const DECIMAL_ROOM: usize = 28;
 
 const ALPHA_ROOM: usize = 60;
 
-// The number of the kind of a record.
-const RECORD: u8 = 2;
+// The least room of the stored characters, that of their head.
+const STORED_ROOM: usize = 6;
 
 // ---- elements
 
-// How many of a field's elements fit a room, in quotes and with a space between two; one at the least.
-fn fitting(field: Field, room: usize) -> usize {
-    let cell = field.size as usize + 3;
-    let fit = sum(room, 1) / cell;
-    most(1, least(fit, field.count as usize))
-}
-
-// How many of a field's elements a row has.
-fn on_row(field: Field) -> usize {
+// How many of a field's elements a row has: those that fit a room, in quotes and with a space between two; one at the least.
+fn on_row(field: Field) -> usize
+    ensures { 0 < result }
+{
     let kind = field.kind;
-    if unit_decode::is_decimal(kind) {
-        return fitting(field, DECIMAL_ROOM);
-    }
-    fitting(field, ALPHA_ROOM)
-}
-
-// Puts an element in quotes; of a longer one than the room only its first characters, and two dots.
-fn put_element(l: Line, s: &[u8]) -> Line {
-    let next = put_quoted(l, part(s, 0, ALPHA_ROOM));
-    if ALPHA_ROOM < s.len() {
-        return put_text(next, b"..");
-    }
-    next
-}
-
-// Puts a decimal in figures.
-fn put_figures(l: Line, parts: Parts, s: &[u8]) -> Line {
-    let f = figures_of(parts, s);
-    if !f.good {
-        return put_text(l, b"no number");
-    }
-    let mut next = l;
-    if f.below {
-        next = put(l, b'-');
-    }
-    put_number(next, f.size)
-}
-
-// Puts an element as it is stored, or in figures.
-fn put_either(l: Line, parts: Parts, s: &[u8], figures: bool) -> Line {
-    if figures {
-        return put_figures(l, parts, s);
-    }
-    put_element(l, s)
-}
-
-// Puts k elements of so many bytes each, the first at a place of the data, with a space between two.
-fn put_elements(
-    l: Line,
-    parts: Parts,
-    data: &[u8],
-    start: usize,
-    size: usize,
-    k: usize,
-    figures: bool,
-) -> Line {
-    let mut next = l;
-    let mut place = start;
-    let mut left = k;
-    while 0 < left {
-        next = put_either(next, parts, part(data, place, size), figures);
-        next = put(next, b' ');
-        place = sum(place, size);
-        left -= 1;
-    }
-    cut(next, less(next.at, 1))
+    let room = if unit_decode::is_decimal(kind) {
+        DECIMAL_ROOM
+    } else {
+        ALPHA_ROOM
+    };
+    let cell = usize::from(field.size) + 3;
+    let fit = (room + 1) / cell;
+    fit.min(usize::from(field.count)).max(1)
 }
 
 // Where the element i of a field starts: where those before it end.
-pub fn start_of(field: Field, i: u16) -> usize {
-    let mut before = field;
-    before.count = i;
-    unit_decode::end_of(before)
+pub fn start_of(field: Field, i: usize) -> usize {
+    let before = i.saturating_mul(usize::from(field.size));
+    before.saturating_add(usize::from(field.offset))
 }
 
 // The element i of a field.
-pub fn element_of(data: &[u8], field: Field, i: u16) -> &[u8] {
-    part(data, start_of(field, i), field.size as usize)
+pub fn element_of(data: &[u8], field: Field, i: usize) -> &[u8] {
+    part(data, start_of(field, i), usize::from(field.size))
 }
 
-// Puts the elements of a field that a row has from the element i on: as they are stored, and decimals in figures too.
-fn put_held(l: Line, t: Columns, parts: Parts, data: &[u8], field: Field, i: u16) -> Line {
-    let kind = field.kind;
-    let size = field.size as usize;
-    let start = start_of(field, i);
-    let k = least(on_row(field), less(field.count as usize, i as usize));
-    let next = put_elements(l, parts, data, start, size, k, false);
-    if unit_decode::is_decimal(kind) {
-        let filled = fill_to(put_text(next, b"  "), t.value);
-        return put_elements(filled, parts, data, start, size, k, true);
+// How many bytes a field has.
+pub fn len_of(field: Field) -> usize {
+    unit_decode::end_of(field).saturating_sub(usize::from(field.offset))
+}
+
+// Puts an element in quotes; of a longer one than the room only its first characters, and two dots.
+fn put_element(l: &mut Line, s: &[u8]) {
+    l.quoted(part(s, 0, ALPHA_ROOM));
+    if ALPHA_ROOM < s.len() {
+        l.text(b"..");
     }
-    next
+}
+
+// Puts a decimal in figures.
+fn put_figures(l: &mut Line, unit: Unit<'_>, s: &[u8]) {
+    match unit.number(s) {
+        Some(v) => write!(l, "{v}"),
+        None => l.text(b"no number"),
+    }
+}
+
+// Puts the elements of a field that a row has from the element i on, each as it is put alone, with a space between two.
+fn put_elements<F: FnMut(&mut Line, &[u8])>(
+    l: &mut Line,
+    data: &[u8],
+    field: Field,
+    i: usize,
+    mut put: F,
+)
+    requires { F.IsAlwaysCallable put }
+{
+    let start = start_of(field, i);
+    let len = unit_decode::end_of(field).saturating_sub(start);
+    let size = usize::from(field.size).max(1);
+    for s in part(data, start, len).chunks(size).take(on_row(field)) {
+        put(l, s);
+        l.byte(b' ');
+    }
+    l.cut(l.len().saturating_sub(1));
 }
 
 // How many columns the stored characters of a decimal field take.
-fn stored_width(parts: Parts, data: &[u8], field: Field, show: Show) -> usize {
+fn stored_width(unit: Unit<'_>, data: &[u8], field: Field) -> usize {
     let kind = field.kind;
     if !unit_decode::is_decimal(kind) {
         return 0;
     }
-    let start = start_of(field, 0);
-    let l = put_elements(
-        line_for(show),
-        parts,
-        data,
-        start,
-        field.size as usize,
-        on_row(field),
-        false,
-    );
-    width(l)
-}
-
-// The widest of them, or that of the head.
-fn widest(unit: &[u8], parts: Parts, data: &[u8], show: Show) -> usize {
-    let mut width = 6;
-    let mut i: u16 = 0;
-    while i < parts.f {
-        width = most(
-            width,
-            stored_width(parts, data, field_of(unit, parts, i), show),
-        );
-        i += 1;
-    }
-    width
+    let mut l = unit.line();
+    put_elements(&mut l, data, field, 0, put_element);
+    l.width()
 }
 
 // Whether a field is strict.
 pub fn is_strict(field: Field) -> bool {
-    match run_spans::rule_of(field) {
-        Rule::Loose => false,
-        Rule::Strict => true,
-    }
+    matches!(run_spans::rule_of(field), Rule::Strict)
 }
 
-// Whether any of a unit's fields is strict.
-fn has_strict(unit: &[u8], parts: Parts) -> bool {
-    let mut i: u16 = 0;
-    while i < parts.f {
-        if is_strict(field_of(unit, parts, i)) {
-            return true;
-        }
-        i += 1;
-    }
-    false
-}
-
-// How many columns the longest of the names takes.
-fn longest(unit: &[u8], parts: Parts, names: &[u8]) -> usize {
-    let mut longest = 0;
-    let mut i: u16 = 0;
-    while i < parts.f {
-        let l = put_name(new_line(), names, field_of(unit, parts, i), i);
-        longest = most(longest, width(l));
-        i += 1;
-    }
-    longest
+// How many columns the name of the field i takes.
+fn name_width(unit: Unit<'_>, i: u16) -> usize {
+    let mut l = Line::new();
+    put_name(&mut l, unit, unit.field(i), i);
+    l.width()
 }
 
 // The columns of a table whose kinds and bytes begin at the columns given, where stored characters take so many columns.
 fn columns_from(kind: usize, span: usize, width: usize) -> Columns {
-    let stored = sum(span, 26);
+    let stored = span.saturating_add(26);
     Columns {
-        kind: kind,
-        span: span,
-        size: sum(span, 17),
-        count: sum(span, 24),
-        stored: stored,
-        value: sum(sum(stored, 2), width),
+        kind,
+        span,
+        size: span.saturating_add(17),
+        count: span.saturating_add(24),
+        stored,
+        value: stored.saturating_add(2).saturating_add(width),
     }
 }
 
 // The columns of a unit's table.
-fn columns_of(unit: &[u8], parts: Parts, names: &[u8], data: &[u8], show: Show) -> Columns {
-    let width = widest(unit, parts, data, show);
-    let kind = most(KIND, sum(longest(unit, parts, names), 2));
-    if has_strict(unit, parts) {
-        return columns_from(kind, sum(kind, STRICT_SPAN), width);
-    }
-    columns_from(kind, sum(kind, SPAN), width)
+fn columns_of(unit: Unit<'_>, data: &[u8]) -> Columns {
+    let fields = 0..unit.coded.parts.f;
+    let widths = fields.map(|i| stored_width(unit, data, unit.field(i)));
+    let width = widths.max().unwrap_or(0).max(STORED_ROOM);
+    let names = (0..unit.coded.parts.f).map(|i| name_width(unit, i));
+    let longest = names.max().unwrap_or(0);
+    let kind = longest.saturating_add(2).max(KIND);
+    let strict = (0..unit.coded.parts.f).any(|i| is_strict(unit.field(i)));
+    let room = if strict { STRICT_SPAN } else { SPAN };
+    columns_from(kind, kind.saturating_add(room), width)
 }
 
 // ---- the first row of a field
 
-// Puts `3-7`, or `3` for one byte.
-pub fn put_span(l: Line, from: usize, len: usize) -> Line {
-    if len < 2 {
-        return put_number(l, from as u64);
+// The word of a kind.
+fn kind_word(kind: Kind) -> &'static [u8] {
+    match kind {
+        Kind::Alpha => b"alpha",
+        Kind::Decimal => b"decimal",
+        Kind::Record => b"record",
+        Kind::Bad => b"none",
     }
-    let last = less(sum(from, len), 1);
-    put_form(l, b"#-#", from as u64, last as u64)
 }
 
-// Puts a field's name and kind, and whether it is strict.
-fn put_entry(l: Line, t: Columns, names: &[u8], field: Field, i: u16) -> Line {
-    let kind = field.kind;
-    let mut next = put_name(l, names, field, i);
-    next = fill_to(next, t.kind);
-    next = put_text(
-        next,
-        piece(b"alpha|decimal|record|none|", kind_number(kind)),
-    );
-    if is_strict(field) {
-        next = put_text(next, b" strict");
+impl Table<'_> {
+    // Puts a field's name and kind, and whether it is strict.
+    fn put_entry(self, l: &mut Line, field: Field, i: u16) {
+        put_name(l, self.unit, field, i);
+        l.fill_to(self.columns.kind);
+        l.text(kind_word(field.kind));
+        if is_strict(field) {
+            l.text(b" strict");
+        }
+        l.fill_to(self.columns.span);
     }
-    fill_to(next, t.span)
-}
 
-// Puts a field's bytes, size and count.
-fn put_sizes(l: Line, t: Columns, field: Field) -> Line {
-    let from = field.offset as usize;
-    let mut next = put_span(l, from, less(unit_decode::end_of(field), from));
-    next = put_right(next, field.size as u64, t.size);
-    next = put_right(next, field.count as u64, t.count);
-    fill_to(next, t.stored)
+    // Puts a field's bytes, size and count.
+    fn put_sizes(self, l: &mut Line, field: Field) {
+        l.span(usize::from(field.offset), len_of(field));
+        l.right(usize::from(field.size), self.columns.size);
+        l.right(usize::from(field.count), self.columns.count);
+        l.fill_to(self.columns.stored);
+    }
+
+    // Puts the elements of a field that a row has from the element i on: as they are stored, and decimals in figures too.
+    fn put_held(self, l: &mut Line, field: Field, i: usize) {
+        let kind = field.kind;
+        put_elements(l, self.data, field, i, put_element);
+        if unit_decode::is_decimal(kind) {
+            l.text(b"  ");
+            l.fill_to(self.columns.value);
+            let unit = self.unit;
+            put_elements(l, self.data, field, i, |l, s| put_figures(l, unit, s));
+        }
+    }
 }
 
 // Puts how many elements are not told.
-fn put_more(l: Line, field: Field) -> Line {
-    let k = on_row(field);
-    let count = field.count as usize;
-    if count <= k {
-        return l;
+fn put_more(l: &mut Line, field: Field) {
+    let more = usize::from(field.count).saturating_sub(on_row(field));
+    if 0 < more {
+        write!(l, " and {more} more");
     }
-    put_form(l, b" and # more", (count - k) as u64, 0)
 }
 
 // ---- further rows
 
-// Whether a row begins at a count, where each has k.
-fn begins(at: usize, k: usize) -> bool {
-    if k == 0 {
-        return false; // Never so: a row has one at the least.
+impl Table<'_> {
+    // The rows of an element's characters behind its first row.
+    fn say_tail(self, host: &Host, s: &[u8]) {
+        for at in (ALPHA_ROOM..s.len()).step_by(ALPHA_ROOM) {
+            let mut l = self.unit.line();
+            l.fill_to(self.columns.stored);
+            put_element(&mut l, part(s, at, s.len()));
+            host.say_line(l);
+        }
     }
-    at % k == 0
-}
 
-// The row of an element's characters from a count on, if a row begins there.
-fn say_characters(host: &Host, s: &[u8], at: usize, t: Columns, show: Show) {
-    if !begins(at, ALPHA_ROOM) {
-        return;
+    // Puts the subscript of the element i into the column of the counts.
+    fn put_subscript(self, l: &mut Line, i: usize) {
+        let mut subscript = Line::new();
+        write!(subscript, "({})", i.saturating_add(1));
+        l.fill_to(self.columns.count.saturating_sub(subscript.len()));
+        l.text(subscript.bytes());
+        l.fill_to(self.columns.stored);
     }
-    let l = fill_to(line_for(show), t.stored);
-    say_line(host, put_element(l, part(s, at, s.len())));
-}
 
-// The rows of an element's characters behind its first row.
-fn say_tail(host: &Host, s: &[u8], t: Columns, show: Show) {
-    let mut at = 1;
-    while at < s.len() {
-        say_characters(host, s, at, t, show);
-        at += 1;
+    // The rows from the element i on: that of the element and those behind it, and those of its further characters.
+    fn say_element(self, host: &Host, field: Field, i: usize) {
+        let mut l = self.unit.line();
+        self.put_subscript(&mut l, i);
+        self.put_held(&mut l, field, i);
+        host.say_line(l);
+        self.say_tail(host, element_of(self.data, field, i));
     }
-}
 
-// Puts the subscript of the element i into the column of the counts.
-fn put_subscript(l: Line, t: Columns, i: u16) -> Line {
-    let n = i as u64 + 1;
-    let figures = put_form(new_line(), b"(#)", n, 0);
-    let mut next = fill_to(l, less(t.count, figures.at));
-    next = put_form(next, b"(#)", n, 0);
-    fill_to(next, t.stored)
-}
-
-// The rows from the element i on, if a row begins there: that of the element, and those of its further characters.
-fn say_element(
-    host: &Host,
-    parts: Parts,
-    data: &[u8],
-    field: Field,
-    i: u16,
-    t: Columns,
-    show: Show,
-) {
-    if !begins(i as usize, on_row(field)) {
-        return;
+    // All rows of a field behind its first. A record has none, since it covers other fields.
+    fn say_rest(self, host: &Host, field: Field) {
+        if matches!(field.kind, Kind::Record) {
+            return;
+        }
+        self.say_tail(host, element_of(self.data, field, 0));
+        let k = on_row(field);
+        for i in (k..usize::from(field.count)).step_by(k) {
+            self.say_element(host, field, i);
+        }
     }
-    let l = put_subscript(line_for(show), t, i);
-    say_line(host, put_held(l, t, parts, data, field, i));
-    say_tail(host, element_of(data, field, i), t, show);
-}
 
-// The rows of a field's elements behind those of its first row.
-fn say_others(host: &Host, parts: Parts, data: &[u8], field: Field, t: Columns, show: Show) {
-    let mut i: u16 = 1;
-    while i < field.count {
-        say_element(host, parts, data, field, i, t, show);
-        i += 1;
+    // ---- the table
+
+    // The rows of the field i: all that it holds, or one with its first elements and how many more there are.
+    fn say_field(self, host: &Host, i: u16, whole: bool) {
+        let field = self.unit.field(i);
+        let mut l = self.unit.line();
+        self.put_entry(&mut l, field, i);
+        self.put_sizes(&mut l, field);
+        self.put_held(&mut l, field, 0);
+        if whole {
+            host.say_line(l);
+            self.say_rest(host, field);
+        } else {
+            put_more(&mut l, field);
+            host.say_line(l);
+        }
     }
-}
 
-// All rows of a field behind its first. A record has none, since it covers other fields.
-fn say_rest(host: &Host, parts: Parts, data: &[u8], field: Field, t: Columns, show: Show) {
-    let kind = field.kind;
-    if kind_number(kind) == RECORD {
-        return;
+    // The head of the table, after a line with nothing in it.
+    fn say_head(self, host: &Host) {
+        host.say(b"\n");
+        let mut l = Line::new();
+        l.text(b"field");
+        l.fill_to(self.columns.kind);
+        l.text(b"kind");
+        l.fill_to(self.columns.span);
+        l.text(b"bytes        size  count  stored");
+        l.fill_to(self.columns.value);
+        l.text(b"value");
+        host.say_line(l);
     }
-    say_tail(host, element_of(data, field, 0), t, show);
-    say_others(host, parts, data, field, t, show);
-}
-
-// ---- the table
-
-// The rows of the field i over some data: all that it holds, or one with its first elements and how many more there are.
-fn say_field(
-    host: &Host,
-    unit: &[u8],
-    parts: Parts,
-    names: &[u8],
-    data: &[u8],
-    i: u16,
-    t: Columns,
-    whole: bool,
-    show: Show,
-) {
-    let field = field_of(unit, parts, i);
-    let mut l = put_entry(line_for(show), t, names, field, i);
-    l = put_sizes(l, t, field);
-    l = put_held(l, t, parts, data, field, 0);
-    if whole {
-        say_line(host, l);
-        say_rest(host, parts, data, field, t, show);
-        return;
-    }
-    say_line(host, put_more(l, field));
-}
-
-// The head of the table, after a line with nothing in it.
-fn say_head(host: &Host, t: Columns) {
-    say(host, b"\n");
-    let mut l = fill_to(put_text(new_line(), b"field"), t.kind);
-    l = fill_to(put_text(l, b"kind"), t.span);
-    l = put_text(l, b"bytes        size  count  stored");
-    l = fill_to(l, t.value);
-    say_line(host, put_text(l, b"value"));
 }
 
 // The fields of a unit, with what they hold in some data, the whole of it or its beginning. A unit without fields has no table.
-pub fn say_fields(
-    host: &Host,
-    unit: &[u8],
-    parts: Parts,
-    names: &[u8],
-    data: &[u8],
-    whole: bool,
-    show: Show,
-) {
-    if parts.f < 1 {
+pub fn say_fields(host: &Host, unit: Unit<'_>, data: &[u8], whole: bool) {
+    if unit.coded.parts.f == 0 {
         return;
     }
-    let t = columns_of(unit, parts, names, data, show);
-    say_head(host, t);
-    let mut i: u16 = 0;
-    while i < parts.f {
-        say_field(host, unit, parts, names, data, i, t, whole, show);
-        i += 1;
+    let columns = columns_of(unit, data);
+    let table = Table {
+        unit,
+        data,
+        columns,
+    };
+    table.say_head(host);
+    for i in 0..unit.coded.parts.f {
+        table.say_field(host, i, whole);
     }
 }

@@ -1,226 +1,128 @@
 // `boxlever run FILE`: what the bench program writes of the unit, with the data as it is shown; then the stop in words, the loops that are still open, a warning where
 // the run began with an invalid decimal, what the fields hold after it, and the last error that was trapped.
 use crate::fields::say_fields;
-use crate::phrase::{put_statement, say_statement};
-use crate::say::{
-    Host, Line, Show, line_for, new_line, put, put_form, put_number, put_text, say, say_line,
-    say_shown,
-};
-use crate::valid::{status_of, warn};
-use crate::words::{REFUSED, STOPPED, put_place, put_stop};
+use crate::lines::Line;
+use crate::parts::{Image, Unit};
+use crate::phrase::{statement_line, with_statement};
+use crate::say::Host;
+use crate::valid::warn;
+use crate::words::{Status, put_place, put_stop};
 use rules_run::{Caught, Loop, Outcome, State};
-use rules_unit::{Checked, Parts, Refusal};
+use rules_unit::Refusal;
+
+// The most statements of a run.
+const ALLOWANCE: u64 = 100000;
+
+// The most bytes of data, and more.
+const DATA: usize = 65536;
 
 // The bench program's first line.
 fn say_numbers(host: &Host, number: u8, place: u16, count: u64) {
-    let l = put_form(new_line(), b"# # ", number as u64, place as u64);
-    say_line(host, put_number(l, count));
+    let mut l = Line::new();
+    write!(l, "{number} {place} {count}");
+    host.say_line(l);
 }
 
-// Puts a stop and how many statements were completed.
-fn put_count(l: Line, number: u8, count: u64) -> Line {
-    if count == 1 {
-        return put_form(l, b"stop # after # statement: ", number as u64, count);
-    }
-    put_form(l, b"stop # after # statements: ", number as u64, count)
-}
-
-// The stop of a run in words.
+// The stop of a run in words, and how many statements were completed.
 fn say_stop(host: &Host, number: u8, count: u64) {
-    let l = put_count(new_line(), number, count);
-    say_line(host, put_stop(l, number));
-}
-
-// The statement that could not be completed, or that would be the next; there is none at the end.
-fn say_place(host: &Host, unit: &[u8], parts: Parts, names: &[u8], place: u16, show: Show) {
-    if place < parts.n {
-        say_statement(host, unit, parts, names, place, show);
-    }
-}
-
-// Puts a value in figures, with a minus before it where it is below 0.
-fn put_value(l: Line, v: i64) -> Line {
-    if v < 0 {
-        let less_one = (-(v + 1)) as u64;
-        return put_number(put(l, b'-'), less_one + 1);
-    }
-    put_number(l, v as u64)
+    let mut l = Line::new();
+    let statements = if count == 1 {
+        "statement"
+    } else {
+        "statements"
+    };
+    write!(l, "stop {number} after {count} {statements}: ");
+    put_stop(&mut l, number);
+    host.say_line(l);
 }
 
 // An open loop: its FOR, with the limit and the step that it was entered with.
-fn say_loop(host: &Host, unit: &[u8], parts: Parts, names: &[u8], open: Loop, show: Show) {
-    let entry = open.entry;
-    let mut l = put_form(
-        line_for(show),
-        b"open loop of statement #, to ",
-        entry as u64,
-        0,
-    );
-    l = put_value(l, open.limit);
-    l = put_value(put_text(l, b" by "), open.step);
-    l = put_text(l, b": ");
-    say_line(host, put_statement(l, unit, parts, names, entry));
+fn say_loop(host: &Host, unit: Unit<'_>, open: Loop) {
+    let Loop { entry, limit, step } = open;
+    let mut l = unit.line();
+    write!(l, "open loop of statement {entry}, to {limit} by {step}: ");
+    host.say_line(with_statement(l, unit, entry));
 }
 
 // The loops that are still open, the one opened last first.
-fn say_loops(host: &Host, unit: &[u8], parts: Parts, names: &[u8], state: State, show: Show) {
+fn say_loops(host: &Host, unit: Unit<'_>, state: State) {
     let loops = state.loops;
-    let mut left = state.opened as usize;
-    while 0 < left {
-        left -= 1;
-        if left < 16 {
-            say_loop(host, unit, parts, names, loops[left], show);
-        }
+    for open in loops.iter().take(usize::from(state.opened)).rev() {
+        say_loop(host, unit, *open);
     }
 }
 
-// An error that was trapped, and its statement.
-fn say_error(
-    host: &Host,
-    unit: &[u8],
-    parts: Parts,
-    names: &[u8],
-    number: u8,
-    statement: u16,
-    show: Show,
-) {
-    say(host, b"\n");
-    let l = put_form(new_line(), b"last trapped error #: ", number as u64, 0);
-    say_line(host, put_stop(l, number));
-    say_statement(host, unit, parts, names, statement, show);
-}
-
-// The last error, where one was trapped.
-fn say_caught(host: &Host, unit: &[u8], parts: Parts, names: &[u8], caught: Caught, show: Show) {
-    match caught {
-        Caught::None => {}
-        Caught::Error { number, statement } => {
-            say_error(host, unit, parts, names, number, statement, show)
-        }
+// The last error that was trapped and its statement, where there is one.
+fn say_caught(host: &Host, unit: Unit<'_>, caught: Option<Caught>) {
+    if let Some(Caught { number, statement }) = caught {
+        host.say(b"\n");
+        let mut l = Line::new();
+        write!(l, "last trapped error {number}: ");
+        put_stop(&mut l, number);
+        host.say_line(l);
+        host.say_line(statement_line(unit, statement));
     }
 }
 
 // The data: as it is shown, or as it is.
-fn say_data(host: &Host, data: &[u8], show: Show) {
-    if !show.raw {
-        say_shown(host, data, show);
-        return;
+fn say_data(host: &Host, unit: Unit<'_>, data: &[u8]) {
+    if unit.show.raw {
+        host.say(data);
+        host.say(b"\n");
+    } else {
+        host.say_shown(data, unit.show.letters);
     }
-    say(host, data);
-    say(host, b"\n");
 }
 
-// What is said of how a run ended: the bench program's lines, the stop in words with its statement, and the open loops.
-fn say_end(
-    host: &Host,
-    unit: &[u8],
-    parts: Parts,
-    names: &[u8],
-    data: &[u8],
-    out: Outcome,
-    show: Show,
-) -> u8 {
-    let stop = out.stop;
-    let number = dibol::stop_number(stop);
+// What is said of how a run ended: the bench program's lines, the stop in words with its statement, which could not be completed or would be the next, and the open
+// loops. There is no statement at the end.
+fn say_end(host: &Host, unit: Unit<'_>, data: &[u8], out: Outcome, number: u8) {
     say_numbers(host, number, out.place, out.count);
-    say_data(host, data, show);
+    say_data(host, unit, data);
     say_stop(host, number, out.count);
-    say_place(host, unit, parts, names, out.place, show);
-    say_loops(host, unit, parts, names, out.state, show);
-    number
+    if out.place < unit.coded.parts.n {
+        host.say_line(statement_line(unit, out.place));
+    }
+    say_loops(host, unit, out.state);
 }
 
 // What is said of what a run leaves: the fields, and the last error that was trapped.
-fn say_left(
-    host: &Host,
-    unit: &[u8],
-    parts: Parts,
-    names: &[u8],
-    data: &[u8],
-    out: Outcome,
-    show: Show,
-) {
-    say_fields(host, unit, parts, names, data, true, show);
-    let state = out.state;
+fn say_left(host: &Host, unit: Unit<'_>, data: &[u8], state: State) {
+    say_fields(host, unit, data, true);
     let trap = state.trap;
-    let caught = trap.caught;
-    say_caught(host, unit, parts, names, caught, show);
+    say_caught(host, unit, trap.caught);
 }
 
-// Runs a unit over data that starts as the bytes given, and gives the exit status.
-fn run_data(
-    host: &Host,
-    unit: &[u8],
-    parts: Parts,
-    names: &[u8],
-    from: &[u8],
-    own: bool,
-    path: &[u8],
-    data: &mut [u8],
-    show: Show,
-) -> u8 {
-    alpha::fit(data, from);
-    let out = dibol::run(unit, data, dibol::start(), 100000);
-    let number = say_end(host, unit, parts, names, data, out, show);
-    let warned = warn(host, unit, names, from, own, path, show);
-    say_left(host, unit, parts, names, data, out, show);
-    if number == 0 {
-        return status_of(warned);
-    }
-    STOPPED
+// Runs a unit over data that starts as an image, and gives the exit status.
+fn run_data(host: &Host, unit: Unit<'_>, image: Image<'_>, data: &mut [u8]) -> Status {
+    alpha::fit(data, image.bytes);
+    let out = dibol::run(unit.coded.unit, data, dibol::start(), ALLOWANCE);
+    let number = dibol::stop_number(out.stop);
+    say_end(host, unit, data, out, number);
+    let status = warn(host, unit, image);
+    say_left(host, unit, data, out.state);
+    if number == 0 { status } else { Status::Stopped }
 }
 
-// Runs a unit that passes its check, and gives the exit status.
-fn run_unit(
-    host: &Host,
-    unit: &[u8],
-    parts: Parts,
-    names: &[u8],
-    from: &[u8],
-    own: bool,
-    path: &[u8],
-    show: Show,
-) -> u8 {
-    let mut data = [0u8; 65536];
-    let end = parts.d as usize;
+// Runs a unit from an image, and gives the exit status.
+pub fn answer(host: &Host, unit: Unit<'_>, image: Image<'_>) -> Status {
+    let mut data = [0u8; DATA];
     run_data(
         host,
         unit,
-        parts,
-        names,
-        from,
-        own,
-        path,
-        &mut data[0..end],
-        show,
+        image,
+        &mut data[..usize::from(unit.coded.parts.d)],
     )
 }
 
 // Of a unit that is refused there is the first line and the reason.
-fn say_refused(host: &Host, r: Refusal) {
+pub fn say_refused(host: &Host, r: Refusal) {
     let number = dibol::refusal_number(r);
     say_numbers(host, number, dibol::refusal_place(r), 0);
-    let mut l = put_form(new_line(), b"stop #", number as u64, 0);
-    l = put_place(l, r);
-    l = put_text(l, b": ");
-    say_line(host, put_stop(l, number));
-}
-
-// Runs a unit from some data, its own or that of a file, or tells why it is refused; and gives the exit status.
-pub fn answer(
-    host: &Host,
-    unit: &[u8],
-    names: &[u8],
-    data: &[u8],
-    own: bool,
-    path: &[u8],
-    show: Show,
-) -> u8 {
-    match dibol::check(unit) {
-        Checked::Passed(parts) => run_unit(host, unit, parts, names, data, own, path, show),
-        Checked::Refused(r) => {
-            say_refused(host, r);
-            REFUSED
-        }
-    }
+    let mut l = Line::new();
+    write!(l, "stop {number}");
+    put_place(&mut l, r);
+    l.text(b": ");
+    put_stop(&mut l, number);
+    host.say_line(l);
 }

@@ -1,9 +1,7 @@
 // The public face of Boxlever. A host lends a coded unit and a data buffer as slices of bytes; any bytes may be given, and every call answers.
 #![tactic(auto)]
 
-ghost use Rattle.std.specs.Prelude.{◌≡◌};
-ghost use Rattle.rules_unit.specs.declared.Checked.TheVariants as checked;
-ghost use Rattle.rules_unit.specs.Decode.{Fills};
+ghost use Rattle.std.specs.Prelude.{◌≡◌, Ok};
 ghost use Rattle.rules_unit.specs.Checks.{refusal_number, refusal_place, check_of};
 ghost use Rattle.rules_unit.specs.Literals.{stretch_of, literal_of};
 ghost use Rattle.rules_run.specs.States.{started};
@@ -16,14 +14,14 @@ ghost use Rattle.rules_host.specs.Words.{Said, said_of, breach_said};
 ghost use Rattle.rules_host.specs.Calls.{entry_by, entry_of};
 
 use rules_fence::{Breach, Validity, Verdict};
-use rules_host::Entry;
-use rules_run::{Caught, Handler, Outcome, State, Stop, Trap};
-use rules_unit::{Checked, Parts, Refusal, Stretch};
+use rules_run::{Outcome, State, Stop, Trap};
+use rules_unit::{Field, Parts, Refusal, Stretch};
+use unit_decode::Coded;
 
 // Checks a unit by the rules 1 to 5 of document 01, in their order. The answer is Passed with the lengths of the unit's parts,
 // or Refused with the first rule that does not hold and its place: `refusal_number` and `refusal_place` give both as numbers.
 // A unit that passes can be run; nothing else about it needs to be checked by the host.
-pub fn check(unit: &[u8]) -> Checked
+pub fn check(unit: &[u8]) -> Result<Parts, Refusal>
     ensures { result ≡ check_of unit.now }
 {
     unit_check::check(unit)
@@ -44,25 +42,24 @@ pub fn refusal_place(r: Refusal) -> u16
 }
 
 // The field entry of a unit by its number, from 0; none where the unit does not pass its check, or has no such entry.
-pub fn field(unit: &[u8], i: usize) -> Entry
+pub fn field(unit: &[u8], i: usize) -> Option<Field>
     ensures { result ≡ entry_of unit.now i }
 {
     let checked = unit_check::check(unit);
     match checked {
-        Checked::Passed(parts) => field_by(unit, parts, i),
-        Checked::Refused(_) => Entry::None,
+        Ok(parts) => field_by(&Coded { unit, parts }, i),
+        Err(_) => None,
     }
 }
 
 // The same of a unit that passed its check.
-fn field_by(unit: &[u8], parts: Parts, i: usize) -> Entry
-    requires { Fills unit.now parts }
-    ensures { result ≡ entry_by unit.now i (checked.Passed parts) }
+fn field_by(coded: &Coded, i: usize) -> Option<Field>
+    ensures { result ≡ entry_by coded.now.unit.now i (Ok coded.now.parts) }
 {
-    if unit_decode::long(parts.f) <= i {
-        return Entry::None;
+    if unit_decode::long(coded.parts.f) <= i {
+        return None;
     }
-    Entry::Of(unit_decode::field(unit, parts, i as u16))
+    Some(coded.field(i as u16))
 }
 
 // Checks a unit, and then holds each of its statements to the fence rules of document 01. The answer is Refused with what `check` refuses
@@ -154,8 +151,8 @@ pub fn start() -> State
         opened: 0,
         loops: [none; 16],
         trap: Trap {
-            handler: Handler::None,
-            caught: Caught::None,
+            handler: None,
+            caught: None,
         },
     }
 }
@@ -171,15 +168,16 @@ pub fn run(unit: &[u8], bytes: &mut [u8], state: State, allowance: u64) -> Outco
 {
     let checked = unit_check::check(unit);
     match checked {
-        Checked::Refused(r) => refused(Stop::Refused(r), rules_unit::refusal_place(r), state),
-        Checked::Passed(parts) => {
+        Err(r) => refused(Stop::Refused(r), rules_unit::refusal_place(r), state),
+        Ok(parts) => {
             if bytes.len() != parts.d as usize {
                 return refused(Stop::WrongSize, 0, state);
             }
-            if !run_state::sound(unit, parts, state) {
+            let coded = Coded { unit, parts };
+            if !run_state::sound(&coded, state) {
                 return refused(Stop::Unsound, 0, state);
             }
-            run_loop::turns(unit, parts, bytes, state, allowance)
+            run_loop::turns(&coded, bytes, state, allowance)
         }
     }
 }

@@ -1,5 +1,6 @@
 -- What the check, the parts, a field, valid data, the fence and the literal tell, one law for each way out of the code: m is what the answer a has become.
 -- Assumes nothing.
+use Rattle.std.specs.Prelude.{Result, Err, Ok, Option, None, Some}
 use Prim.Native.Nat.{ℕ, ◌+◌, ◌-◌, ◌*◌}
 use mathlib.Core.Path.{◌≡◌, sym, ◌∙◌}
 use mathlib.Core.List.{List, [], ◌∷◌}
@@ -7,8 +8,6 @@ use Rattle.rules_unit.specs.declared.Parts.{Parts}
 use Rattle.rules_unit.specs.declared.Field.{Field}
 use Rattle.rules_unit.specs.declared.Rule.{Rule}
 use Rattle.rules_unit.specs.declared.Refusal.{Refusal}
-use Rattle.rules_unit.specs.declared.Checked.{Checked}
-use Rattle.rules_unit.specs.declared.Checked.TheVariants as checked
 use Rattle.rules_unit.specs.declared.Stretch.{Stretch}
 use Rattle.rules_unit.specs.Checks.{refusal_number, refusal_place, check_of}
 use Rattle.rules_unit.specs.Codes.{rule_of}
@@ -20,8 +19,6 @@ use Rattle.rules_fence.specs.declared.Validity.TheVariants as validity
 use Rattle.rules_fence.specs.Breaches.{breach_number, fence_of, breach_in}
 use Rattle.rules_fence.specs.Validity.{validity_of}
 use Rattle.rules_host.specs.Laid.{laid}
-use Rattle.rules_host.specs.declared.Entry.{Entry}
-use Rattle.rules_host.specs.declared.Entry.TheVariants as entry
 use Rattle.rules_host.specs.Calls.{Told, told, check_told, fence_told, literal_told, entry_of, parts_told, kind_number, strict_number, field_told, start_in, invalid_told}
 
 abbrev tells : ℕ → List ℕ → Told
@@ -29,27 +26,27 @@ tells n m = record { value = n; answer = m }
 
 module _ (u a m : List ℕ) where
   -- What `check` answered.
-  module _ (v : Checked) (is : v ≡ check_of u) where
-    pub check_passed : (p : Parts) → v ≡ checked.Passed p → m ≡ laid (0 ∷ (0 ∷ (p.d ∷ []))) a → tells 0 m ≡ check_told (check_of u) a
-    check_passed p e f = let g : check_of u ≡ checked.Passed p = sym is ∙ e in rw (g, f)
+  module _ (v : Result Parts Refusal) (is : v ≡ check_of u) where
+    pub check_passed : (p : Parts) → v ≡ Ok p → m ≡ laid (0 ∷ (0 ∷ (p.d ∷ []))) a → tells 0 m ≡ check_told (check_of u) a
+    check_passed p e f = let g : check_of u ≡ Ok p = sym is ∙ e in rw (g, f)
 
-    pub check_refused : (r : Refusal) (n k : ℕ) → v ≡ checked.Refused r → n ≡ refusal_number r → k ≡ refusal_place r → m ≡ laid (n ∷ (k ∷ (0 ∷ []))) a
+    pub check_refused : (r : Refusal) (n k : ℕ) → v ≡ Err r → n ≡ refusal_number r → k ≡ refusal_place r → m ≡ laid (n ∷ (k ∷ (0 ∷ []))) a
         → tells n m ≡ check_told (check_of u) a
-    check_refused r n k e h i f = let g : check_of u ≡ checked.Refused r = sym is ∙ e in rw (g, f, h, i)
+    check_refused r n k e h i f = let g : check_of u ≡ Err r = sym is ∙ e in rw (g, f, h, i)
 
-    pub parts_passed : (p : Parts) → v ≡ checked.Passed p → m ≡ laid (p.d ∷ (p.f ∷ (p.e ∷ (p.p ∷ (p.n ∷ (p.dialect.limit ∷ [])))))) a → tells 0 m ≡ parts_told (check_of u) a
-    parts_passed p e f = let g : check_of u ≡ checked.Passed p = sym is ∙ e in rw (g, f)
+    pub parts_passed : (p : Parts) → v ≡ Ok p → m ≡ laid (p.d ∷ (p.f ∷ (p.e ∷ (p.p ∷ (p.n ∷ (p.dialect.limit ∷ [])))))) a → tells 0 m ≡ parts_told (check_of u) a
+    parts_passed p e f = let g : check_of u ≡ Ok p = sym is ∙ e in rw (g, f)
 
-    pub parts_refused : (r : Refusal) (n : ℕ) → v ≡ checked.Refused r → n ≡ refusal_number r → m ≡ laid (0 ∷ (0 ∷ (0 ∷ (0 ∷ (0 ∷ (0 ∷ [])))))) a → tells n m ≡ parts_told (check_of u) a
-    parts_refused r n e h f = let g : check_of u ≡ checked.Refused r = sym is ∙ e in rw (g, f, h)
+    pub parts_refused : (r : Refusal) (n : ℕ) → v ≡ Err r → n ≡ refusal_number r → m ≡ laid (0 ∷ (0 ∷ (0 ∷ (0 ∷ (0 ∷ (0 ∷ [])))))) a → tells n m ≡ parts_told (check_of u) a
+    parts_refused r n e h f = let g : check_of u ≡ Err r = sym is ∙ e in rw (g, f, h)
 
   -- What `field` answered.
-  module _ (i : ℕ) (v : Entry) (is : v ≡ entry_of u i) where
-    pub field_none : v ≡ entry.None → m ≡ laid (0 ∷ (0 ∷ (0 ∷ (0 ∷ (0 ∷ []))))) a → tells 0 m ≡ field_told (entry_of u i) a
-    field_none e f = let g : entry_of u i ≡ entry.None = sym is ∙ e in rw (g, f)
+  module _ (i : ℕ) (v : Option Field) (is : v ≡ entry_of u i) where
+    pub field_none : v ≡ None → m ≡ laid (0 ∷ (0 ∷ (0 ∷ (0 ∷ (0 ∷ []))))) a → tells 0 m ≡ field_told (entry_of u i) a
+    field_none e f = let g : entry_of u i ≡ None = sym is ∙ e in rw (g, f)
 
-    pub field_some : (x : Field) (r : Told) → v ≡ entry.Of x → r ≡ field_told (entry.Of x) a → r ≡ field_told (entry_of u i) a
-    field_some x r e f = let g : entry_of u i ≡ entry.Of x = sym is ∙ e in rw g f
+    pub field_some : (x : Field) (r : Told) → v ≡ Some x → r ≡ field_told (Some x) a → r ≡ field_told (entry_of u i) a
+    field_some x r e f = let g : entry_of u i ≡ Some x = sym is ∙ e in rw g f
 
   -- What `invalid` answered.
   module _ (d : List ℕ) (v : Validity) (is : v ≡ validity_of u d) where
@@ -62,7 +59,7 @@ module _ (u a m : List ℕ) where
     pub invalid_none : v ≡ validity.AllValid → m ≡ laid (0 ∷ (0 ∷ (0 ∷ (0 ∷ [])))) a → tells 0 m ≡ invalid_told u (validity_of u d) a
     invalid_none e f = let g : validity_of u d ≡ validity.AllValid = sym is ∙ e in rw (g, f)
 
-    pub invalid_some : (f k at : ℕ) (x : Entry) → v ≡ validity.Invalid f k → x ≡ entry_of u f → at ≡ start_in x k → m ≡ laid (22 ∷ (f ∷ (k ∷ (at ∷ [])))) a
+    pub invalid_some : (f k at : ℕ) (x : Option Field) → v ≡ validity.Invalid f k → x ≡ entry_of u f → at ≡ start_in x k → m ≡ laid (22 ∷ (f ∷ (k ∷ (at ∷ [])))) a
         → tells 22 m ≡ invalid_told u (validity_of u d) a
     invalid_some f k at x e ex ea q = let g : validity_of u d ≡ validity.Invalid f k = sym is ∙ e in rw (g, q, ea, ex)
 
@@ -88,10 +85,10 @@ pub entry_told : (x : Field) (k n : ℕ) (t : Rule) (a m : List ℕ) → k ≡ k
     → tells 1 m ≡ told 1 (kind_number x.kind ∷ (x.offset ∷ (x.size ∷ (x.count ∷ (strict_number (rule_of x) ∷ []))))) a
 entry_told x k n t a m ek et en f = rw (f, en, et, ek)
 
-pub start_none : (x : Entry) (k : ℕ) → x ≡ entry.None → 0 ≡ start_in x k
+pub start_none : (x : Option Field) (k : ℕ) → x ≡ None → 0 ≡ start_in x k
 start_none x k e = rw e
 
-pub start_of : (x : Entry) (k j : ℕ) (f : Field) → x ≡ entry.Of f → j ≡ k - 1 → f.offset + j * f.size ≡ start_in x k
+pub start_of : (x : Option Field) (k j : ℕ) (f : Field) → x ≡ Some f → j ≡ k - 1 → f.offset + j * f.size ≡ start_in x k
 start_of x k j f e ej = rw (e, ej)
 
 pub ruleset tells_check = (check_passed, check_refused)

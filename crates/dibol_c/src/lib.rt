@@ -15,8 +15,7 @@ ghost use Rattle.rules_host.specs.Words.{Said, said_of, breach_said};
 ghost use Rattle.rules_host.specs.Calls.{Told, told, check_told, fence_told, literal_told, entry_of, parts_told, kind_number, strict_number, field_told, start_in, invalid_told, Handed, refusedb, handed_of};
 
 use rules_fence::{Validity, Verdict};
-use rules_host::Entry;
-use rules_unit::{Checked, Field, Kind, Rule};
+use rules_unit::{Field, Kind, Rule};
 
 // ---- answers
 
@@ -24,11 +23,7 @@ use rules_unit::{Checked, Field, Kind, Rule};
 fn put_three(answer: &mut [u64], a: u64, b: u64, c: u64)
     ensures { answer.new ≡ laid (a ∷ b ∷ c ∷ []) answer.old }
 {
-    run_state::put_two(answer, a, b);
-    if answer.len() < 3 {
-        return;
-    }
-    answer[2] = c;
+    rules_host::lay(&[a, b, c], answer)
 }
 
 // Whether a stop's number is one of 1 to 7, which refuse a call.
@@ -87,12 +82,12 @@ fn before(k: u16) -> u64
 }
 
 // Where an element, from 1, of a field starts in the data.
-fn start_in(entry: Entry, k: u16) -> u64
+fn start_in(entry: Option<Field>, k: u16) -> u64
     ensures { result ≡ start_in entry k }
 {
     match entry {
-        Entry::None => 0,
-        Entry::Of(f) => f.offset as u64 + before(k) * f.size as u64,
+        None => 0,
+        Some(f) => f.offset as u64 + before(k) * f.size as u64,
     }
 }
 
@@ -141,11 +136,11 @@ pub fn dibol_check(unit: &[u8], answer: &mut [u64]) -> u64
 {
     let checked = dibol::check(unit);
     match checked {
-        Checked::Passed(parts) => {
+        Ok(parts) => {
             put_three(answer, 0, 0, parts.d as u64);
             0
         }
-        Checked::Refused(r) => {
+        Err(r) => {
             let number = rules_unit::refusal_number(r) as u64;
             put_three(answer, number, rules_unit::refusal_place(r) as u64, 0);
             number
@@ -160,7 +155,7 @@ pub fn dibol_parts(unit: &[u8], answer: &mut [u64]) -> u64
 {
     let checked = dibol::check(unit);
     match checked {
-        Checked::Passed(parts) => {
+        Ok(parts) => {
             let digits = parts.dialect.limit as u64;
             let numbers = [
                 parts.d as u64,
@@ -173,7 +168,7 @@ pub fn dibol_parts(unit: &[u8], answer: &mut [u64]) -> u64
             rules_host::lay(&numbers, answer);
             0
         }
-        Checked::Refused(r) => {
+        Err(r) => {
             let zeros = [0u64; 6];
             rules_host::lay(&zeros, answer);
             rules_unit::refusal_number(r) as u64
@@ -187,12 +182,12 @@ pub fn dibol_field(unit: &[u8], i: usize, answer: &mut [u64]) -> u64
     ensures { ◌≡◌ {A = Told} (record { value = result; answer = answer.new }) (field_told (entry_of unit.now i) answer.old) }
 {
     match dibol::field(unit, i) {
-        Entry::None => {
+        None => {
             let zeros = [0u64; 5];
             rules_host::lay(&zeros, answer);
             0
         }
-        Entry::Of(f) => put_field(answer, f),
+        Some(f) => put_field(answer, f),
     }
 }
 

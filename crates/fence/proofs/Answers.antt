@@ -1,5 +1,6 @@
 -- The statements of a unit and the answers of the check: one law for each way out of the code.
 -- Assumes nothing.
+use Rattle.std.specs.Prelude.{Result, Err, Ok}
 use mathlib.Core.Path.{◌≡◌, sym, ◌∙◌}
 use mathlib.Core.Bool.{Bool, true, false, not}
 use mathlib.Core.List.{List}
@@ -8,8 +9,6 @@ use native.Mathlib.Omega.{arith}
 use borrow.Author.Tests.{lt-ltb, le-ltb, not-true, not-false}
 use Rattle.rules_unit.specs.declared.Parts.{Parts}
 use Rattle.rules_unit.specs.declared.Refusal.{Refusal}
-use Rattle.rules_unit.specs.declared.Checked.{Checked}
-use Rattle.rules_unit.specs.declared.Checked.TheVariants as checked
 use Rattle.rules_unit.specs.Codes.{Code}
 use Rattle.rules_unit.specs.Decode.{code_of}
 use Rattle.rules_unit.specs.Checks.{check_of}
@@ -41,27 +40,27 @@ module _ (c : Code) (n i : ℕ) (z : Verdict) (w : verdict_from c (n - i) i ≡ 
 
 -- n is N as the code compares it
 module _ (u : List ℕ) (p : Parts) (i n : ℕ) (en : n ≡ p.n) where
-  pub by_past : n ≤ i → breach.None ≡ breach_by u i (checked.Passed p)
+  pub by_past : n ≤ i → breach.None ≡ breach_by u i (Ok p)
   by_past h = rw (le-ltb i p.n (omega arith))
 
-  pub by_in : (r : Breach) → i < n → r ≡ breach_of (code_of u p) i → r ≡ breach_by u i (checked.Passed p)
+  pub by_in : (r : Breach) → i < n → r ≡ breach_of (code_of u p) i → r ≡ breach_by u i (Ok p)
   by_in r h q = rw (lt-ltb i p.n (omega arith)) q
 
 -- v is the answer of the check
-module _ (u : List ℕ) (v : Checked) (is : v ≡ check_of u) where
-  pub fence_passed : (p : Parts) (r : Verdict) → v ≡ checked.Passed p → r ≡ verdict_from (code_of u p) p.n 0 → r ≡ fence_of u
+module _ (u : List ℕ) (v : Result Parts Refusal) (is : v ≡ check_of u) where
+  pub fence_passed : (p : Parts) (r : Verdict) → v ≡ Ok p → r ≡ verdict_from (code_of u p) p.n 0 → r ≡ fence_of u
   unfolding fence_of
   fence_passed p r e q = rw (← is, e) q
 
-  pub fence_refused : (x : Refusal) → v ≡ checked.Refused x → verdict.Refused x ≡ fence_of u
+  pub fence_refused : (x : Refusal) → v ≡ Err x → verdict.Refused x ≡ fence_of u
   unfolding fence_of
   fence_refused x e = rw (← is, e)
 
   module _ (i : ℕ) where
-    pub breach_passed : (p : Parts) (r : Breach) → v ≡ checked.Passed p → r ≡ breach_by u i (checked.Passed p) → r ≡ breach_in u i
+    pub breach_passed : (p : Parts) (r : Breach) → v ≡ Ok p → r ≡ breach_by u i (Ok p) → r ≡ breach_in u i
     unfolding breach_in
     breach_passed p r e q = rw (← is, e) q
 
-    pub breach_refused : (x : Refusal) → v ≡ checked.Refused x → breach.None ≡ breach_in u i
+    pub breach_refused : (x : Refusal) → v ≡ Err x → breach.None ≡ breach_in u i
     unfolding breach_in
     breach_refused x e = rw (← is, e)

@@ -1,5 +1,6 @@
 -- The span that the bounds of a reference fix: the one that `span_of` finds by them.
 -- Assumes nothing.
+use Rattle.std.specs.Prelude.{Option}
 use mathlib.Core.Path.{◌≡◌, refl, ◌∙◌}
 use mathlib.Core.Bool.{true, false≢true}
 use mathlib.Core.List.{List}
@@ -38,7 +39,7 @@ fixed_as c form.PosLength f (seen.One y plain) e = absurd (false≢true e)
 fixed_as c form.PosLength f (seen.Two x y plain) e = refl
 
 module _ (u : List ℕ) (p : Parts) (h : Form) (f : ℕ) (s : Seen) where
-  pub fixed_found : (entry : Field) (most : ℕ) (x y : ℤ) (r : Span) → Small s → boundedb h s ≡ true → entry ≡ (code_of u p).field f → most ≡ p.d
+  pub fixed_found : (entry : Field) (most : ℕ) (x y : ℤ) (r : Option Span) → Small s → boundedb h s ≡ true → entry ≡ (code_of u p).field f → most ≡ p.d
       → x ≡ start_bound h s → y ≡ last_bound s → r ≡ span_of most entry h (to_z w64 (of_z w64 x)) (to_z w64 (of_z w64 y))
       → r ≡ fixed_span (code_of u p) h f s
   fixed_found entry most x y r m t ee em ex ey q =

@@ -1,6 +1,7 @@
 -- The bounds that stand directly before an item, once its constructor and theirs are known: one law for each way out of the code. The values
 -- passed on are bits. And what keeps the bounds in the range of values.
 -- Assumes nothing.
+use Rattle.std.specs.Prelude.{Result, Err, Ok}
 use mathlib.Core.Path.{◌≡◌, sym, ap, ◌∙◌, subst}
 use mathlib.Core.Bool.{Bool, true, false, cond}
 use mathlib.Core.List.{List, []}
@@ -9,8 +10,6 @@ use native.Mathlib.Omega.{arith}
 use lib.IntN.{ℤ, pos, neg_ℤ}
 use mir.Syntax.{w64}
 use mir.Val.{SFits, to_z, of_z}
-use Rattle.rules.specs.declared.Num.{Num}
-use Rattle.rules.specs.declared.Num.TheVariants.{Value, Failed}
 use Rattle.rules.specs.declared.Fault.{Fault}
 use Rattle.rules.specs.Values.{Val}
 use Rattle.rules.proofs.Range.{InRange}
@@ -31,21 +30,21 @@ use Rattle.fence_bounds.specs.Asked.{Small}
 -- ---- after a literal
 
 module _ (s : Seen) {v : ℤ} (fv : SFits w64 v) where
-  pub value_one : s ≡ seen.Nothing → seen.One (to_z w64 (of_z w64 v)) true ≡ seen_number (Value v) s
+  pub value_one : s ≡ seen.Nothing → seen.One (to_z w64 (of_z w64 v)) true ≡ seen_number (Ok v) s
   value_one e = rw (e, back fv)
 
   module _ {y : ℤ} (fy : SFits w64 y) (plain : Bool) where
-    pub value_two : s ≡ seen.One y plain → seen.Two (to_z w64 (of_z w64 y)) (to_z w64 (of_z w64 v)) true ≡ seen_number (Value v) s
+    pub value_two : s ≡ seen.One y plain → seen.Two (to_z w64 (of_z w64 y)) (to_z w64 (of_z w64 v)) true ≡ seen_number (Ok v) s
     value_two e = rw (e, back fv, back fy)
 
-    pub value_more : (x : ℤ) → s ≡ seen.Two x y plain → seen.Two (to_z w64 (of_z w64 y)) (to_z w64 (of_z w64 v)) true ≡ seen_number (Value v) s
+    pub value_more : (x : ℤ) → s ≡ seen.Two x y plain → seen.Two (to_z w64 (of_z w64 y)) (to_z w64 (of_z w64 v)) true ≡ seen_number (Ok v) s
     value_more x e = rw (e, back fv, back fy)
 
-module _ (n : Num) (s : Seen) where
-  pub number_value : {v : ℤ} (r : Seen) → SFits w64 v → n ≡ Value v → r ≡ seen_number (Value (to_z w64 (of_z w64 v))) s → r ≡ seen_number n s
-  number_value r f e q = rw e (q ∙ ap (λ (z : ℤ). seen_number (Value z) s) (back f))
+module _ (n : Result ℤ Fault) (s : Seen) where
+  pub number_value : {v : ℤ} (r : Seen) → SFits w64 v → n ≡ Ok v → r ≡ seen_number (Ok (to_z w64 (of_z w64 v))) s → r ≡ seen_number n s
+  number_value r f e q = rw e (q ∙ ap (λ (z : ℤ). seen_number (Ok z) s) (back f))
 
-  pub number_failed : (e : Fault) → n ≡ Failed e → seen.Nothing ≡ seen_number n s
+  pub number_failed : (e : Fault) → n ≡ Err e → seen.Nothing ≡ seen_number n s
   number_failed f e = rw e
 
 -- ---- after a negate
@@ -80,9 +79,9 @@ negate_none s e = rw e
 -- ---- after an item
 
 module _ (u : List ℕ) (p : Parts) (s : Seen) (i : Item) where
-  pub after_number : (place len : ℕ) (n : Num) (r : Seen) → i ≡ item.Number place len → n ≡ literal_number (code_of u p) place len → r ≡ seen_number n s
+  pub after_number : (place len : ℕ) (n : Result ℤ Fault) (r : Seen) → i ≡ item.Number place len → n ≡ literal_number (code_of u p) place len → r ≡ seen_number n s
       → r ≡ seen_after (code_of u p) s i
-  after_number place len n r e f q = rw e (q ∙ ap (λ (m : Num). seen_number m s) f)
+  after_number place len n r e f q = rw e (q ∙ ap (λ (m : Result ℤ Fault). seen_number m s) f)
 
   pub after_reference : (h : Form) (f : ℕ) → i ≡ item.Reference h f → seen.Nothing ≡ seen_after (code_of u p) s i
   after_reference h f e = rw e
@@ -108,11 +107,11 @@ module _ (u : List ℕ) (p : Parts) (s : Seen) (i : Item) where
 pub small_none : Small seen.Nothing
 small_none = record { first = record { small = omega arith }; last = record { small = omega arith } }
 
-small_number : (n : Num) (s : Seen) → InRange (10 ^ 18) n → Small s → Small (seen_number n s)
-small_number (Failed e) s r h = small_none
-small_number (Value v) seen.Nothing r h = record { first = record { small = omega arith }; last = r }
-small_number (Value v) (seen.One y plain) r h = record { first = h.last; last = r }
-small_number (Value v) (seen.Two x y plain) r h = record { first = h.last; last = r }
+small_number : (n : Result ℤ Fault) (s : Seen) → InRange (10 ^ 18) n → Small s → Small (seen_number n s)
+small_number (Err e) s r h = small_none
+small_number (Ok v) seen.Nothing r h = record { first = record { small = omega arith }; last = r }
+small_number (Ok v) (seen.One y plain) r h = record { first = h.last; last = r }
+small_number (Ok v) (seen.Two x y plain) r h = record { first = h.last; last = r }
 
 turned_small : (y : ℤ) → Val (10 ^ 18) y → Val (10 ^ 18) (neg_ℤ y)
 turned_small y v = record { small = rw (abs_neg y) v.small }

@@ -1,17 +1,18 @@
 // The bounds that stand directly before an item of an expression, and the span that they fix.
 #![tactic(auto)]
 
-ghost use Rattle.std.specs.Prelude.{◌≡◌, true, ◌<◌};
-ghost use Rattle.rules.specs.declared.Num.TheVariants.{Value};
+ghost use Rattle.std.specs.Prelude.{◌≡◌, true, ◌<◌, Ok};
+ghost use Rattle.unit_decode.specs.Units.{code_in};
 ghost use Rattle.rules_unit.specs.declared.Form.TheVariants as form;
-ghost use Rattle.rules_unit.specs.Decode.{Fills, SoundDialect, code_of};
+ghost use Rattle.rules_unit.specs.Decode.{SoundDialect};
 ghost use Rattle.rules_fence.specs.Bounds.{is_negate, seen_number, seen_negate, seen_after, boundedb, fixed_span};
 ghost use Rattle.fence_bounds.specs.Asked.{first_bound, last_bound, start_bound, Small};
 
-use rules::Num;
+use rules::Fault;
 use rules_fence::Seen;
 use rules_run::Span;
 use rules_unit::{Form, Item, Op, Parts};
+use unit_decode::Coded;
 
 // ---- after an item
 
@@ -41,7 +42,7 @@ fn is_negate(op: Op) -> bool
 
 // The bounds after a literal of the value v.
 fn seen_value(v: i64, s: Seen) -> Seen
-    ensures { result ≡ seen_number (Value v) s }
+    ensures { result ≡ seen_number (Ok v) s }
 {
     match s {
         Seen::Nothing => Seen::One {
@@ -66,12 +67,12 @@ fn seen_value(v: i64, s: Seen) -> Seen
 }
 
 // The bounds after a literal; a literal that is no number is no bound.
-fn seen_number(n: Num, s: Seen) -> Seen
+fn seen_number(n: Result<i64, Fault>, s: Seen) -> Seen
     ensures { result ≡ seen_number n s }
 {
     match n {
-        Num::Value(v) => seen_value(v, s),
-        Num::Failed(_) => Seen::Nothing,
+        Ok(v) => seen_value(v, s),
+        Err(_) => Seen::Nothing,
     }
 }
 
@@ -105,15 +106,14 @@ fn seen_negate(s: Seen) -> Seen
 }
 
 // The bounds after an item.
-pub fn seen_after(unit: &[u8], parts: Parts, s: Seen, item: Item) -> Seen
-    requires fills { Fills unit.now parts }
-    requires sound_dialect { SoundDialect parts.dialect }
+pub fn seen_after(coded: &Coded, s: Seen, item: Item) -> Seen
+    requires sound_dialect { SoundDialect coded.now.parts.dialect }
     requires small { Small s }
-    ensures { result ≡ seen_after (code_of unit.now parts) s item }
+    ensures { result ≡ seen_after (code_in coded.now) s item }
 {
     match item {
         Item::Number { place, len } => {
-            seen_number(run_items::literal_number(unit, parts, place, len), s)
+            seen_number(run_items::literal_number(coded, place, len), s)
         }
         Item::Reference { form: _, field: _ } => Seen::Nothing,
         Item::Text { place: _, len: _ } => Seen::Nothing,
@@ -217,15 +217,14 @@ fn start_bound(form: Form, s: Seen) -> i64
 // ---- the span
 
 // The bytes that a reference names by its bounds, of a strict field too; Outside where the rule of document 01 gives 21.
-pub fn fixed_span(unit: &[u8], parts: Parts, form: Form, field: u16, s: Seen) -> Span
-    requires fills { Fills unit.now parts }
-    requires field_lt_f { field < parts.f }
+pub fn fixed_span(coded: &Coded, form: Form, field: u16, s: Seen) -> Option<Span>
+    requires field_lt_f { field < coded.now.parts.f }
     requires small { Small s }
     requires s_value { boundedb form s ≡ true }
-    ensures { result ≡ fixed_span (code_of unit.now parts) form field s }
+    ensures { result ≡ fixed_span (code_in coded.now) form field s }
 {
-    let entry = unit_decode::field(unit, parts, field);
-    let most = unit_decode::long(parts.d);
+    let entry = coded.field(field);
+    let most = unit_decode::long(coded.parts.d);
     let x = start_bound(form, s);
     let y = last_bound(s);
     run_spans::span_of(most, entry, form, x, y)

@@ -1,5 +1,6 @@
 -- The decimals of a data buffer: one law for each way out of the code.
 -- Assumes nothing.
+use Rattle.std.specs.Prelude.{Result, Err, Ok}
 use Prim.Native.Nat.{ℕ, suc, ◌+◌, ◌-◌, ◌*◌, ◌<◌, ◌≤◌}
 use native.Mathlib.Omega.{arith}
 use mathlib.Core.Path.{◌≡◌, refl, sym, ap, ◌∙◌}
@@ -9,15 +10,11 @@ use lib.IntN.{ℤ}
 use lib.ListN.{length, take, drop}
 use borrow.Author.Tests.{not-true, not-false, eq-eqb, ne_eqb}
 use Rattle.rules.specs.declared.Fault.{Fault}
-use Rattle.rules.specs.declared.Num.{Num}
-use Rattle.rules.specs.declared.Num.TheVariants.{Value, Failed}
 use Rattle.rules.specs.Values.{Limit, Letters, validb, read_of}
 use Rattle.rules.proofs.Valid.{valid_of, valid_to, reads_valid, valid_reads}
 use Rattle.rules_unit.specs.declared.Parts.{Parts}
 use Rattle.rules_unit.specs.declared.Field.{Field}
 use Rattle.rules_unit.specs.declared.Refusal.{Refusal}
-use Rattle.rules_unit.specs.declared.Checked.{Checked}
-use Rattle.rules_unit.specs.declared.Checked.TheVariants as checked
 use Rattle.rules_unit.specs.Codes.{Code, is_decimal, decimalb, offset_of, size_of, count_of}
 use Rattle.rules_unit.specs.Decode.{code_of}
 use Rattle.rules_unit.specs.Checks.{check_of}
@@ -31,20 +28,20 @@ use Rattle.rules_fence.proofs.Elements.{element_end_lem}
 
 -- ---- one decimal: r is what it reads as
 
-module _ (limit sign : ℕ) (s : List ℕ) (r : Num) (q : r ≡ read_of limit sign s) where
-  pub valid_value : (v : ℤ) → r ≡ Value v → true ≡ validb limit sign s
+module _ (limit sign : ℕ) (s : List ℕ) (r : Result ℤ Fault) (q : r ≡ read_of limit sign s) where
+  pub valid_value : (v : ℤ) → r ≡ Ok v → true ≡ validb limit sign s
   valid_value v e = sym (valid_of (reads_valid {v = v} (sym q ∙ e)))
 
-  pub valid_failed : (f : Fault) → r ≡ Failed f → false ≡ validb limit sign s
+  pub valid_failed : (f : Fault) → r ≡ Err f → false ≡ validb limit sign s
   valid_failed f e = by (validb limit sign s) refl
     where
       by : (t : Bool) → validb limit sign s ≡ t → false ≡ t
-      by true h = let w = valid_reads (valid_to {s = s} h) in let z : Value w.0 ≡ Failed f = sym w.1 ∙ sym q ∙ e in let y : ◌≡◌ {A = ℕ} 0 1 = cc in absurd (omega arith)
+      by true h = let w = valid_reads (valid_to {s = s} h) in let z : Ok w.0 ≡ Err f = sym w.1 ∙ sym q ∙ e in let y : ◌≡◌ {A = ℕ} 0 1 = cc in absurd (omega arith)
       by false h = refl
 
 -- ---- one element: x is the entry of its field, as the code has asked for it
 
-module _ (u : List ℕ) (p : Parts) (passed : check_of u ≡ checked.Passed p) where
+module _ (u : List ℕ) (p : Parts) (passed : check_of u ≡ Ok p) where
   pub limit_fits : (n : ℕ) → n ≡ p.dialect.limit → Limit n
   limit_fits n e = rw e (passed_dialect u p passed).limit
 
@@ -136,18 +133,18 @@ module _ (c : Code) (d : List ℕ) (f : ℕ) (x : Field) (ex : x ≡ c.field f) 
 -- ---- the whole: n is the unit's D, as the code compares it
 
 module _ (u d : List ℕ) (p : Parts) (n : ℕ) (en : n ≡ p.d) where
-  pub size_wrong : (length d ≡ n → ⊥) → validity.WrongSize ≡ validity_by u d (checked.Passed p)
+  pub size_wrong : (length d ≡ n → ⊥) → validity.WrongSize ≡ validity_by u d (Ok p)
   size_wrong h = rw (ne_eqb (length d) p.d (λ e. h (e ∙ sym en)))
 
-  pub size_right : (v : Validity) → length d ≡ n → v ≡ fields_from (code_of u p) d p.f 0 → v ≡ validity_by u d (checked.Passed p)
+  pub size_right : (v : Validity) → length d ≡ n → v ≡ fields_from (code_of u p) d p.f 0 → v ≡ validity_by u d (Ok p)
   size_right v h e = rw (eq-eqb (length d) p.d (h ∙ en)) e
 
 -- v is the answer of the check
-module _ (u d : List ℕ) (v : Checked) (is : v ≡ check_of u) where
-  pub invalid_passed : (p : Parts) (r : Validity) → v ≡ checked.Passed p → r ≡ validity_by u d (checked.Passed p) → r ≡ validity_of u d
+module _ (u d : List ℕ) (v : Result Parts Refusal) (is : v ≡ check_of u) where
+  pub invalid_passed : (p : Parts) (r : Validity) → v ≡ Ok p → r ≡ validity_by u d (Ok p) → r ≡ validity_of u d
   unfolding validity_of
   invalid_passed p r e q = rw (← is, e) q
 
-  pub invalid_refused : (x : Refusal) → v ≡ checked.Refused x → validity.Refused x ≡ validity_of u d
+  pub invalid_refused : (x : Refusal) → v ≡ Err x → validity.Refused x ≡ validity_of u d
   unfolding validity_of
   invalid_refused x e = rw (← is, e)

@@ -1,6 +1,7 @@
 -- Filling: one number in every place of a list, and the table field by field.
 --   Half c g floor ahead    the table where the fields before g are noted, of which the decimal ones end at the floor
 -- Assumes nothing.
+use Rattle.std.specs.Prelude.{Ok}
 use Prim.Native.Nat.{ℕ, zero, suc, ◌+◌, ◌-◌, ◌<◌, ◌≤◌}
 use native.Mathlib.Omega.{arith}
 use native.Mathlib.Nat.{suc-sub-suc, sub-zero}
@@ -12,7 +13,6 @@ use lib.Seq.{take-suc-set, take_all, length-take-le, take_at, drop_at, drop-drop
 use borrow.Rule.Slice.PartMut.{put_mid, Post-is, mid_len, same_len_mid}
 use Rattle.rules_unit.specs.declared.Parts.{Parts}
 use Rattle.rules_unit.specs.declared.Field.{Field}
-use Rattle.rules_unit.specs.declared.Checked.TheVariants as checked
 use Rattle.rules_unit.specs.Codes.{Code}
 use Rattle.rules_unit.specs.Decode.{code_of}
 use Rattle.rules_unit.specs.Checks.{check_of}
@@ -71,7 +71,7 @@ module _ (u : List ℕ) (p : Parts) where
         ∙ w.whole
 
     -- one turn: f is the field g, and next its end where it is decimal
-    module _ (ok : check_of u ≡ checked.Passed p) (h : g < p.f) (f : Field) (ef : f ≡ (code_of u p).field g) (next : ℕ) (en : next ≡ behind_of f floor) where
+    module _ (ok : check_of u ≡ Ok p) (h : g < p.f) (f : Field) (ef : f ≡ (code_of u p).field g) (next : ℕ) (en : next ≡ behind_of f floor) where
       sound : SoundUnit u p
       sound = passed_sound u p ok
 

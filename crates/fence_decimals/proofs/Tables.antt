@@ -3,6 +3,7 @@
 -- By induction over the fields, for a byte at or above the floor: either the field ends behind it, and then no later field starts before this
 -- one ends; or the field lies before it, and the fields after it answer.
 -- Assumes nothing.
+use Rattle.std.specs.Prelude.{Ok}
 use Prim.Native.Nat.{ℕ, zero, suc, ◌+◌, ◌-◌, ◌<◌, ◌≤◌}
 use native.Mathlib.Omega.{arith}
 use native.Mathlib.Nat.{sub_self, sub-zero}
@@ -14,7 +15,6 @@ use lib.ListN.{length, get_or, replicate, length-replicate, get_or-replicate, ge
 use lib.Seq.{get_or-append-add}
 use borrow.Author.Tests.{le-leb, lt-leb, leb-true, leb-false, ltb-true, ltb-false}
 use Rattle.rules_unit.specs.declared.Parts.{Parts}
-use Rattle.rules_unit.specs.declared.Checked.TheVariants as checked
 use Rattle.rules_unit.specs.Codes.{Code, decimalb, offset_of, end_of}
 use Rattle.rules_unit.specs.Decode.{code_of}
 use Rattle.rules_unit.specs.Checks.{check_of}
@@ -130,7 +130,7 @@ module _ (c : Code) (s : SoundCode c) (a n : ℕ) where
 
 -- ---- the whole table
 
-pub ahead_says : (u : List ℕ) (p : Parts) → check_of u ≡ checked.Passed p → (ahead : List ℕ) → ahead ≡ ahead_of (code_of u p) → Ahead (code_of u p) ahead
+pub ahead_says : (u : List ℕ) (p : Parts) → check_of u ≡ Ok p → (ahead : List ℕ) → ahead ≡ ahead_of (code_of u p) → Ahead (code_of u p) ahead
 unfolding ahead_of
 ahead_says u p e ahead q = rw q (record { so = told })
   where

@@ -1,13 +1,13 @@
 // A table of the decimal fields: for each byte of the data where the next one starts, so that a span is held against all of them at once.
 #![tactic(auto)]
 
-ghost use Rattle.std.specs.Prelude.{◌≡◌, ◌+◌, ◌<◌, leb, length, get_or, replicate};
-ghost use Rattle.rules_unit.specs.declared.Checked.TheVariants as checked;
-ghost use Rattle.rules_unit.specs.Decode.{code_of};
+ghost use Rattle.std.specs.Prelude.{◌≡◌, ◌+◌, ◌<◌, leb, length, get_or, replicate, Ok};
+ghost use Rattle.unit_decode.specs.Units.{code_in};
 ghost use Rattle.rules_unit.specs.Checks.{check_of};
 ghost use Rattle.fence_decimals.specs.Ahead.{behind_of, ahead_of};
 
 use rules_unit::{Field, Parts};
+use unit_decode::Coded;
 
 // Writes x to every place.
 fn fill(s: &mut [u16], x: u16)
@@ -32,15 +32,15 @@ fn behind(field: Field, floor: usize) -> usize
 }
 
 // Notes for each byte where the first decimal field starts that ends behind it. Each byte is written at most once: decimal fields rise.
-pub fn note_decimals(unit: &[u8], parts: Parts, ahead: &mut [u16])
-    requires unit_value { check_of unit.now ≡ checked.Passed parts }
+pub fn note_decimals(coded: &Coded, ahead: &mut [u16])
+    requires unit_value { check_of coded.now.unit.now ≡ Ok coded.now.parts }
     requires ahead_value { ahead.old ≡ replicate 16384 65535 }
-    ensures { ahead.new ≡ ahead_of (code_of unit.now parts) }
+    ensures { ahead.new ≡ ahead_of (code_in coded.now) }
 {
     let mut floor: usize = 0;
     let mut g: u16 = 0;
-    while g < parts.f {
-        let field = unit_decode::field(unit, parts, g);
+    while g < coded.parts.f {
+        let field = coded.field(g);
         let next = behind(field, floor);
         fill(&mut ahead[floor..next], field.offset);
         floor = next;

@@ -1,5 +1,6 @@
 -- One row: its numbers, and where it is put. One law for each way out of the code.
 -- Assumes nothing.
+use Rattle.std.specs.Prelude.{None}
 use Prim.Native.Nat.{ℕ, ◌+◌, ◌-◌, ◌*◌, ◌/◌, ◌<◌, ◌≤◌}
 use native.Mathlib.Omega.{arith}
 use mathlib.Core.Path.{◌≡◌, refl, sym, ap, ◌∙◌}
@@ -11,7 +12,6 @@ use borrow.Rule.Slice.PartMut.{put_mid, Post-is, mid_len}
 use Rattle.rules_unit.specs.declared.Form.{Form}
 use Rattle.rules_unit.specs.declared.Form.TheVariants as form
 use Rattle.rules_unit.specs.Codes.{Code}
-use Rattle.rules_run.specs.declared.Span.TheVariants.{Outside}
 use Rattle.rules_fence.specs.declared.Broken.{Broken}
 use Rattle.rules_fence.specs.declared.Seen.{Seen}
 use Rattle.rules_fence.specs.declared.Seen.TheVariants as seen
@@ -60,11 +60,11 @@ module _ (skip n : ℕ) (b : Broken) (rows : List ℕ) where
         ∙ ap (λ (m : ℕ). take start rows ++ (row_of b ++ drop m rows)) ee)
 
 -- Without as many bounds as it takes a reference names no bytes.
-pub no_bounds : (c : Code) (h : Form) (f : ℕ) (s : Seen) (t : Bool) → t ≡ boundedb h s → t ≡ false → Outside ≡ fixed_span c h f s
+pub no_bounds : (c : Code) (h : Form) (f : ℕ) (s : Seen) (t : Bool) → t ≡ boundedb h s → t ≡ false → None ≡ fixed_span c h f s
 unfolding fixed_span
 no_bounds c h f s t et e = by h s (sym et ∙ e)
   where
-    by : (x : Form) (y : Seen) → boundedb x y ≡ false → Outside ≡ fixed_span c x f y
+    by : (x : Form) (y : Seen) → boundedb x y ≡ false → None ≡ fixed_span c x f y
     by form.First y z = absurd (true≢false z)
     by form.Subscript seen.Nothing z = refl
     by form.Subscript (seen.One y plain) z = absurd (true≢false z)

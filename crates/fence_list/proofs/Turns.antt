@@ -1,6 +1,7 @@
 -- References and items, and one turn of the loop over the items of an expression: what is left gives the answer z of the whole. The premises are what the code
 -- knows there.
 -- Assumes nothing.
+use Rattle.std.specs.Prelude.{Option}
 use mathlib.Core.Path.{◌≡◌, refl, sym, ap, ◌∙◌}
 use mathlib.Core.Bool.{Bool, true, false, false≢true}
 use mathlib.Core.List.{List, [], ◌++◌}
@@ -37,7 +38,7 @@ module _ (c : Code) (i : ℕ) (dest : Bool) (s : Seen) (at : ℕ) (h : Form) (f 
   unfolding gathered
   reference_keeps e = rw (sym kept ∙ e)
 
-  pub reference_breaks : (p : Span) (m : ℕ) (next : List ℕ) → t ≡ false → p ≡ fixed_span c h f s
+  pub reference_breaks : (p : Option Span) (m : ℕ) (next : List ℕ) → t ≡ false → p ≡ fixed_span c h f s
       → next ≡ row_put skip n (record { statement = i; rule = r; written = dest; field = f; form = h; span = p; at = at }) rows
       → m ≡ count_after n → G m next ≡ gathered skip (reference_broken c i dest s at h f) (G n rows)
   unfolding gathered

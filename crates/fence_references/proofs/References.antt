@@ -1,5 +1,7 @@
 -- References: the first rule that one breaks, by itself and as an item. One law for each way out of the code.
 -- Assumes nothing.
+use Rattle.std.specs.Prelude.{None, Option}
+use Rattle.rules_run.specs.Spans.{span_at}
 use mathlib.Core.Path.{◌≡◌, sym, ◌∙◌}
 use mathlib.Core.Bool.{Bool, true, false}
 use mathlib.Core.List.{List, []}
@@ -11,7 +13,6 @@ use Rattle.rules_unit.specs.declared.Item.{Item}
 use Rattle.rules_unit.specs.declared.Item.TheVariants as item
 use Rattle.rules_unit.specs.Decode.{code_of}
 use Rattle.rules_run.specs.declared.Span.{Span}
-use Rattle.rules_run.specs.declared.Span.TheVariants.{At, Outside}
 use Rattle.rules_run.proofs.Located as located
 use Rattle.rules_fence.specs.declared.Breach.{Breach}
 use Rattle.rules_fence.specs.declared.Breach.TheVariants as breach
@@ -28,17 +29,17 @@ module _ (u : List ℕ) (p : Parts) (h : Form) (f : ℕ) (s : Seen) (dest b : Bo
   unfolding reference_breach
   reference_unbound e = rw (sym eb ∙ e)
 
-  module _ (t : b ≡ true) (span : Span) (es : span ≡ fixed_span (code_of u p) h f s) where
+  module _ (t : b ≡ true) (span : Option Span) (es : span ≡ fixed_span (code_of u p) h f s) where
     -- "it must stay inside the D bytes"
-    pub found_inside : (a n : ℕ) → span ≡ At a n → a + n ≤ p.d
+    pub found_inside : (a n : ℕ) → span ≡ span_at a n → a + n ≤ p.d
     found_inside a n e =
         located.found_inside p.d ((code_of u p).field f) h (start_bound h s) (last_bound s) (fixed_as (code_of u p) h f s (sym eb ∙ t) ∙ sym es ∙ e)
 
-    pub reference_at_lem : (a n : ℕ) (r : Breach) → span ≡ At a n → r ≡ span_breach (code_of u p) dest f (At a n) → r ≡ reference_breach (code_of u p) dest h f s
+    pub reference_at_lem : (a n : ℕ) (r : Breach) → span ≡ span_at a n → r ≡ span_breach (code_of u p) dest f (span_at a n) → r ≡ reference_breach (code_of u p) dest h f s
     unfolding reference_breach
     reference_at_lem a n r e q = rw (sym eb ∙ t, sym es ∙ e) q
 
-    pub reference_outside : span ≡ Outside → breach.BoundsWrong ≡ reference_breach (code_of u p) dest h f s
+    pub reference_outside : span ≡ None → breach.BoundsWrong ≡ reference_breach (code_of u p) dest h f s
     unfolding reference_breach
     reference_outside e = rw (sym eb ∙ t, sym es ∙ e)
 

@@ -1,6 +1,7 @@
 -- One span and the rules that it keeps, in the tests' order. One law for each way out of the code; entry is the field's entry as the code has
 -- read it.
 -- Assumes nothing.
+use Rattle.rules_run.specs.Spans.{span_at}
 use mathlib.Core.Path.{◌≡◌, sym, ap, ◌∙◌}
 use mathlib.Core.Bool.{Bool, true, false, cond}
 use mathlib.Core.List.{List}
@@ -13,7 +14,6 @@ use Rattle.rules_unit.specs.declared.Parts.{Parts}
 use Rattle.rules_unit.specs.declared.Field.{Field}
 use Rattle.rules_unit.specs.Codes.{is_decimal}
 use Rattle.rules_unit.specs.Decode.{code_of}
-use Rattle.rules_run.specs.declared.Span.TheVariants.{At}
 use Rattle.rules_fence.specs.declared.Breach.{Breach}
 use Rattle.rules_fence.specs.declared.Breach.TheVariants as breach
 use Rattle.rules_fence.specs.Breaches.{end_breach, element_breach, alpha_breach, span_breach}
@@ -63,7 +63,7 @@ module _ (u : List ℕ) (p : Parts) (dest : Bool) (a n : ℕ) where
 -- ---- any span
 
 module _ (u : List ℕ) (p : Parts) (dest : Bool) (f a n : ℕ) (entry : Field) (ee : entry ≡ (code_of u p).field f) (o : ℕ) (eo : o ≡ entry.offset) where
-  pub span_low : a < o → breach.LeavesField ≡ span_breach (code_of u p) dest f (At a n)
+  pub span_low : a < o → breach.LeavesField ≡ span_breach (code_of u p) dest f (span_at a n)
   span_low h = rw (lt-leb ((code_of u p).field f).offset a (omega (arith, entry_offset u p f entry ee o eo)))
 
   pub offset_low : o ≤ a → ((code_of u p).field f).offset ≤ a
@@ -73,20 +73,20 @@ module _ (u : List ℕ) (p : Parts) (dest : Bool) (f a n : ℕ) (entry : Field) 
     high : e ≡ ((code_of u p).field f).offset + ((code_of u p).field f).count * ((code_of u p).field f).size
     high = q ∙ ap (λ (g : Field). g.offset + g.count * g.size) ee
 
-    pub span_high : e < a + n → breach.LeavesField ≡ span_breach (code_of u p) dest f (At a n)
+    pub span_high : e < a + n → breach.LeavesField ≡ span_breach (code_of u p) dest f (span_at a n)
     span_high l =
         let k : ((code_of u p).field f).offset + ((code_of u p).field f).count * ((code_of u p).field f).size < a + n = rw (← high) l in
         rw (le-leb ((code_of u p).field f).offset a (omega (arith, entry_offset u p f entry ee o eo)), lt-leb (a + n) (((code_of u p).field f).offset + ((code_of u p).field f).count * ((code_of u p).field f).size) k)
 
     module _ (l : a + n ≤ e) (b : Bool) (eb : b ≡ is_decimal entry.kind) (r : Breach) where
-      by : span_breach (code_of u p) dest f (At a n) ≡ cond b (element_breach (code_of u p) dest f a n) (alpha_breach (code_of u p) dest a n)
+      by : span_breach (code_of u p) dest f (span_at a n) ≡ cond b (element_breach (code_of u p) dest f a n) (alpha_breach (code_of u p) dest a n)
       by =
           let k : a + n ≤ ((code_of u p).field f).offset + ((code_of u p).field f).count * ((code_of u p).field f).size = rw (← high) l in
           let d : is_decimal ((code_of u p).field f).kind ≡ b = ap (λ (g : Field). is_decimal g.kind) (sym ee) ∙ sym eb in
           rw (le-leb ((code_of u p).field f).offset a (omega (arith, entry_offset u p f entry ee o eo)), le-leb (a + n) (((code_of u p).field f).offset + ((code_of u p).field f).count * ((code_of u p).field f).size) k, d)
 
-      pub span_decimal : b ≡ true → r ≡ element_breach (code_of u p) dest f a n → r ≡ span_breach (code_of u p) dest f (At a n)
+      pub span_decimal : b ≡ true → r ≡ element_breach (code_of u p) dest f a n → r ≡ span_breach (code_of u p) dest f (span_at a n)
       span_decimal t w = w ∙ sym (by ∙ rw t)
 
-      pub span_alpha : b ≡ false → r ≡ alpha_breach (code_of u p) dest a n → r ≡ span_breach (code_of u p) dest f (At a n)
+      pub span_alpha : b ≡ false → r ≡ alpha_breach (code_of u p) dest a n → r ≡ span_breach (code_of u p) dest f (span_at a n)
       span_alpha t w = w ∙ sym (by ∙ rw t)

@@ -1,18 +1,18 @@
 // What a reference of a unit breaks first of the fence rules: its bounds, then the bytes that they fix.
 #![tactic(auto)]
 
+ghost use Rattle.rules_run.specs.Spans.{span_at};
+ghost use Rattle.unit_decode.specs.Units.{code_in};
 ghost use Rattle.std.specs.Prelude.{◌≡◌, true, [], ◌+◌, ◌<◌, ◌≤◌};
 ghost use Rattle.rules_unit.specs.Codes.{offset_of};
-ghost use Rattle.rules_unit.specs.Decode.{Fills, code_of};
 ghost use Rattle.rules_unit.specs.Expressions.{itemb};
-ghost use Rattle.rules_run.specs.declared.Span.TheVariants as span;
 ghost use Rattle.rules_fence.specs.Breaches.{end_breach, element_breach, alpha_breach, span_breach, reference_breach, item_breach};
 ghost use Rattle.fence_bounds.specs.Asked.{Small};
 ghost use Rattle.fence_decimals.specs.Ahead.{Ahead};
 
 use rules_fence::{Breach, Seen};
-use rules_run::Span;
 use rules_unit::{Form, Item, Parts};
+use unit_decode::Coded;
 
 // ---- one span
 
@@ -33,17 +33,16 @@ fn end_breach(dest: bool, e: usize, last: usize) -> Breach
 }
 
 // What the n bytes from a on of a decimal field break, which start inside the field.
-fn element_breach(unit: &[u8], parts: Parts, dest: bool, field: u16, a: usize, n: usize) -> Breach
-    requires fills { Fills unit.now parts }
-    requires field_lt_f { field < parts.f }
-    requires n_bound { a + n ≤ parts.d }
-    requires field_bound { offset_of (code_of unit.now parts) field ≤ a }
-    ensures { result ≡ element_breach (code_of unit.now parts) dest field a n }
+fn element_breach(coded: &Coded, dest: bool, field: u16, a: usize, n: usize) -> Breach
+    requires field_lt_f { field < coded.now.parts.f }
+    requires n_bound { a + n ≤ coded.now.parts.d }
+    requires field_bound { offset_of (code_in coded.now) field ≤ a }
+    ensures { result ≡ element_breach (code_in coded.now) dest field a n }
 {
-    let entry = unit_decode::field(unit, parts, field);
+    let entry = coded.field(field);
     let offset = unit_decode::long(entry.offset);
     let size = unit_decode::long(entry.size);
-    // Never true of a unit that passed its check: an element has at least one byte.
+    // Never true of a coded.unit that passed its check: an element has at least one byte.
     if size == 0 {
         return end_breach(dest, offset, a + n);
     }
@@ -52,10 +51,10 @@ fn element_breach(unit: &[u8], parts: Parts, dest: bool, field: u16, a: usize, n
 }
 
 // What the n bytes from a on of an alpha or record field break. The unit and its parts are named for the contract alone.
-fn alpha_breach(unit: &[u8], parts: Parts, ahead: &[u16], dest: bool, a: usize, n: usize) -> Breach
-    requires ahead { Ahead (code_of unit.now parts) ahead.now }
-    requires n_bound { a + n ≤ parts.d }
-    ensures { result ≡ alpha_breach (code_of unit.now parts) dest a n }
+fn alpha_breach(coded: &Coded, ahead: &[u16], dest: bool, a: usize, n: usize) -> Breach
+    requires ahead { Ahead (code_in coded.now) ahead.now }
+    requires n_bound { a + n ≤ coded.now.parts.d }
+    ensures { result ≡ alpha_breach (code_in coded.now) dest a n }
 {
     if !dest {
         return Breach::None;
@@ -67,22 +66,13 @@ fn alpha_breach(unit: &[u8], parts: Parts, ahead: &[u16], dest: bool, a: usize, 
 }
 
 // What the n bytes from a on break, which a reference to the field names.
-fn span_breach(
-    unit: &[u8],
-    parts: Parts,
-    ahead: &[u16],
-    dest: bool,
-    field: u16,
-    a: usize,
-    n: usize,
-) -> Breach
-    requires fills { Fills unit.now parts }
-    requires ahead { Ahead (code_of unit.now parts) ahead.now }
-    requires field_lt_f { field < parts.f }
-    requires n_bound { a + n ≤ parts.d }
-    ensures { result ≡ span_breach (code_of unit.now parts) dest field (span.At a n) }
+fn span_breach(coded: &Coded, ahead: &[u16], dest: bool, field: u16, a: usize, n: usize) -> Breach
+    requires ahead { Ahead (code_in coded.now) ahead.now }
+    requires field_lt_f { field < coded.now.parts.f }
+    requires n_bound { a + n ≤ coded.now.parts.d }
+    ensures { result ≡ span_breach (code_in coded.now) dest field (span_at a n) }
 {
-    let entry = unit_decode::field(unit, parts, field);
+    let entry = coded.field(field);
     let kind = entry.kind;
     if a < unit_decode::long(entry.offset) {
         return Breach::LeavesField;
@@ -91,58 +81,46 @@ fn span_breach(
         return Breach::LeavesField;
     }
     if unit_decode::is_decimal(kind) {
-        return element_breach(unit, parts, dest, field, a, n);
+        return element_breach(coded, dest, field, a, n);
     }
-    alpha_breach(unit, parts, ahead, dest, a, n)
+    alpha_breach(coded, ahead, dest, a, n)
 }
 
 // ---- references and items
 
 // What a reference breaks, before which the bounds s stand.
 pub fn reference_breach(
-    unit: &[u8],
-    parts: Parts,
+    coded: &Coded,
     ahead: &[u16],
     dest: bool,
     form: Form,
     field: u16,
     s: Seen,
 ) -> Breach
-    requires fills { Fills unit.now parts }
-    requires ahead { Ahead (code_of unit.now parts) ahead.now }
-    requires field_lt_f { field < parts.f }
+    requires ahead { Ahead (code_in coded.now) ahead.now }
+    requires field_lt_f { field < coded.now.parts.f }
     requires small { Small s }
-    ensures { result ≡ reference_breach (code_of unit.now parts) dest form field s }
+    ensures { result ≡ reference_breach (code_in coded.now) dest form field s }
 {
     if !fence_bounds::bounded(form, s) {
         return Breach::BoundNotLiteral;
     }
-    match fence_bounds::fixed_span(unit, parts, form, field, s) {
-        Span::At { start, len } => span_breach(unit, parts, ahead, dest, field, start, len),
-        Span::Outside => Breach::BoundsWrong,
+    match fence_bounds::fixed_span(coded, form, field, s) {
+        Some(span) => span_breach(coded, ahead, dest, field, span.start, span.len),
+        None => Breach::BoundsWrong,
     }
 }
 
 // What an item breaks, where `dest` says whether it is the last one of a place that is written.
-pub fn item_breach(
-    unit: &[u8],
-    parts: Parts,
-    ahead: &[u16],
-    dest: bool,
-    s: Seen,
-    item: Item,
-) -> Breach
-    requires fills { Fills unit.now parts }
-    requires ahead { Ahead (code_of unit.now parts) ahead.now }
+pub fn item_breach(coded: &Coded, ahead: &[u16], dest: bool, s: Seen, item: Item) -> Breach
+    requires ahead { Ahead (code_in coded.now) ahead.now }
     requires small { Small s }
-    requires item_value { itemb (code_of unit.now parts) item ≡ true }
-    ensures { result ≡ item_breach (code_of unit.now parts) dest s item [] }
+    requires item_value { itemb (code_in coded.now) item ≡ true }
+    ensures { result ≡ item_breach (code_in coded.now) dest s item [] }
 {
     match item {
         Item::Number { place: _, len: _ } => Breach::None,
-        Item::Reference { form, field } => reference_breach(
-            unit, parts, ahead, dest, form, field, s,
-        ),
+        Item::Reference { form, field } => reference_breach(coded, ahead, dest, form, field, s),
         Item::Text { place: _, len: _ } => Breach::None,
         Item::Operator(_) => Breach::None,
         Item::End => Breach::None,

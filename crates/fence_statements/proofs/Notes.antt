@@ -8,14 +8,13 @@ use mathlib.Core.List.{List}
 use Prim.Native.Nat.{ℕ, ◌+◌, ◌-◌, ◌≤◌, ◌<◌}
 use native.Mathlib.Omega.{arith}
 use lib.Dec.{ltb, eqb}
-use lib.ListN.{length, get_or, set, replicate, take, drop, get_or-eq_default}
+use lib.ListN.{length, get_or, set, replicate, get_or-eq_default}
 use lib.Seq.{get_or-set_other, set_out}
 use borrow.Author.Tests.{eqb-true, eqb-false, not-false}
-use Rattle.rules_unit.specs.declared.Parts.{Parts}
 use Rattle.rules_unit.specs.declared.Item.{Item}
 use Rattle.rules_unit.specs.declared.Form.TheVariants as form
 use Rattle.rules_unit.specs.Codes.{Code}
-use Rattle.rules_unit.specs.Decode.{expressions_at, literals_at, width_of, items_at, code_of}
+use Rattle.rules_unit.specs.Decode.{width_of, items_at}
 use Rattle.rules_unit.proofs.Items.{width_some}
 use Rattle.rules_fence.specs.declared.Breach.{Breach}
 use Rattle.rules_fence.specs.declared.Breach.TheVariants as breach
@@ -24,8 +23,9 @@ use Rattle.rules_fence.specs.declared.Seen.TheVariants as seen
 use Rattle.rules_fence.specs.Bounds.{boundedb}
 use Rattle.rules_fence.specs.Breaches.{keepsb, breach_from}
 use Rattle.rules_fence.proofs.Kept.{none_kept}
-use Rattle.unit_sorts.specs.Notes.{expressions_of}
-use Rattle.unit_decode.proofs.Rows.{zeros, part_is}
+use Rattle.unit_decode.specs.declared.filled.Coded.{Coded}
+use Rattle.unit_decode.specs.Units.{code_in, expressions_in}
+use Rattle.unit_decode.proofs.Rows.{zeros}
 use Rattle.fence_statements.specs.Notes.{notedb, note_at, Kept, KeptIf, Both, BothIf}
 
 -- ---- the list, where b says whether there are bounds
@@ -102,41 +102,32 @@ module _ (c : Code) (dest : Bool) (es notes : List ℕ) (at : ℕ) (z : Breach) 
           by (seen.One y plain) l = past w some
           by (seen.Two x y plain) l = past w some
 
--- ---- the expressions as the part of the unit from a to b
-
-module _ (u : List ℕ) (p : Parts) (a b : ℕ) (ea : a ≡ expressions_at p) (eb : b ≡ literals_at p) (dest : Bool) (notes : List ℕ) where
-  pub part_kept : Kept (code_of u p) dest (expressions_of u p) notes → Kept (code_of u p) dest (take (b - a) (drop a u)) notes
-  part_kept h = rw (part_is u p a b ea eb) h
-
-  pub part_kept_if : (r : Breach) → KeptIf r (code_of u p) dest (take (b - a) (drop a u)) notes → KeptIf r (code_of u p) dest (expressions_of u p) notes
-  part_kept_if r h = rw (part_is u p a b ea eb) at h
-
 -- ---- the two lists
 
-module _ (u : List ℕ) (p : Parts) (reads writes : List ℕ) where
-  pub both_reads : Both u p reads writes → Kept (code_of u p) false (expressions_of u p) reads
+module _ (co : Coded) (reads writes : List ℕ) where
+  pub both_reads : Both co reads writes → Kept (code_in co) false (expressions_in co) reads
   both_reads both = both.of_reads
 
-  pub both_writes : Both u p reads writes → Kept (code_of u p) true (expressions_of u p) writes
+  pub both_writes : Both co reads writes → Kept (code_in co) true (expressions_in co) writes
   both_writes both = both.of_writes
 
-  module _ (both : Both u p reads writes) (r : Breach) where
-    pub both_still : BothIf r u p reads writes
+  module _ (both : Both co reads writes) (r : Breach) where
+    pub both_still : BothIf r co reads writes
     both_still = record { so = λ h. both }
 
-    pub both_written : (next : List ℕ) → KeptIf r (code_of u p) true (expressions_of u p) next → BothIf r u p reads next
+    pub both_written : (next : List ℕ) → KeptIf r (code_in co) true (expressions_in co) next → BothIf r co reads next
     both_written next k = record { so = λ h. record { of_reads = both.of_reads; of_writes = k.so h } }
 
-    pub both_read : (next : List ℕ) → KeptIf r (code_of u p) false (expressions_of u p) next → BothIf r u p next writes
+    pub both_read : (next : List ℕ) → KeptIf r (code_in co) false (expressions_in co) next → BothIf r co next writes
     both_read next k = record { so = λ h. record { of_reads = k.so h; of_writes = both.of_writes } }
 
-  pub both_kept : (r : Breach) (k : Bool) → BothIf r u p reads writes → k ≡ keepsb r → not k ≡ false → Both u p reads writes
+  pub both_kept : (r : Breach) (k : Bool) → BothIf r co reads writes → k ≡ keepsb r → not k ≡ false → Both co reads writes
   both_kept r k w ek h = w.so (sym ek ∙ not-false k h)
 
 kept_none : (c : Code) (dest : Bool) (es : List ℕ) (m : ℕ) → Kept c dest es (replicate m 0)
 kept_none c dest es m = record { each = λ e h. absurd (false≢true (sym (ap (ltb 0) (zeros m e)) ∙ h)) }
 
 -- Of nothing that is noted every claim holds.
-pub both_none : (u : List ℕ) (p : Parts) (m n : ℕ) → Both u p (replicate m 0) (replicate n 0)
-both_none u p m n =
-    record { of_reads = kept_none (code_of u p) false (expressions_of u p) m; of_writes = kept_none (code_of u p) true (expressions_of u p) n }
+pub both_none : (co : Coded) (m n : ℕ) → Both co (replicate m 0) (replicate n 0)
+both_none co m n =
+    record { of_reads = kept_none (code_in co) false (expressions_in co) m; of_writes = kept_none (code_in co) true (expressions_in co) n }

@@ -1,23 +1,21 @@
 -- The uses of a statement, and what a passed check gives: one law for each way out of the code.
 -- Assumes nothing.
+use Rattle.std.specs.Prelude.{Ok, None, Option, Some}
 use mathlib.Core.Path.{◌≡◌, refl, sym, ap, ◌∙◌, subst}
 use mathlib.Core.Bool.{Bool, true, false, cond, not}
 use mathlib.Core.List.{List, [], ◌∷◌}
 use Prim.Native.Nat.{ℕ, zero, suc, ◌+◌, ◌-◌, ◌≤◌, ◌<◌}
 use native.Mathlib.Numerals.{add-one}
 use native.Mathlib.Omega.{arith}
-use lib.ListN.{length, get_or, take, drop, drop_of_length-le}
+use lib.ListN.{length, get_or, drop, drop_of_length-le}
 use borrow.Author.Tests.{not-true, not-false}
 use Rattle.rules_unit.specs.declared.Parts.{Parts}
-use Rattle.rules_unit.specs.declared.Checked.TheVariants as checked
 use Rattle.rules_unit.specs.declared.Statement.{Statement}
 use Rattle.rules_unit.specs.declared.Verb.{Verb}
 use Rattle.rules_unit.specs.declared.Row.{Row}
-use Rattle.rules_unit.specs.declared.Want.{Want}
 use Rattle.rules_unit.specs.declared.Use.{Use}
-use Rattle.rules_unit.specs.declared.Use.TheVariants as use-of
 use Rattle.rules_unit.specs.Codes.{Code}
-use Rattle.rules_unit.specs.Decode.{expressions_at, literals_at, items_at, code_of}
+use Rattle.rules_unit.specs.Decode.{code_of}
 use Rattle.rules_unit.specs.Expressions.{useb}
 use Rattle.rules_unit.specs.Table.{verb_of, row_of, uses_by, uses_of}
 use Rattle.rules_unit.specs.Checks.{check_of}
@@ -34,40 +32,32 @@ use Rattle.fence_statements.specs.Asked.{AllKnown, AllGood}
 
 module _ (u : List ℕ) (p : Parts) where
   -- the expressions are the part of the unit from a to b
-  module _ (a b e e' : ℕ) (ea : a ≡ expressions_at p) (eb : b ≡ literals_at p) (ee : e' ≡ e) where
-    pub part_known : AllKnown (code_of u p) ((code_of u p).items e) → AllKnown (code_of u p) (items_at (take (b - a) (drop a u)) e')
-    part_known k = let size : b - a ≡ p.e = omega arith in rw (size, ea, ee) k
-
-    pub part_breach : (dest : Bool) (r : Breach) → r ≡ breach_from (code_of u p) dest seen.Nothing (items_at (take (b - a) (drop a u)) e')
-        → r ≡ breach_from (code_of u p) dest seen.Nothing ((code_of u p).items e)
-    part_breach dest r q = let size : b - a ≡ p.e = omega arith in rw (size, ea, ee) at q
-
   pub written_as : (e : ℕ) (written t : Bool) (r : Breach) → written ≡ t → r ≡ breach_from (code_of u p) t seen.Nothing ((code_of u p).items e)
       → r ≡ breach_from (code_of u p) written seen.Nothing ((code_of u p).items e)
   written_as e written t r h q = rw h q
 
-  module _ (x : Use) where
-    pub use_none : x ≡ use-of.Nothing → breach.None ≡ use_breach (code_of u p) x
+  module _ (x : Option Use) where
+    pub use_none : x ≡ None → breach.None ≡ use_breach (code_of u p) x
     use_none e = rw e
 
-    module _ (w : Want) (at : ℕ) (t : Bool) (e : x ≡ use-of.Of w at t) where
-      pub use_known : useb (code_of u p) x ≡ true → AllKnown (code_of u p) ((code_of u p).items at)
-      use_known h = record { each = known_of (code_of u p) w at (rw e at h) }
+    module _ (y : Use) (e : x ≡ Some y) where
+      pub use_known : useb (code_of u p) x ≡ true → AllKnown (code_of u p) ((code_of u p).items y.at)
+      use_known h = record { each = known_of (code_of u p) y.want y.at (rw e at h) }
 
-      pub use_by : (r : Breach) → r ≡ breach_from (code_of u p) t seen.Nothing ((code_of u p).items at) → r ≡ use_breach (code_of u p) x
+      pub use_by : (r : Breach) → r ≡ breach_from (code_of u p) y.written seen.Nothing ((code_of u p).items y.at) → r ≡ use_breach (code_of u p) x
       use_by r q = rw e q
 
 -- ---- one statement
 
-uses_suc : (c : Code) (us : List Use) (k : ℕ)
-    → uses_breach c (drop k us) ≡ first_of (use_breach c (get_or us k use-of.Nothing)) (uses_breach c (drop (suc k) us))
+uses_suc : (c : Code) (us : List (Option Use)) (k : ℕ)
+    → uses_breach c (drop k us) ≡ first_of (use_breach c (get_or us k None)) (uses_breach c (drop (suc k) us))
 unfolding uses_breach
 uses_suc c [] zero = refl
 uses_suc c [] (suc k) = refl
 uses_suc c (x ∷ us) zero = refl
 uses_suc c (x ∷ us) (suc k) = uses_suc c us k
 
-uses_end : (c : Code) (us : List Use) (k : ℕ) → length us ≤ k → uses_breach c (drop k us) ≡ breach.None
+uses_end : (c : Code) (us : List (Option Use)) (k : ℕ) → length us ≤ k → uses_breach c (drop k us) ≡ breach.None
 unfolding uses_breach
 uses_end c us k h = rw (drop_of_length-le us h)
 
@@ -77,7 +67,7 @@ module _ (u : List ℕ) (p : Parts) (i : ℕ) (s : Statement) (v : Verb) (r : Ro
   own : uses_by (code_of u p) r s ≡ uses_of (code_of u p) ((code_of u p).statement i)
   own = ap (λ (x : Row). uses_by (code_of u p) x s) (er ∙ ap row_of ev) ∙ ap (uses_of (code_of u p)) es
 
-  pub all_good : check_of u ≡ checked.Passed p → i < p.n → AllGood (code_of u p) (uses_by (code_of u p) r s)
+  pub all_good : check_of u ≡ Ok p → i < p.n → AllGood (code_of u p) (uses_by (code_of u p) r s)
   all_good e h =
       subst (AllGood (code_of u p)) (sym own) (record { each = uses_good (code_of u p) i ((passed_sound u p e).code.statements i h).uses })
 
@@ -97,7 +87,7 @@ module _ (u : List ℕ) (p : Parts) (r : Row) (s : Statement) (k : ℕ) (left : 
   pub uses_over : (n : ℕ) → n ≡ length (uses_by (code_of u p) r s) → n ≤ k → breach.None ≡ uses_breach (code_of u p) (uses_by (code_of u p) r s)
   uses_over n e h = sym (uses_end (code_of u p) (uses_by (code_of u p) r s) k (omega (arith, e, h))) ∙ left.gives
 
-  module _ (x : Use) (ex : x ≡ get_or (uses_by (code_of u p) r s) k use-of.Nothing) where
+  module _ (x : Option Use) (ex : x ≡ get_or (uses_by (code_of u p) r s) k None) where
     pub use_good : (n : ℕ) → AllGood (code_of u p) (uses_by (code_of u p) r s) → n ≡ length (uses_by (code_of u p) r s) → k < n → useb (code_of u p) x ≡ true
     use_good n good e h = rw ex (good.each k (omega (arith, e, h)))
 

@@ -2,15 +2,14 @@
 --   AllKnown c is    every item keeps its own rule, so that field numbers lie inside the fields
 --   AllGood c us     every use is of the sort that it wants
 -- Assumes nothing.
-use Rattle.std.specs.Prelude.{◌≡◌, true, List, ℕ, ◌<◌, length, get_or}
+use Rattle.std.specs.Prelude.{◌≡◌, true, List, ℕ, ◌<◌, length, get_or, None, Option}
 use Rattle.rules_unit.specs.declared.Item.{Item}
 use Rattle.rules_unit.specs.declared.Use.{Use}
-use Rattle.rules_unit.specs.declared.Use.TheVariants as use-of
 use Rattle.rules_unit.specs.Codes.{Code}
 use Rattle.rules_unit.specs.Expressions.{Known, useb}
 
 pub record AllKnown (c : Code) (is : List Item) : Type 0 where
   pub each : Known c is
 
-pub record AllGood (c : Code) (us : List Use) : Type 0 where
-  pub each : (k : ℕ) → k < length us → useb c (get_or us k use-of.Nothing) ≡ true
+pub record AllGood (c : Code) (us : List (Option Use)) : Type 0 where
+  pub each : (k : ℕ) → k < length us → useb c (get_or us k None) ≡ true

@@ -3,23 +3,23 @@
 // come to the same item walk on from it.
 #![tactic(auto)]
 
-ghost use Rattle.std.specs.Prelude.{◌≡◌, true, ◌<◌};
-ghost use Rattle.rules_unit.specs.declared.Checked.TheVariants as checked;
-ghost use Rattle.rules_unit.specs.Decode.{Fills, SoundDialect, items_at, code_of};
+ghost use Rattle.std.specs.Prelude.{◌≡◌, true, ◌<◌, Ok};
+ghost use Rattle.unit_decode.specs.Units.{code_in, RowsIn, expressions_in};
+ghost use Rattle.rules_unit.specs.Decode.{SoundDialect, items_at};
 ghost use Rattle.rules_unit.specs.Expressions.{useb};
 ghost use Rattle.rules_unit.specs.Table.{uses_by};
 ghost use Rattle.rules_unit.specs.Checks.{check_of};
 ghost use Rattle.rules_fence.specs.declared.Seen.TheVariants as seen;
 ghost use Rattle.rules_fence.specs.Fence.{destb};
 ghost use Rattle.rules_fence.specs.Breaches.{keepsb, breach_from, use_breach, uses_breach, breach_of};
-ghost use Rattle.unit_decode.specs.Rows.{RowsOf};
-ghost use Rattle.unit_sorts.specs.Notes.{expressions_of};
+ghost use Rattle.unit_decode.specs.Units.{expressions_in};
 ghost use Rattle.fence_decimals.specs.Ahead.{Ahead};
 ghost use Rattle.fence_statements.specs.Asked.{AllKnown, AllGood};
 ghost use Rattle.fence_statements.specs.Notes.{notedb, note_at, Kept, KeptIf, Both, BothIf};
 
 use rules_fence::{Breach, Seen};
 use rules_unit::{Parts, Row, Statement, Use};
+use unit_decode::Coded;
 
 // Whether no rule is broken.
 pub fn keeps(b: Breach) -> bool
@@ -78,21 +78,19 @@ fn note(notes: &mut [u8], at: usize, s: Seen)
 // What the expression at an offset of the expressions es breaks first. The items that it comes to are noted; if it breaks a rule, what is noted
 // is of no use.
 fn breach_in(
-    unit: &[u8],
-    parts: Parts,
+    coded: &Coded,
     ahead: &[u16],
     dest: bool,
     es: &[u8],
     notes: &mut [u8],
     at: usize,
 ) -> Breach
-    requires fills { Fills unit.now parts }
-    requires sound_dialect { SoundDialect parts.dialect }
-    requires ahead { Ahead (code_of unit.now parts) ahead.now }
-    requires all_known { AllKnown (code_of unit.now parts) (items_at es.now at) }
-    requires kept { Kept (code_of unit.now parts) dest es.now notes.old }
-    ensures value { result ≡ breach_from (code_of unit.now parts) dest seen.Nothing (items_at es.now at) }
-    ensures kept_if { KeptIf result (code_of unit.now parts) dest es.now notes.new }
+    requires sound_dialect { SoundDialect coded.now.parts.dialect }
+    requires ahead { Ahead (code_in coded.now) ahead.now }
+    requires all_known { AllKnown (code_in coded.now) (items_at es.now at) }
+    requires kept { Kept (code_in coded.now) dest es.now notes.old }
+    ensures value { result ≡ breach_from (code_in coded.now) dest seen.Nothing (items_at es.now at) }
+    ensures kept_if { KeptIf result (code_in coded.now) dest es.now notes.new }
 {
     let mut s = Seen::Nothing;
     let mut i = at;
@@ -105,42 +103,31 @@ fn breach_in(
             return Breach::None;
         }
         let next = i + unit_decode::width_of(item);
-        let b = fence_references::item_breach(unit, parts, ahead, aimed(dest, es, next), s, item);
+        let b = fence_references::item_breach(coded, ahead, aimed(dest, es, next), s, item);
         if !keeps(b) {
             return b;
         }
         note(notes, i, s);
-        s = fence_bounds::seen_after(unit, parts, s, item);
+        s = fence_bounds::seen_after(coded, s, item);
         i = next;
     }
     Breach::None
 }
 
 // What the expression at an offset breaks first.
-fn breach_at(
-    unit: &[u8],
-    parts: Parts,
-    ahead: &[u16],
-    dest: bool,
-    notes: &mut [u8],
-    e: u16,
-) -> Breach
-    requires fills { Fills unit.now parts }
-    requires sound_dialect { SoundDialect parts.dialect }
-    requires ahead { Ahead (code_of unit.now parts) ahead.now }
-    requires all_known { AllKnown (code_of unit.now parts) ((code_of unit.now parts).items e) }
-    requires kept { Kept (code_of unit.now parts) dest (expressions_of unit.now parts) notes.old }
-    ensures value { result ≡ breach_from (code_of unit.now parts) dest seen.Nothing ((code_of unit.now parts).items e) }
-    ensures kept_if { KeptIf result (code_of unit.now parts) dest (expressions_of unit.now parts) notes.new }
+fn breach_at(coded: &Coded, ahead: &[u16], dest: bool, notes: &mut [u8], e: u16) -> Breach
+    requires sound_dialect { SoundDialect coded.now.parts.dialect }
+    requires ahead { Ahead (code_in coded.now) ahead.now }
+    requires all_known { AllKnown (code_in coded.now) ((code_in coded.now).items e) }
+    requires kept { Kept (code_in coded.now) dest (expressions_in coded.now) notes.old }
+    ensures value { result ≡ breach_from (code_in coded.now) dest seen.Nothing ((code_in coded.now).items e) }
+    ensures kept_if { KeptIf result (code_in coded.now) dest (expressions_in coded.now) notes.new }
 {
-    let start = unit_decode::expressions_offset(parts);
-    let end = unit_decode::literals_offset(parts);
     breach_in(
-        unit,
-        parts,
+        coded,
         ahead,
         dest,
-        &unit[start..end],
+        coded.expressions(),
         notes,
         unit_decode::long(e),
     )
@@ -148,59 +135,50 @@ fn breach_at(
 
 // What the expression at an offset breaks first, as a place that is written or as one that is read.
 fn breach_as(
-    unit: &[u8],
-    parts: Parts,
+    coded: &Coded,
     ahead: &[u16],
     reads: &mut [u8],
     writes: &mut [u8],
     written: bool,
     e: u16,
 ) -> Breach
-    requires fills { Fills unit.now parts }
-    requires sound_dialect { SoundDialect parts.dialect }
-    requires ahead { Ahead (code_of unit.now parts) ahead.now }
-    requires all_known { AllKnown (code_of unit.now parts) ((code_of unit.now parts).items e) }
-    requires both { Both unit.now parts reads.old writes.old }
-    ensures value { result ≡ breach_from (code_of unit.now parts) written seen.Nothing ((code_of unit.now parts).items e) }
-    ensures both_if { BothIf result unit.now parts reads.new writes.new }
+    requires sound_dialect { SoundDialect coded.now.parts.dialect }
+    requires ahead { Ahead (code_in coded.now) ahead.now }
+    requires all_known { AllKnown (code_in coded.now) ((code_in coded.now).items e) }
+    requires both { Both coded.now reads.old writes.old }
+    ensures value { result ≡ breach_from (code_in coded.now) written seen.Nothing ((code_in coded.now).items e) }
+    ensures both_if { BothIf result coded.now reads.new writes.new }
 {
     if written {
-        return breach_at(unit, parts, ahead, true, writes, e);
+        return breach_at(coded, ahead, true, writes, e);
     }
-    breach_at(unit, parts, ahead, false, reads, e)
+    breach_at(coded, ahead, false, reads, e)
 }
 
 // What a use of an expression breaks first.
 fn use_breach(
-    unit: &[u8],
-    parts: Parts,
+    coded: &Coded,
     ahead: &[u16],
     reads: &mut [u8],
     writes: &mut [u8],
-    u: Use,
+    u: Option<Use>,
 ) -> Breach
-    requires fills { Fills unit.now parts }
-    requires sound_dialect { SoundDialect parts.dialect }
-    requires ahead { Ahead (code_of unit.now parts) ahead.now }
-    requires u_value { useb (code_of unit.now parts) u ≡ true }
-    requires both { Both unit.now parts reads.old writes.old }
-    ensures value { result ≡ use_breach (code_of unit.now parts) u }
-    ensures both_if { BothIf result unit.now parts reads.new writes.new }
+    requires sound_dialect { SoundDialect coded.now.parts.dialect }
+    requires ahead { Ahead (code_in coded.now) ahead.now }
+    requires u_value { useb (code_in coded.now) u ≡ true }
+    requires both { Both coded.now reads.old writes.old }
+    ensures value { result ≡ use_breach (code_in coded.now) u }
+    ensures both_if { BothIf result coded.now reads.new writes.new }
 {
     match u {
-        Use::Nothing => Breach::None,
-        Use::Of {
-            want: _,
-            at,
-            written,
-        } => breach_as(unit, parts, ahead, reads, writes, written, at),
+        None => Breach::None,
+        Some(u) => breach_as(coded, ahead, reads, writes, u.written, u.at),
     }
 }
 
 // What the uses of a statement whose row is given break first.
 fn breach_by(
-    unit: &[u8],
-    parts: Parts,
+    coded: &Coded,
     ahead: &[u16],
     reads: &mut [u8],
     writes: &mut [u8],
@@ -208,21 +186,20 @@ fn breach_by(
     row: Row,
     s: Statement,
 ) -> Breach
-    requires fills { Fills unit.now parts }
-    requires sound_dialect { SoundDialect parts.dialect }
-    requires ahead { Ahead (code_of unit.now parts) ahead.now }
-    requires all_good { AllGood (code_of unit.now parts) (uses_by (code_of unit.now parts) row s) }
-    requires both { Both unit.now parts reads.old writes.old }
-    requires rows_of { RowsOf unit.now parts rows.old }
-    ensures value { result ≡ uses_breach (code_of unit.now parts) (uses_by (code_of unit.now parts) row s) }
-    ensures both_if { BothIf result unit.now parts reads.new writes.new }
-    ensures rows_of_2 { RowsOf unit.now parts rows.new }
+    requires sound_dialect { SoundDialect coded.now.parts.dialect }
+    requires ahead { Ahead (code_in coded.now) ahead.now }
+    requires all_good { AllGood (code_in coded.now) (uses_by (code_in coded.now) row s) }
+    requires both { Both coded.now reads.old writes.old }
+    requires rows_of { RowsIn coded.now rows.old }
+    ensures value { result ≡ uses_breach (code_in coded.now) (uses_by (code_in coded.now) row s) }
+    ensures both_if { BothIf result coded.now reads.new writes.new }
+    ensures rows_of_2 { RowsIn coded.now rows.new }
 {
-    let count = unit_uses::count_of(unit, parts, row, s);
+    let count = unit_uses::count_of(coded.unit, coded.parts, row, s);
     let mut k: usize = 0;
     while k < count {
-        let u = unit_uses::use_by(unit, parts, rows, row, s, k);
-        let b = use_breach(unit, parts, ahead, reads, writes, u);
+        let u = unit_uses::use_by(coded, rows, row, s, k);
+        let b = use_breach(coded, ahead, reads, writes, u);
         if !keeps(b) {
             return b;
         }
@@ -233,24 +210,23 @@ fn breach_by(
 
 // What the statement i of a unit that passed its check breaks first: its uses in order, their references left to right.
 pub fn breach_of(
-    unit: &[u8],
-    parts: Parts,
+    coded: &Coded,
     ahead: &[u16],
     reads: &mut [u8],
     writes: &mut [u8],
     rows: &mut [u16],
     i: u16,
 ) -> Breach
-    requires unit_value { check_of unit.now ≡ checked.Passed parts }
-    requires ahead { Ahead (code_of unit.now parts) ahead.now }
-    requires i_lt_n { i < parts.n }
-    requires both { Both unit.now parts reads.old writes.old }
-    requires rows_of { RowsOf unit.now parts rows.old }
-    ensures value { result ≡ breach_of (code_of unit.now parts) i }
-    ensures both_if { BothIf result unit.now parts reads.new writes.new }
-    ensures rows_of_2 { RowsOf unit.now parts rows.new }
+    requires unit_value { check_of coded.now.unit.now ≡ Ok coded.now.parts }
+    requires ahead { Ahead (code_in coded.now) ahead.now }
+    requires i_lt_n { i < coded.now.parts.n }
+    requires both { Both coded.now reads.old writes.old }
+    requires rows_of { RowsIn coded.now rows.old }
+    ensures value { result ≡ breach_of (code_in coded.now) i }
+    ensures both_if { BothIf result coded.now reads.new writes.new }
+    ensures rows_of_2 { RowsIn coded.now rows.new }
 {
-    let s = unit_decode::statement(unit, parts, i);
+    let s = coded.statement(i);
     let row = unit_decode::row_of(unit_decode::verb_of(s.code));
-    breach_by(unit, parts, ahead, reads, writes, rows, row, s)
+    breach_by(coded, ahead, reads, writes, rows, row, s)
 }

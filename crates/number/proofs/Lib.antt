@@ -1,4 +1,3 @@
 pub mod TenPowers
 pub mod Negation
 pub mod Products
-pub mod Rounding

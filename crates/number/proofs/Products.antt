@@ -1,21 +1,16 @@
 -- The test of a product before it is made: the most that is allowed, divided by one magnitude, against the other.
 -- Assumes nothing.
-use mathlib.Core.Path.{◌≡◌, ap, ◌∙◌}
+use mathlib.Core.Path.{◌≡◌}
 use mathlib.Core.Bool.{false}
 use Prim.Native.Nat.{ℕ, suc, ◌*◌, ◌/◌, ◌≤◌, ◌<◌}
 use native.Mathlib.Nat.{mul_comm, div-lt_iff_lt-mul, le-div_iff_mul-le, pos_of_ne-zero}
 use native.Mathlib.Omega.{arith}
 use lib.Dec.{ltb}
-use lib.IntN.{ℤ, pos, nat_abs, ◌*ℤ◌, zero-*ℤ}
-use borrow.Author.Tests.{le-ltb, lt-ltb}
-use Rattle.rules.specs.declared.Num.TheVariants.{Value}
-use Rattle.rules.specs.Arithmetic.{kept, mul_of}
-use Rattle.rules.proofs.Signed.{abs_mul, abs_zero}
+use lib.IntN.{ℤ, nat_abs, ◌*ℤ◌}
+use borrow.Author.Tests.{le-ltb}
+use Rattle.rules.proofs.Signed.{abs_mul}
 
 module _ (top : ℕ) (a b : ℤ) where
-  pub product_zero : 0 < top → nat_abs a ≡ 0 → mul_of top a b ≡ Value (pos 0)
-  product_zero h e = ap (kept top) (ap (λ (z : ℤ). z *ℤ b) (abs_zero a e) ∙ zero-*ℤ b) ∙ simp (lt-ltb 0 top h)
-
   pub product_over : (most : ℕ) → (nat_abs a ≡ 0 → ⊥) → most / nat_abs a < nat_abs b → top ≤ suc most → ltb (nat_abs (a *ℤ b)) top ≡ false
   product_over most h l t =
       rw (abs_mul a b)

@@ -3,8 +3,7 @@
 -- The claim, `bench_values`: in every row of `rows`, what the written rules answer is what document 01 says. It is proved by computation alone: the
 -- rules' side of each row is worked out to its answer.
 -- Assumes nothing.
-use Rattle.std.specs.Prelude.{refl, List, [], ◌∷◌, pos}
-use Rattle.rules.specs.declared.Num.TheVariants.{Value}
+use Rattle.std.specs.Prelude.{refl, List, [], ◌∷◌, pos, Ok}
 use Rattle.rules.specs.Values.{read_from, padded_read, read_of}
 use Rattle.rules.specs.Arithmetic.{add_of, div_of, round_of}
 use Rattle.rules.specs.Moves.{placed, alpha_from, alpha_of, fitted}
@@ -31,11 +30,11 @@ rows =
     -- *"q2" is 22
     ∷ answer (read_of limit sign (bytes "q2")) is stop 22
     -- *1234 into D2 is "34"
-    ∷ into 2 (Value (pos 1234)) is text (bytes "34")
+    ∷ into 2 (Ok (pos 1234)) is text (bytes "34")
     -- *-123 is "2s"
-    ∷ into 2 (Value (minus 123)) is text (bytes "2s")
+    ∷ into 2 (Ok (minus 123)) is text (bytes "2s")
     -- *-100 is "00"
-    ∷ into 2 (Value (minus 100)) is text (bytes "00")
+    ∷ into 2 (Ok (minus 100)) is text (bytes "00")
     -- *-7/2 is -3
     ∷ answer (div_of (minus 7) (pos 2)) is number (minus 3)
     -- *25#1 is 3

@@ -8,8 +8,7 @@
 --   writes_no_space     neither what a number is written as nor what CLEAR writes has a space
 --   amounts             a table of spans, each told from what it might be taken for
 -- Assumes nothing.
-use Rattle.std.specs.Prelude.{◌≡◌, refl, true, false, List, [], ◌∷◌, ◌++◌, ℕ, ◌<◌, ◌≤◌, ℤ, pos, length, get_or}
-use Rattle.rules.specs.declared.Num.TheVariants.{Failed}
+use Rattle.std.specs.Prelude.{◌≡◌, refl, true, false, List, [], ◌∷◌, ◌++◌, ℕ, ◌<◌, ◌≤◌, ℤ, pos, length, get_or, Err}
 use Rattle.rules.specs.declared.Fault.TheVariants as fault
 use Rattle.rules.specs.Values.{Letters, is_from, read_from, padded_read, read_of}
 use Rattle.rules.specs.Moves.{placed, written, blanks, zeros}
@@ -28,7 +27,7 @@ spaces_as_zeros = laws.leading_zeros
 
 -- "A space after a digit is still 22.": the digit is the character i, the space the character j.
 pub space_after_digit : (limit sign : ℕ) → Letters sign → (s : List ℕ) → length s ≤ limit → (i j : ℕ) → i < j → j < length s → is_from 48 (get_or s i 0) ≡ true → get_or s j 0 ≡ 32
-    → read_of limit sign s ≡ Failed fault.BadDigit
+    → read_of limit sign s ≡ Err fault.BadDigit
 space_after_digit = laws.space_behind
 
 -- "Writing never makes such spaces.": no character of the text is one.

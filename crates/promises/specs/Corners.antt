@@ -10,8 +10,7 @@
 --   numbers       which numbers are a resume state's
 --   lengths       the ranges of a unit's parts, and that the longest unit has 57,353 bytes
 -- Assumes nothing.
-use Rattle.std.specs.Prelude.{◌≡◌, refl, true, false, List, [], ◌∷◌, ◌++◌, pos, ℕ, replicate}
-use Rattle.rules.specs.declared.Num.TheVariants.{Value}
+use Rattle.std.specs.Prelude.{◌≡◌, refl, true, false, List, [], ◌∷◌, ◌++◌, pos, ℕ, replicate, Ok, None, Some}
 use Rattle.rules.specs.Values.{read_from, padded_read, read_of}
 use Rattle.rules.specs.Arithmetic.{add_of, sub_of, mul_of, div_of, round_of, eq_of, ne_of, lt_of, gt_of, ge_of, le_of, and_of}
 use Rattle.rules.specs.Moves.{placed, width_from, shown, alpha_from, alpha_of, upcased, locased}
@@ -23,11 +22,9 @@ use Rattle.rules_unit.specs.Table.{verb_of}
 use Rattle.rules_unit.specs.Expressions.{digitsb, numberb, textb, sort_from, sort_at, usesb}
 use Rattle.rules_unit.specs.Checks.{filledb, rangesb, choiceb, entryb, good_fields, rowb, shapeb, found_of, statements_from, parts_check, check_of}
 use Rattle.rules_unit.specs.Literals.{stretch_of, literal_of}
-use Rattle.rules_run.specs.declared.Caught.TheVariants as caught
-use Rattle.rules_run.specs.declared.Handler.TheVariants as handler
 use Rattle.rules_run.specs.Spans.{within, subscript_span, start_end_span, pos_length_span, span_of}
 use Rattle.rules_run.specs.Evaluation.{digits_from, literal_number, reference, step_by, place_by, place, last_of, worked_from, worked_of, calc}
-use Rattle.rules_run.specs.States.{no_loop, returnsb, loopb, emptyb, slotsb, soundb, started}
+use Rattle.rules_run.specs.States.{no_loop, returnsb, loopb, emptyb, slotsb, soundb, started, error_at}
 use Rattle.rules_run.specs.Turns as turns
 use Rattle.rules_host.specs.Numbers.{listed, goodb, good_from, stateb, state_of}
 use Rattle.promises.specs.Rows.{number, text, stop, Row, ◌is◌, AllHold, limit, top, sign, bytes, minus, answer, into, AM, NZ, NUM, expression, element, range, forth, back}
@@ -50,9 +47,9 @@ corners =
     ∷ answer (read_of limit sign (bytes "000000000000000000q")) is stop 20
     ∷ answer (read_of limit sign (bytes "x000000000000000000")) is stop 20
     -- "zeros in front"; "The sign stays if the digits kept are not all 0."
-    ∷ into 3 (Value (pos 7)) is text (bytes "007")
-    ∷ into 2 (Value (minus 110)) is text (bytes "1p")
-    ∷ into 2 (Value (minus 0)) is text (bytes "00")
+    ∷ into 3 (Ok (pos 7)) is text (bytes "007")
+    ∷ into 2 (Ok (minus 110)) is text (bytes "1p")
+    ∷ into 2 (Ok (minus 0)) is text (bytes "00")
     -- alpha to decimal
     ∷ answer (alpha_of top (bytes " + 1+2")) is number (pos 12)
     ∷ answer (alpha_of top (bytes "1--2")) is stop 22
@@ -308,32 +305,32 @@ open_loops =
 
 -- "7 for a handler or error statement not below N, or an error not of the five; having none is sound"
 pub record Handlers : Type 0 where
-  pub none_of_either : tells handler.None caught.None ≡ true
-  pub first_statement : tells (handler.At 0) caught.None ≡ true
-  pub last_statement : tells (handler.At 8) caught.None ≡ true
-  pub past_the_last : tells (handler.At 9) caught.None ≡ false
+  pub none_of_either : tells None None ≡ true
+  pub first_statement : tells (Some 0) None ≡ true
+  pub last_statement : tells (Some 8) None ≡ true
+  pub past_the_last : tells (Some 9) None ≡ false
   pub of_the_five :
-      (tells handler.None (caught.Error 20 0) ≡ true)
-      × (tells handler.None (caught.Error 21 0) ≡ true)
-      × (tells handler.None (caught.Error 22 0) ≡ true)
-      × (tells handler.None (caught.Error 23 0) ≡ true)
-      × (tells handler.None (caught.Error 26 0) ≡ true)
+      (tells None (error_at 20 0) ≡ true)
+      × (tells None (error_at 21 0) ≡ true)
+      × (tells None (error_at 22 0) ≡ true)
+      × (tells None (error_at 23 0) ≡ true)
+      × (tells None (error_at 26 0) ≡ true)
   -- "Errors 24, 25, 27, 28 and 29 are not trapped."
   pub not_of_the_five :
-      (tells handler.None (caught.Error 24 0) ≡ false)
-      × (tells handler.None (caught.Error 25 0) ≡ false)
-      × (tells handler.None (caught.Error 27 0) ≡ false)
-      × (tells handler.None (caught.Error 28 0) ≡ false)
-      × (tells handler.None (caught.Error 29 0) ≡ false)
+      (tells None (error_at 24 0) ≡ false)
+      × (tells None (error_at 25 0) ≡ false)
+      × (tells None (error_at 27 0) ≡ false)
+      × (tells None (error_at 28 0) ≡ false)
+      × (tells None (error_at 29 0) ≡ false)
   pub no_error :
-      (tells handler.None (caught.Error 0 0) ≡ false)
-      × (tells handler.None (caught.Error 4 0) ≡ false)
-      × (tells handler.None (caught.Error 19 0) ≡ false)
-      × (tells handler.None (caught.Error 30 0) ≡ false)
-  pub last_place : tells handler.None (caught.Error 22 8) ≡ true
-  pub place_past : tells handler.None (caught.Error 22 9) ≡ false
-  pub both : tells (handler.At 8) (caught.Error 26 8) ≡ true
-  pub wrong_beside_right : (tells (handler.At 9) (caught.Error 26 8) ≡ false) × (tells (handler.At 8) (caught.Error 26 9) ≡ false)
+      (tells None (error_at 0 0) ≡ false)
+      × (tells None (error_at 4 0) ≡ false)
+      × (tells None (error_at 19 0) ≡ false)
+      × (tells None (error_at 30 0) ≡ false)
+  pub last_place : tells None (error_at 22 8) ≡ true
+  pub place_past : tells None (error_at 22 9) ≡ false
+  pub both : tells (Some 8) (error_at 26 8) ≡ true
+  pub wrong_beside_right : (tells (Some 9) (error_at 26 8) ≡ false) × (tells (Some 8) (error_at 26 9) ≡ false)
 
 pub handlers : Handlers
 unfolding returnsb loopb emptyb slotsb soundb
@@ -362,10 +359,10 @@ pub record Numbers : Type 0 where
   pub none : state_of (last_three 0 0 0) ≡ started
   pub one_short : stateb (replicate 103 0) ≡ false
   pub one_more : stateb (replicate 105 0) ≡ false
-  pub a_handler : state_of (last_three 6 0 0) ≡ told (handler.At 5) caught.None
-  pub first_statement : state_of (last_three 1 0 0) ≡ told (handler.At 0) caught.None
-  pub an_error : state_of (last_three 0 22 7) ≡ told handler.None (caught.Error 22 7)
-  pub both : state_of (last_three 6 22 7) ≡ told (handler.At 5) (caught.Error 22 7)
+  pub a_handler : state_of (last_three 6 0 0) ≡ told (Some 5) None
+  pub first_statement : state_of (last_three 1 0 0) ≡ told (Some 0) None
+  pub an_error : state_of (last_three 0 22 7) ≡ told None (error_at 22 7)
+  pub both : state_of (last_three 6 22 7) ≡ told (Some 5) (error_at 22 7)
   -- a number stands for something, also where no unit has such a statement or error
   pub greatest : (stateb (last_three 65535 0 0) ≡ true) × (stateb (last_three 0 255 65535) ≡ true)
   pub too_great : (stateb (last_three 65536 0 0) ≡ false) × (stateb (last_three 0 256 0) ≡ false) × (stateb (last_three 0 22 65536) ≡ false)

@@ -17,14 +17,13 @@
 --   trapped_goes_on           of the state a trapped error changes the place, which is the handler's, and the last error, and nothing else
 --   nothing_allowed, nothing_left   an allowance of 0 gives 30, or 0 where the state is already at N
 -- Assumes nothing.
-use Rattle.std.specs.Prelude.{ℕ, ◌≤◌, ◌<◌, ◌≡◌, refl, ◌⊎◌, List}
+use Rattle.rules_run.specs.States.{error_at}
+use Rattle.std.specs.Prelude.{ℕ, ◌≤◌, ◌<◌, ◌≡◌, refl, ◌⊎◌, List, Some}
 use contract.Lifetimes
 use Rattle.rules.specs.declared.Fault.{Fault}
 use Rattle.rules.specs.Stops.{fault_number, Trappable}
 use Rattle.rules_unit.specs.Codes.{Code}
 use Rattle.rules_unit.specs.Decode.{parts_of, decoded}
-use Rattle.rules_run.specs.declared.Caught.TheVariants as caught
-use Rattle.rules_run.specs.declared.Handler.TheVariants as handler
 use Rattle.rules_run.specs.declared.State.{State}
 use Rattle.rules_run.specs.declared.Outcome.{Outcome}
 use Rattle.rules_run.specs.Stops.{stop_number}
@@ -81,7 +80,7 @@ module _ (c : Code) (s : State) (d : List ℕ) (e : Fault) (given : GivesHere c 
 
   -- "goes on at c; the handler stays until OFFERROR or another ONERROR. The state keeps the handler and the last error's number and statement. Open calls and
   -- loops stay open."
-  pub trapped_goes_on : Trappable (fault_number e) → (i : ℕ) → s.trap.handler ≡ handler.At i
+  pub trapped_goes_on : Trappable (fault_number e) → (i : ℕ) → s.trap.handler ≡ Some i
       → next_of c s d
       ≡ to
       (record {
@@ -90,6 +89,6 @@ module _ (c : Code) (s : State) (d : List ℕ) (e : Fault) (given : GivesHere c 
         returns = s.returns;
         opened = s.opened;
         loops = s.loops;
-        trap = record { handler = s.trap.handler; caught = caught.Error (fault_number e) s.at };
+        trap = record { handler = s.trap.handler; caught = error_at (fault_number e) s.at };
       })
   trapped_goes_on five i h = (handlers.traps_exactly c s d e given _).1 (five, i, h, refl)

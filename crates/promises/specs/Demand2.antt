@@ -32,12 +32,11 @@
 --   state_stays_sound   a call hands back a sound state where it was given one
 --   run_numbers         a call that passes all checks ends with 0, 20 to 29 or 30: a passed check never lets 4 arise in a run
 -- Assumes nothing.
-use Rattle.std.specs.Prelude.{ℕ, zero, suc, ◌+◌, ◌≤◌, ◌<◌, ◌≡◌, refl, ◌↔◌, ◌⊎◌, List, ℤ, pos, nat_abs, length, get_or, set}
+use Rattle.std.specs.Prelude.{ℕ, zero, suc, ◌+◌, ◌≤◌, ◌<◌, ◌≡◌, refl, ◌↔◌, ◌⊎◌, List, ℤ, pos, nat_abs, length, get_or, set, Err, Ok, None, Some}
 use Rattle.std.proofs.Common.{sym, ap, ◌∙◌, subst}
 use contract.Lifetimes
 use Rattle.rules.specs.declared.Fault.{Fault}
 use Rattle.rules.specs.declared.Fault.TheVariants as fault
-use Rattle.rules.specs.declared.Num.TheVariants.{Value, Failed}
 use Rattle.rules.specs.Stops.{fault_number, Trappable}
 use Rattle.rules.specs.Values.{Valid, read_of}
 use Rattle.rules.specs.Arithmetic.{kept, div_of, round_of}
@@ -49,15 +48,12 @@ use Rattle.rules_unit.specs.Decode.{parts_of, decoded}
 use Rattle.rules_unit.specs.Table.{WritesA, Repeats}
 use Rattle.rules_unit.specs.Sound.{SoundUnit}
 use Rattle.rules_unit.proofs.Sound.{sound_passed}
-use Rattle.rules_run.specs.declared.Caught.TheVariants as caught
-use Rattle.rules_run.specs.declared.Handler.TheVariants as handler
 use Rattle.rules_run.specs.declared.State.{State}
 use Rattle.rules_run.specs.declared.Outcome.{Outcome}
-use Rattle.rules_run.specs.declared.Span.TheVariants.{At, Outside}
 use Rattle.rules_run.specs.declared.Stop.TheVariants as stop
 use Rattle.rules_run.specs.Stops.{stop_number}
-use Rattle.rules_run.specs.States.{HandlerSound, CaughtSound, Sound, started, gone, caught_by}
-use Rattle.rules_run.specs.Spans.{span_of, Located}
+use Rattle.rules_run.specs.States.{HandlerSound, CaughtSound, Sound, started, gone, caught_by, error_at}
+use Rattle.rules_run.specs.Spans.{span_of, Located, span_at}
 use Rattle.rules_run.specs.Evaluation.{worked_of, number_of}
 use Rattle.rules_run.specs.Runs.{to, stuck, next_of, data_after, Ran, ended, run_from}
 use Rattle.rules_run.specs.Answers.{GivesHere, Gives, Ready, Does, RunNumber, StopNo, no_of, Given}
@@ -116,10 +112,10 @@ module _ (κs : Lifetimes.Lfts 2) (a : _) (r : Outcome) (s : _) (post : run.Post
 
   -- "7 for a handler or error statement not below N, or an error not of the five": the state that is handed back has none such.
   module _ (sound : SoundUnit unit (parts_of unit)) (given : Sound (decoded unit) state) where
-    pub handler_within : (i : ℕ) → r.state.trap.handler ≡ handler.At i → i < (parts_of unit).n
+    pub handler_within : (i : ℕ) → r.state.trap.handler ≡ Some i → i < (parts_of unit).n
     handler_within i e = subst (HandlerSound (parts_of unit).n) e (state_stays_sound sound given).handled
 
-    pub last_error_within : (n i : ℕ) → r.state.trap.caught ≡ caught.Error n i → Trappable n × (i < (parts_of unit).n)
+    pub last_error_within : (n i : ℕ) → r.state.trap.caught ≡ error_at n i → Trappable n × (i < (parts_of unit).n)
     last_error_within n i e = subst (CaughtSound (parts_of unit).n) e (state_stays_sound sound given).told
 
   -- ---- the errors that a run gives, trapped or not
@@ -133,7 +129,7 @@ module _ (κs : Lifetimes.Lfts 2) (a : _) (r : Outcome) (s : _) (post : run.Post
 
   -- "The state keeps .. the last error's number and statement.": it is the one of the state given, or a statement of this run gave it.
   pub last_error_given : (r.state.trap.caught ≡ state.trap.caught)
-      ⊎ ((e : Fault) × (g : Gives (decoded unit) allowance state bytes e) × (r.state.trap.caught ≡ caught.Error (fault_number e) g.at.at))
+      ⊎ ((e : Fault) × (g : Gives (decoded unit) allowance state bytes e) × (r.state.trap.caught ≡ error_at (fault_number e) g.at.at))
   last_error_given = handlers.call_tells unit bytes state allowance ran ((answers.does_exactly unit bytes state allowance ran).0 post)
 
 pub start_is_sound : (c : Code) → Sound c started
@@ -142,29 +138,29 @@ start_is_sound = started_sound
 -- ---- why a number is not to be had
 
 -- "20 | more than 18 digits": a result of which the magnitude has too many, top being 10 to the limit
-pub kept_20 : (top : ℕ) (z : ℤ) → (kept top z ≡ Failed fault.TooLong) ↔ top ≤ nat_abs z
+pub kept_20 : (top : ℕ) (z : ℤ) → (kept top z ≡ Err fault.TooLong) ↔ top ≤ nat_abs z
 kept_20 = causes.kept_20
 
 -- "A decimal span of more than 18 characters then gives 20, and on reading, an invalid character 22."
-pub read_20 : (limit sign : ℕ) (s : List ℕ) → (read_of limit sign s ≡ Failed fault.TooLong) ↔ limit < length s
+pub read_20 : (limit sign : ℕ) (s : List ℕ) → (read_of limit sign s ≡ Err fault.TooLong) ↔ limit < length s
 read_20 = causes.read_20
 
-pub read_22 : (limit sign : ℕ) (s : List ℕ) → (read_of limit sign s ≡ Failed fault.BadDigit) ↔ (length s ≤ limit) × (Valid limit sign s → ⊥)
+pub read_22 : (limit sign : ℕ) (s : List ℕ) → (read_of limit sign s ≡ Err fault.BadDigit) ↔ (length s ≤ limit) × (Valid limit sign s → ⊥)
 read_22 = causes.read_22
 
 -- "23 | zero divisor"
-pub div_23 : (a b : ℤ) → (div_of a b ≡ Failed fault.ZeroDivisor) ↔ (nat_abs b ≡ 0)
+pub div_23 : (a b : ℤ) → (div_of a b ≡ Err fault.ZeroDivisor) ↔ (nat_abs b ≡ 0)
 div_23 = causes.div_23
 
 -- "k outside 0 to 18 is 26"
-pub round_26 : (v k : ℤ) → (round_of v k ≡ Failed fault.RoundCount) ↔ ((n : ℕ) → k ≡ pos n → n ≤ 18 → ⊥)
+pub round_26 : (v k : ℤ) → (round_of v k ≡ Err fault.RoundCount) ↔ ((n : ℕ) → k ≡ pos n → n ≤ 18 → ⊥)
 round_26 = causes.round_26
 
 -- "A span may leave its field in either direction; it must stay inside the D bytes. Otherwise 21.": the size is D. Of a strict field Strict has the rule.
-pub span_exactly : (size : ℕ) (f : Field) (a n : ℕ) (h : Form) (x y : ℤ) → (span_of size f h x y ≡ At a n) ↔ Located f h x y a n × (a + n ≤ size)
+pub span_exactly : (size : ℕ) (f : Field) (a n : ℕ) (h : Form) (x y : ℤ) → (span_of size f h x y ≡ span_at a n) ↔ Located f h x y a n × (a + n ≤ size)
 span_exactly = located.span_exactly
 
-pub outside_21 : (size : ℕ) (f : Field) (h : Form) (x y : ℤ) → (span_of size f h x y ≡ Outside) ↔ ((a n : ℕ) → Located f h x y a n → a + n ≤ size → ⊥)
+pub outside_21 : (size : ℕ) (f : Field) (h : Form) (x y : ℤ) → (span_of size f h x y ≡ None) ↔ ((a n : ℕ) → Located f h x y a n → a + n ≤ size → ⊥)
 outside_21 = located.outside_exactly
 
 -- ---- the open calls: the statement where the state s is, over the data d
@@ -207,11 +203,11 @@ module _ (c : Code) (s : State) (d : List ℕ) where
 
 module _ (c : Code) (s : State) (d : List ℕ) where
   -- "one of the errors 20, 21, 22, 23 or 26 .. goes on at c"; "Errors 24, 25, 27, 28 and 29 are not trapped."
-  pub stops_exactly : (e : Fault) → (next_of c s d ≡ stuck e) ↔ GivesHere c s d e × (Trappable (fault_number e) → s.trap.handler ≡ handler.None)
+  pub stops_exactly : (e : Fault) → (next_of c s d ≡ stuck e) ↔ GivesHere c s d e × (Trappable (fault_number e) → s.trap.handler ≡ None)
   stops_exactly = handlers.stops_exactly c s d
 
   pub traps_exactly : (e : Fault) → GivesHere c s d e → (t : State)
-      → (next_of c s d ≡ to t) ↔ Trappable (fault_number e) × (i : ℕ) × (s.trap.handler ≡ handler.At i) × (t ≡ caught_by s (fault_number e) i)
+      → (next_of c s d ≡ to t) ↔ Trappable (fault_number e) × (i : ℕ) × (s.trap.handler ≡ Some i) × (t ≡ caught_by s (fault_number e) i)
   traps_exactly = handlers.traps_exactly c s d
 
   -- "18 ONERROR c"
@@ -224,7 +220,7 @@ module _ (c : Code) (s : State) (d : List ℕ) where
         returns = s.returns;
         opened = s.opened;
         loops = s.loops;
-        trap = record { handler = handler.At (c.statement s.at).c; caught = s.trap.caught };
+        trap = record { handler = Some (c.statement s.at).c; caught = s.trap.caught };
       })
   on_error_sets = handlers.on_error_arms c s d
 
@@ -238,7 +234,7 @@ module _ (c : Code) (s : State) (d : List ℕ) where
         returns = s.returns;
         opened = s.opened;
         loops = s.loops;
-        trap = record { handler = handler.None; caught = s.trap.caught };
+        trap = record { handler = None; caught = s.trap.caught };
       })
   off_error_takes_away = handlers.off_error_disarms c s d
 
@@ -266,7 +262,7 @@ module _ (c : Code) (s : State) (d : List ℕ) where
   goto_goes = jumps.goto_goes c s d
 
   -- Where number b comes to v.
-  module _ (v : ℤ) (b : number_of c d (worked_of c d (c.items (c.statement s.at).b)) ≡ Value v) where
+  module _ (v : ℤ) (b : number_of c d (worked_of c d (c.items (c.statement s.at).b)) ≡ Ok v) where
     -- "8 go to c if number b is zero"
     pub zero_goes : (c.statement s.at).code ≡ 8 → nat_abs v ≡ 0 → next_of c s d ≡ to (gone s (c.statement s.at).c)
     zero_goes = jumps.zero_goes c s d v b
@@ -298,7 +294,7 @@ module _ (c : Code) (s : State) (d : List ℕ) (k : ℕ) where
   goes = run_goes c s d k
 
   -- "leaves the data as that statement found it, counts the statement as completed and goes on at c"
-  pub traps : (m : ℕ) (e : Fault) (i : ℕ) → s.at < c.statements → GivesHere c s d e → Trappable (fault_number e) → s.trap.handler ≡ handler.At i
+  pub traps : (m : ℕ) (e : Fault) (i : ℕ) → s.at < c.statements → GivesHere c s d e → Trappable (fault_number e) → s.trap.handler ≡ Some i
       → run_from c (suc m) s d k ≡ run_from c m (caught_by s (fault_number e) i) d (suc k)
   traps m e i low given five h =
       run_goes c s d k m (caught_by s (fault_number e) i) low ((handlers.traps_exactly c s d e given (caught_by s (fault_number e) i)).1 (five, i, h, refl))

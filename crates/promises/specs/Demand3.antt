@@ -25,23 +25,23 @@
 --                                               `dibol::invalid` and `dibol::run` are permitted to answer and leave
 --   asked_cannot_slip                           run_cannot_slip where all that it takes is asked: the fence answered yes, and the data had no invalid decimal
 -- Assumes nothing.
-use Rattle.std.specs.Prelude.{ℕ, ◌+◌, ◌<◌, ◌≡◌, true, ◌↔◌, ◌⊎◌, List, length, get_or, take, drop}
+use Rattle.std.specs.Prelude.{ℕ, ◌+◌, ◌<◌, ◌≡◌, true, ◌↔◌, ◌⊎◌, List, length, get_or, take, drop, Err}
+use Rattle.std.proofs.Common.{ap}
+use Rattle.rules_run.specs.declared.Caught.{Caught}
 use Rattle.std.proofs.Common.{sym, ◌∙◌, subst, inl, inr}
 use contract.Lifetimes
 use Rattle.rules.specs.declared.Fault.{Fault}
 use Rattle.rules.specs.Stops.{fault_number}
 use Rattle.rules.specs.Values.{Valid}
 use Rattle.rules_unit.specs.declared.Refusal.{Refusal}
-use Rattle.rules_unit.specs.declared.Checked.TheVariants as checked
 use Rattle.rules_unit.specs.Codes.{Code, decimalb, size_of, count_of, element_at}
 use Rattle.rules_unit.specs.Decode.{parts_of, decoded}
 use Rattle.rules_unit.specs.Answers.{Says}
 use Rattle.rules_unit.specs.Sound.{SoundUnit}
 use Rattle.rules_unit.proofs.Sound.{sound_passed}
-use Rattle.rules_run.specs.declared.Caught.TheVariants as caught
 use Rattle.rules_run.specs.declared.State.{State}
 use Rattle.rules_run.specs.declared.Outcome.{Outcome}
-use Rattle.rules_run.specs.States.{Sound}
+use Rattle.rules_run.specs.States.{Sound, error_at}
 use Rattle.rules_run.specs.Stops.{stop_number}
 use Rattle.rules_run.specs.Runs.{run_of}
 use Rattle.rules_run.specs.Answers.{Gives}
@@ -81,7 +81,7 @@ module _ (u : List ℕ) where
   no_exactly i = fence_exactly u (No i)
 
   -- "a refusal (1 to 5) with its place": the one that the check of the unit gives
-  pub refused_exactly : (r : Refusal) → (fence_of u ≡ Refused r) ↔ Says u (checked.Refused r)
+  pub refused_exactly : (r : Refusal) → (fence_of u ≡ Refused r) ↔ Says u (Err r)
   refused_exactly r = fence_exactly u (Refused r)
 
   -- The breach of a statement of a sound unit.
@@ -115,7 +115,7 @@ module _ (u d : List ℕ) where
   pub size_exactly : (validity_of u d ≡ validity.WrongSize) ↔ SoundUnit u (parts_of u) × (length d ≡ (parts_of u).d → ⊥)
   size_exactly = validity_exactly u d validity.WrongSize
 
-  pub no_unit_exactly : (r : Refusal) → (validity_of u d ≡ validity.Refused r) ↔ Says u (checked.Refused r)
+  pub no_unit_exactly : (r : Refusal) → (validity_of u d ≡ validity.Refused r) ↔ Says u (Err r)
   no_unit_exactly r = validity_exactly u d (validity.Refused r)
 
   -- The element k of the field f, from 0, is valid.
@@ -244,16 +244,18 @@ pub last_error_never_21 : (κs : Lifetimes.Lfts 2) (a : _) (r : Outcome) (s : _)
     → AllValid (decoded a.0.now) a.1.0.now
     → Sound (decoded a.0.now) a.1.1.0
     → (i : ℕ)
-    → r.state.trap.caught ≡ caught.Error 21 i
-    → a.1.1.0.trap.caught ≡ caught.Error 21 i
+    → r.state.trap.caught ≡ error_at 21 i
+    → a.1.1.0.trap.caught ≡ error_at 21 i
 last_error_never_21 κs a r s p fenced size valid sound i e = by (last_error_given κs a r s p)
   where
-    same_number : (n j : ℕ) → caught.Error n j ≡ caught.Error 21 i → n ≡ 21
-    same_number n j q = cc
+    same_number : (n j : ℕ) → error_at n j ≡ error_at 21 i → n ≡ 21
+    same_number n j q =
+        let x : ◌≡◌ {A = Caught} (record { number = n; statement = j }) (record { number = 21; statement = i }) = cc in
+        ap (λ (e : Caught). e.number) x
 
     by : (r.state.trap.caught ≡ a.1.1.0.trap.caught)
-        ⊎ ((f : Fault) × (g : Gives (decoded a.0.now) a.1.1.1.0 a.1.1.0 a.1.0.now f) × (r.state.trap.caught ≡ caught.Error (fault_number f) g.at.at))
-        → a.1.1.0.trap.caught ≡ caught.Error 21 i
+        ⊎ ((f : Fault) × (g : Gives (decoded a.0.now) a.1.1.1.0 a.1.1.0 a.1.0.now f) × (r.state.trap.caught ≡ error_at (fault_number f) g.at.at))
+        → a.1.1.0.trap.caught ≡ error_at 21 i
     by (inl q) = sym q ∙ e
     by (inr (f, g, q)) =
         absurd (never_21 a.0.now fenced a.1.0.now size valid a.1.1.0 sound a.1.1.1.0 f (same_number (fault_number f) g.at.at (sym q ∙ e)) g)

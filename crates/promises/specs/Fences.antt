@@ -5,7 +5,7 @@
 --   reads_alone, writes_there, control_there    of what a statement reads no byte is a destination, and what it writes is one
 -- Assumes nothing.
 use Rattle.std.proofs.Common.{arith, sym, subst}
-use Rattle.std.specs.Prelude.{◌≡◌, refl, [], ◌∷◌, ℕ, zero, suc, ◌<◌, ◌≤◌}
+use Rattle.std.specs.Prelude.{◌≡◌, refl, [], ◌∷◌, ℕ, zero, suc, ◌<◌, ◌≤◌, Option}
 use Rattle.rules_unit.specs.Decode.{mark_of, parts_of, kind_of, field_at, reference_at, number_at, text_at, item_by, item_at, items_in, items_at, statement_at}
 use Rattle.rules_unit.specs.Table.{verb_of}
 use Rattle.rules_unit.specs.Expressions.{digitsb, numberb, textb, sort_from, sort_at, extent_of, usesb}
@@ -95,8 +95,8 @@ pub reads_alone : Destination (decoded smear) 0 → ⊥
 unfolding mark_of parts_of kind_of field_at reference_at number_at item_by item_at items_in items_at statement_at digitsb numberb within start_end_span span_of digits_from literal_number fixed_span span_from place_span
 reads_alone d = let a = (destination_exactly (decoded smear) 0).0 d in none a.statement_number a.low a.span a.names a.covers
   where
-    none : (i : ℕ) → i < (decoded smear).statements → (span : Span) → PlaceNames (decoded smear) ((decoded smear).items ((decoded smear).statement i).a) span → Covers span 0 → ⊥
-    none zero l span p v = let z : 1 ≤ 0 = (subst (λ (x : Span). Covers x 0) (sym (names_span (decoded smear) _ span p)) v).0 in omega (arith, z)
+    none : (i : ℕ) → i < (decoded smear).statements → (span : Option Span) → PlaceNames (decoded smear) ((decoded smear).items ((decoded smear).statement i).a) span → Covers span 0 → ⊥
+    none zero l span p v = let z : 1 ≤ 0 = (subst (λ (x : Option Span). Covers x 0) (sym (names_span (decoded smear) _ span p)) v).0 in omega (arith, z)
     none (suc i) l span p v = let z : suc i < 1 = l in omega (arith, z)
 
 pub writes_there : Destination (decoded smear) 1

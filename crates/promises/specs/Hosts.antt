@@ -27,21 +27,18 @@
 --   c_asked_cannot_slip      demand 3 where it is asked: `dibol_fence` answered 0, `dibol_invalid` answered 0, and the state is sound
 --   c_breaches_same          `dibol_breaches` answers and leaves what `dibol::breaches` does, of which Breaching has the theorems
 -- Assumes nothing.
-use Rattle.std.specs.Prelude.{ℕ, suc, ◌+◌, ◌*◌, ◌^◌, ◌<◌, ◌≤◌, ◌≡◌, refl, ◌↔◌, Bool, true, false, List, [], ◌∷◌, pos, negsuc, length, get_or, replicate, eqb}
+use Rattle.std.specs.Prelude.{ℕ, suc, ◌+◌, ◌*◌, ◌^◌, ◌<◌, ◌≤◌, ◌≡◌, refl, ◌↔◌, Bool, true, false, List, [], ◌∷◌, pos, negsuc, length, get_or, replicate, eqb, Err, Ok, None, Some}
 use Rattle.std.proofs.Common.{sym, ap, ◌∙◌, subst, eq-eqb, ne_eqb}
 use contract.Lifetimes
 use Rattle.rules.specs.Tests.{◌and◌}
 use Rattle.rules_unit.specs.declared.Parts.{Parts}
 use Rattle.rules_unit.specs.declared.Refusal.{Refusal}
-use Rattle.rules_unit.specs.declared.Checked.TheVariants as checked
 use Rattle.rules_unit.specs.Codes.{element_at}
 use Rattle.rules_unit.specs.Decode.{parts_of, decoded, code_of}
 use Rattle.rules_unit.specs.Sound.{SoundUnit}
 use Rattle.rules_unit.specs.Checks.{refusal_number, refusal_place, check_of}
-use Rattle.rules_run.specs.declared.Caught.TheVariants as caught
-use Rattle.rules_run.specs.declared.Handler.TheVariants as handler
 use Rattle.rules_run.specs.declared.State.{State}
-use Rattle.rules_run.specs.States.{no_loop, Sound, started}
+use Rattle.rules_run.specs.States.{no_loop, Sound, started, error_at}
 use Rattle.rules_run.specs.declared.Stop.TheVariants as stop
 use Rattle.rules_run.specs.Stops.{stop_number}
 use Rattle.rules_run.specs.Runs.{Ran, counting, run_of}
@@ -164,17 +161,17 @@ c_breaches_same κs κs' a a' n n' s s' p q same-unit same-skip same_rows =
 -- ---- one call
 
 module _ (u d w : List ℕ) (m : ℕ) (a : List ℕ) where
-  pub refused_by_the_check : (r : Refusal) → check_of u ≡ checked.Refused r → handed_of u d w m a ≡ untouched (refusal_number r) (refusal_place r) d w a
+  pub refused_by_the_check : (r : Refusal) → check_of u ≡ Err r → handed_of u d w m a ≡ untouched (refusal_number r) (refusal_place r) d w a
   refused_by_the_check = resume.left_refused u d w m a
 
-  pub refused_for_its_size : (p : Parts) → check_of u ≡ checked.Passed p → (length d ≡ p.d → ⊥) → handed_of u d w m a ≡ untouched 6 0 d w a
+  pub refused_for_its_size : (p : Parts) → check_of u ≡ Ok p → (length d ≡ p.d → ⊥) → handed_of u d w m a ≡ untouched 6 0 d w a
   refused_for_its_size = resume.left_wrong_size u d w m a
 
-  pub refused_for_its_state : (p : Parts) → check_of u ≡ checked.Passed p → length d ≡ p.d → (Sound (code_of u p) (state_of w) → ⊥)
+  pub refused_for_its_state : (p : Parts) → check_of u ≡ Ok p → length d ≡ p.d → (Sound (code_of u p) (state_of w) → ⊥)
       → handed_of u d w m a ≡ untouched 7 0 d w a
   refused_for_its_state = resume.left_unsound u d w m a
 
-  pub refused_for_its_numbers : (p : Parts) → check_of u ≡ checked.Passed p → length d ≡ p.d → stateb w ≡ false → handed_of u d w m a ≡ untouched 7 0 d w a
+  pub refused_for_its_numbers : (p : Parts) → check_of u ≡ Ok p → length d ≡ p.d → stateb w ≡ false → handed_of u d w m a ≡ untouched 7 0 d w a
   refused_for_its_numbers = resume.left_none u d w m a
 
 -- ---- from one call to the next
@@ -208,17 +205,17 @@ module _ (s : State) where
     slot_step = listed.step_number s k low
 
   -- "The state keeps the handler": its statement and one more, and 0 for none.
-  pub no_handler : s.trap.handler ≡ handler.None → number_at s 101 ≡ 0
+  pub no_handler : s.trap.handler ≡ None → number_at s 101 ≡ 0
   no_handler e = listed.handler_number_lem s ∙ ap handler_number e
 
-  pub handler_plus_one : (i : ℕ) → s.trap.handler ≡ handler.At i → number_at s 101 ≡ i + 1
+  pub handler_plus_one : (i : ℕ) → s.trap.handler ≡ Some i → number_at s 101 ≡ i + 1
   handler_plus_one i e = listed.handler_number_lem s ∙ ap handler_number e
 
   -- "and the last error's number and statement", and 0 and 0 for none.
-  pub no_error : s.trap.caught ≡ caught.None → (number_at s 102 ≡ 0) × (number_at s 103 ≡ 0)
+  pub no_error : s.trap.caught ≡ None → (number_at s 102 ≡ 0) × (number_at s 103 ≡ 0)
   no_error e = (listed.error_number_lem s ∙ ap error_number e, listed.place_number s ∙ ap error_place e)
 
-  pub error_and_statement : (n i : ℕ) → s.trap.caught ≡ caught.Error n i → (number_at s 102 ≡ n) × (number_at s 103 ≡ i)
+  pub error_and_statement : (n i : ℕ) → s.trap.caught ≡ error_at n i → (number_at s 102 ≡ n) × (number_at s 103 ≡ i)
   error_and_statement n i e = (listed.error_number_lem s ∙ ap error_number e, listed.place_number s ∙ ap error_place e)
 
 -- A value that is not below 0 is held as itself.

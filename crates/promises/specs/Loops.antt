@@ -19,12 +19,11 @@
 --   every_dialect                                   .. where the dialect is sound, as that of every unit is
 --   loops_within, open_loop_sound, unused_slot_zero    of the state that a call hands back
 -- Assumes nothing.
-use Rattle.std.specs.Prelude.{ℕ, ◌+◌, ◌-◌, ◌^◌, ◌<◌, ◌≤◌, ◌≡◌, refl, ◌↔◌, true, false, List, ℤ, pos, negsuc, nat_abs, ◌+ℤ◌, get_or, set}
+use Rattle.std.specs.Prelude.{ℕ, ◌+◌, ◌-◌, ◌^◌, ◌<◌, ◌≤◌, ◌≡◌, refl, ◌↔◌, true, false, List, ℤ, pos, negsuc, nat_abs, ◌+ℤ◌, get_or, set, Err, Ok}
 use Rattle.std.proofs.Common.{arith, ap, ◌∙◌, inl, inr}
 use contract.Lifetimes
 use Rattle.rules.specs.declared.Fault.{Fault}
 use Rattle.rules.specs.declared.Fault.TheVariants as fault
-use Rattle.rules.specs.declared.Num.TheVariants.{Value, Failed}
 use Rattle.rules.specs.Stops.{fault_number}
 use Rattle.rules.specs.Arithmetic.{add_of}
 use Rattle.rules.specs.Moves.{written}
@@ -61,18 +60,18 @@ module _ (c : Code) (s : State) (d : List ℕ) where
 
   -- "On entry the control place is found, then start, limit and step are worked out once, in that order.": the first error is given.
   module _ (for : here.code ≡ 14) (room : s.opened < 16) (f : Fault) where
-    pub place_fails : worked_of c d (c.items here.a) ≡ worked.Failed f → GivesHere c s d f
+    pub place_fails : worked_of c d (c.items here.a) ≡ Err f → GivesHere c s d f
     place_fails = loops.for_place_fails c s d for room f
 
-    module _ (a n : ℕ) (found : worked_of c d (c.items here.a) ≡ worked.Place true a n) where
-      pub start_fails : value_at c d here.b ≡ Failed f → GivesHere c s d f
+    module _ (a n : ℕ) (found : worked_of c d (c.items here.a) ≡ Ok (worked.Place true a n)) where
+      pub start_fails : value_at c d here.b ≡ Err f → GivesHere c s d f
       start_fails = loops.for_start_fails c s d for room f a n found
 
-      pub limit_fails : (start : ℤ) → value_at c d here.b ≡ Value start → value_at c d (next_at c here.b) ≡ Failed f → GivesHere c s d f
+      pub limit_fails : (start : ℤ) → value_at c d here.b ≡ Ok start → value_at c d (next_at c here.b) ≡ Err f → GivesHere c s d f
       limit_fails = loops.for_limit_fails c s d for room f a n found
 
-      pub step_fails : (start limit : ℤ) → value_at c d here.b ≡ Value start → value_at c d (next_at c here.b) ≡ Value limit
-          → value_at c d (next_at c (next_at c here.b)) ≡ Failed f
+      pub step_fails : (start limit : ℤ) → value_at c d here.b ≡ Ok start → value_at c d (next_at c here.b) ≡ Ok limit
+          → value_at c d (next_at c (next_at c here.b)) ≡ Err f
           → GivesHere c s d f
       step_fails = loops.for_step_fails c s d for room f a n found
 
@@ -103,7 +102,7 @@ module _ (c : Code) (s : State) (d : List ℕ) where
         entry_passes_over = loops.for_skips c s d for room e moves fits
 
         -- "a loop that never runs holds the start value", and so does one that runs, before its first pass
-        pub start_held : SoundCode c → SoundDialect c.dialect → read_at c (data_after c s d) e.a e.n ≡ Value e.start
+        pub start_held : SoundCode c → SoundDialect c.dialect → read_at c (data_after c s d) e.a e.n ≡ Ok e.start
         start_held unit dialect =
             ap (λ (x : List ℕ). read_at c x e.a e.n) entry_stores ∙ controls.place_holds c unit dialect d (c.items here.a) e.a e.n e.found e.start fits
 
@@ -111,14 +110,14 @@ module _ (c : Code) (s : State) (d : List ℕ) where
 
   -- "the control place is found again from that statement at each pass": then it is read, and the step is added. The first error is given.
   module _ (pass : Repeats here.code) (some-open : s.opened ≡ 0 → ⊥) (f : Fault) where
-    pub found_no_more : worked_of c d (c.items (entry_of c (look_of s)).a) ≡ worked.Failed f → GivesHere c s d f
+    pub found_no_more : worked_of c d (c.items (entry_of c (look_of s)).a) ≡ Err f → GivesHere c s d f
     found_no_more = loops.pass_place_fails c s d pass some-open f
 
-    module _ (a n : ℕ) (found : worked_of c d (c.items (entry_of c (look_of s)).a) ≡ worked.Place true a n) where
-      pub unreadable : read_at c d a n ≡ Failed f → GivesHere c s d f
+    module _ (a n : ℕ) (found : worked_of c d (c.items (entry_of c (look_of s)).a) ≡ Ok (worked.Place true a n)) where
+      pub unreadable : read_at c d a n ≡ Err f → GivesHere c s d f
       unreadable = loops.pass_read_fails c s d pass some-open f a n found
 
-      pub sum_too_great : (x : ℤ) → read_at c d a n ≡ Value x → add_of c.dialect.top x (look_of s).last.step ≡ Failed f → GivesHere c s d f
+      pub sum_too_great : (x : ℤ) → read_at c d a n ≡ Ok x → add_of c.dialect.top x (look_of s).last.step ≡ Err f → GivesHere c s d f
       sum_too_great = loops.pass_sum_fails c s d pass some-open f a n found
 
   -- Where the sum is to be had.
@@ -142,7 +141,7 @@ module _ (c : Code) (s : State) (d : List ℕ) where
       pass_closes = loops.pass_leaves c s d pass some-open p fits
 
       -- "At exit the control field holds the first value that failed the test"
-      pub value_held : SoundCode c → SoundDialect c.dialect → read_at c (data_after c s d) p.a p.n ≡ Value p.v
+      pub value_held : SoundCode c → SoundDialect c.dialect → read_at c (data_after c s d) p.a p.n ≡ Ok p.v
       value_held unit dialect =
           ap (λ (x : List ℕ). read_at c x p.a p.n) pass_stores
           ∙ controls.place_holds c unit dialect d (c.items (entry_of c (look_of s)).a) p.a p.n p.found p.v fits

@@ -5,8 +5,7 @@
 --   manual_subscripts    the eleven examples of 3.3
 -- The stored units tests/runs/manual-*.txt, named by section, run every worked example of these sections, those proved here among them.
 -- Assumes nothing.
-use Rattle.std.specs.Prelude.{refl, List, [], ◌∷◌, ◌++◌, ℕ, zero, suc, pos}
-use Rattle.rules.specs.declared.Num.TheVariants.{Value}
+use Rattle.std.specs.Prelude.{refl, List, [], ◌∷◌, ◌++◌, ℕ, zero, suc, pos, Ok}
 use Rattle.rules.specs.Values.{read_from, padded_read, read_of}
 use Rattle.rules.specs.Arithmetic.{mul_of}
 use Rattle.rules.specs.Moves.{placed, width_from, shown, alpha_from, alpha_of, fitted}
@@ -26,7 +25,7 @@ examples =
     -- 3.2.1: 'FGH' moved to A, A5, is 'FGH  '
     ∷ text (fitted 5 (bytes "FGH")) is text (bytes "FGH  ")
     -- 3.2.2: 1234 moved to C, D10, is 0000001234
-    ∷ into 10 (Value (pos 1234)) is text (bytes "0000001234")
+    ∷ into 10 (Ok (pos 1234)) is text (bytes "0000001234")
     -- 3.2.2: 1234*34 moved to C, D4, is 1956
     ∷ into 4 (mul_of top (pos 1234) (pos 34)) is text (bytes "1956")
     -- 3.2.3: '-0065432178' moved to C, D10, is 006543217x

@@ -14,11 +14,10 @@
 --   sixteen           sixteen values may be held, and seventeen not
 -- Assumes nothing.
 use Rattle.std.proofs.Common.{arith, sym, ◌∙◌, le-leb}
-use Rattle.std.specs.Prelude.{◌≡◌, refl, false, List, [], ◌∷◌, ◌++◌, ℕ, ◌≤◌, pos, length, get_or, set, take, replicate}
+use Rattle.std.specs.Prelude.{◌≡◌, refl, false, List, [], ◌∷◌, ◌++◌, ℕ, ◌≤◌, pos, length, get_or, set, take, replicate, Err}
 use Rattle.std.proofs.lemmas.Bool.{lt-leb}
 use Rattle.rules_unit.specs.declared.Sort.TheVariants as sort
 use Rattle.rules_unit.specs.declared.Refusal.TheVariants as refusal-of
-use Rattle.rules_unit.specs.declared.Checked.TheVariants as checked
 use Rattle.rules_unit.specs.Codes.{Code}
 use Rattle.rules_unit.specs.Sound.{Filled}
 use Rattle.rules_unit.proofs.Sound.{check_only}
@@ -291,8 +290,8 @@ handlers_hold = refl
 -- ---- lengths and tables
 
 -- "over 57,353"
-pub too_long : (u : List ℕ) → length u ≡ 57354 → check_of u ≡ checked.Refused refusal-of.NotFilled
-too_long u e = check_only u (checked.Refused refusal-of.NotFilled) (λ f. omega (arith, f.most, e))
+pub too_long : (u : List ℕ) → length u ≡ 57354 → check_of u ≡ Err refusal-of.NotFilled
+too_long u e = check_only u (Err refusal-of.NotFilled) (λ f. omega (arith, f.most, e))
 
 pub not_too_long : (u : List ℕ) → length u ≡ 57353 → get_or u 57351 0 ≡ 0x44 → get_or u 57352 0 ≡ 0x42 → full_length (parts_of u) ≡ 57353 → Filled u
 not_too_long u e a b l =

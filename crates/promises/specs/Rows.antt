@@ -6,11 +6,10 @@
 --   unit, image                   the Data Division of the papers' examples: AM, NZ and NUM
 --   expression, after             what an expression over it comes to, and what a field holds after a statement
 -- Assumes nothing.
-use Rattle.std.specs.Prelude.{◌≡◌, List, [], ◌∷◌, ◌++◌, take, drop, ℕ, zero, suc, ◌*◌, ◌^◌, true, false, ℤ, pos, neg_ℤ}
+use Rattle.rules.specs.declared.Fault.{Fault}
+use Rattle.std.specs.Prelude.{◌≡◌, List, [], ◌∷◌, ◌++◌, take, drop, ℕ, zero, suc, ◌*◌, ◌^◌, true, false, ℤ, pos, neg_ℤ, Result, Err, Ok, Option}
 use Prim.Native.Char.{code}
 use Prim.Native.String as string
-use Rattle.rules.specs.declared.Num.{Num}
-use Rattle.rules.specs.declared.Num.TheVariants.{Value, Failed}
 use Rattle.rules.specs.Stops.{fault_number}
 use Rattle.rules.specs.Moves.{written}
 use Rattle.rules_unit.specs.declared.Dialect.{Dialect}
@@ -22,7 +21,6 @@ use Rattle.rules_unit.specs.declared.Item.{Item}
 use Rattle.rules_unit.specs.declared.Item.TheVariants as item
 use Rattle.rules_unit.specs.Codes.{Code}
 use Rattle.rules_run.specs.declared.Caught.{Caught}
-use Rattle.rules_run.specs.declared.Handler.{Handler}
 use Rattle.rules_run.specs.declared.Worked.{Worked}
 use Rattle.rules_run.specs.declared.Worked.TheVariants as worked
 use Rattle.rules_run.specs.declared.Flow.{Flow}
@@ -39,7 +37,7 @@ pub data Answer : Type 0 where
   -- the stop, the place, the statements completed, the loops still open, and the data
   run : ℕ → ℕ → ℕ → ℕ → List ℕ → Answer
   -- the stop, the place, the statements completed, the handler, the last error, the calls and the loops still open, and the data
-  left : ℕ → ℕ → ℕ → Handler → Caught → ℕ → ℕ → List ℕ → Answer
+  left : ℕ → ℕ → ℕ → Option ℕ → Option Caught → ℕ → ℕ → List ℕ → Answer
 
 pub record Row : Type 0 where
   pub rules : Answer
@@ -86,14 +84,14 @@ abbrev pub minus : ℕ → ℤ
 minus m = neg_ℤ (pos m)
 
 -- The answer of a rule that gives a number.
-abbrev pub answer : Num → Answer
-answer (Value z) = number z
-answer (Failed f) = stop (fault_number f)
+abbrev pub answer : Result ℤ Fault → Answer
+answer (Ok z) = number z
+answer (Err f) = stop (fault_number f)
 
 -- What a decimal of n characters then holds.
-abbrev pub into : ℕ → Num → Answer
-into n (Value z) = text (written sign n z)
-into n (Failed f) = stop (fault_number f)
+abbrev pub into : ℕ → Result ℤ Fault → Answer
+into n (Ok z) = text (written sign n z)
+into n (Err f) = stop (fault_number f)
 
 -- The numbers 0 to 30, as literals of two digits.
 abbrev pub figures : List ℕ
@@ -132,12 +130,12 @@ unit_over len n fields expressions = record {
 }
 
 -- The answer of an expression over the data d: a number, the text at an alpha place, or the number at a decimal one.
-abbrev comes : Code → List ℕ → Worked → Answer
-comes c d (worked.Number v) = number v
-comes c d (worked.Place true a n) = answer (read_at c d a n)
-comes c d (worked.Place false a n) = text (take n (drop a d))
-comes c d (worked.Text p l) = text (take l (drop p c.literals))
-comes c d (worked.Failed f) = stop (fault_number f)
+abbrev comes : Code → List ℕ → Result Worked Fault → Answer
+comes c d (Ok (worked.Number v)) = number v
+comes c d (Ok (worked.Place true a n)) = answer (read_at c d a n)
+comes c d (Ok (worked.Place false a n)) = text (take n (drop a d))
+comes c d (Ok (worked.Text p l)) = text (take l (drop p c.literals))
+comes c d (Err f) = stop (fault_number f)
 
 abbrev pub accessed : Code → List ℕ → List Item → Answer
 accessed c d list = comes c d (worked_of c d list)
@@ -177,11 +175,11 @@ abbrev pub expression : List Item → Answer
 expression list = accessed unit image list
 
 -- What a field of n characters at a holds after a statement, or the stop.
-abbrev pub after : ℕ → ℕ → Turn → Answer
-after a n t = gone_on t.flow
+abbrev pub after : ℕ → ℕ → Result Turn Fault → Answer
+after a n (Err e) = stop (fault_number e)
+after a n (Ok t) = gone_on t.flow
   where
     gone_on : Flow → Answer
-    gone_on (flow.Bad f) = stop (fault_number f)
     gone_on flow.Next = text (take n (drop a (applied unit image t.write)))
     gone_on (flow.Goto i) = stop 0
     gone_on (flow.Call i) = stop 0

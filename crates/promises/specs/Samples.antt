@@ -1,8 +1,10 @@
 -- The units of the examples, in their bytes, and how an example is asked: what the tables of Slips, Fences, Breaching, ValidData, Tour, Refusals, Corners, Moves,
 -- Blanks, Passes, Strict and Handlers are made of.
 -- Assumes nothing.
-use Rattle.std.specs.Prelude.{Bool, cond, ◌||◌, List, [], ◌∷◌, ◌++◌, ℕ, zero, suc, ◌+◌, ◌-◌, ◌*◌, ℤ, pos, eqb, length, set, take, replicate}
+use Rattle.rules_unit.specs.declared.Refusal.{Refusal}
+use Rattle.std.specs.Prelude.{Bool, cond, ◌||◌, List, [], ◌∷◌, ◌++◌, ℕ, zero, suc, ◌+◌, ◌-◌, ◌*◌, ℤ, pos, eqb, length, set, take, replicate, Result, Err, Ok, Option}
 use Prim.Native.String as string
+use Rattle.rules.specs.declared.Fault.{Fault}
 use Rattle.rules.specs.Stops.{fault_number}
 use Rattle.rules_unit.specs.declared.Kind.{Kind}
 use Rattle.rules_unit.specs.declared.Kind.TheVariants as kind
@@ -13,8 +15,6 @@ use Rattle.rules_unit.specs.declared.Op.TheVariants as op
 use Rattle.rules_unit.specs.declared.Sort.{Sort}
 use Rattle.rules_unit.specs.declared.Sort.TheVariants as sort
 use Rattle.rules_unit.specs.declared.Parts.{Parts}
-use Rattle.rules_unit.specs.declared.Checked.{Checked}
-use Rattle.rules_unit.specs.declared.Checked.TheVariants as checked
 use Rattle.rules_unit.specs.Codes.{Code}
 use Rattle.rules_unit.specs.Decode.{items_at}
 use Rattle.rules_unit.specs.Table.{verb_of}
@@ -24,7 +24,6 @@ use Rattle.rules_run.specs.declared.Flow.{Flow}
 use Rattle.rules_run.specs.declared.Flow.TheVariants as flow
 use Rattle.rules_run.specs.declared.Turn.{Turn}
 use Rattle.rules_run.specs.declared.Caught.{Caught}
-use Rattle.rules_run.specs.declared.Handler.{Handler}
 use Rattle.rules_run.specs.declared.Loop.{Loop}
 use Rattle.rules_run.specs.declared.State.{State}
 use Rattle.rules_run.specs.States.{no_loop, soundb, started, look_of}
@@ -168,9 +167,9 @@ tour =
 -- ---- checks
 
 -- A unit that passes answers the length of its data.
-abbrev pub answered : Checked → Answer
-answered (checked.Passed p) = number (pos p.d)
-answered (checked.Refused r) = refusal (refusal_number r) (refusal_place r)
+abbrev pub answered : Result Parts Refusal → Answer
+answered (Ok p) = number (pos p.d)
+answered (Err r) = refusal (refusal_number r) (refusal_place r)
 
 abbrev pub changed : ℕ → ℕ → Answer
 changed k v = answered (check_of (set tour k v))
@@ -294,11 +293,11 @@ opens opened slots empty =
     soundb nine (record { at = 0; depth = 0; returns = replicate 50 0; opened = opened; loops = slots ++ replicate empty no_loop; trap = started.trap })
 
 -- A state before its first statement, with the handler and the last error given.
-abbrev pub told : Handler → Caught → State
+abbrev pub told : Option ℕ → Option Caught → State
 told h e =
     record { at = 0; depth = 0; returns = replicate 50 0; opened = 0; loops = replicate 16 no_loop; trap = record { handler = h; caught = e } }
 
-abbrev pub tells : Handler → Caught → Bool
+abbrev pub tells : Option ℕ → Option Caught → Bool
 tells h e = soundb nine (told h e)
 
 -- A loop of the FOR at a statement, with its limit and its step.
@@ -325,11 +324,11 @@ three_parts a b c (suc zero) = b
 three_parts a b c (suc (suc e)) = c
 
 -- What a turn leaves of the data d; where it goes on, if it is not the next.
-abbrev left_by : Code → List ℕ → Turn → Answer
-left_by c d t = gone t.flow
+abbrev left_by : Code → List ℕ → Result Turn Fault → Answer
+left_by c d (Err e) = stop (fault_number e)
+left_by c d (Ok t) = gone t.flow
   where
     gone : Flow → Answer
-    gone (flow.Bad f) = stop (fault_number f)
     gone flow.Next = text (applied c d t.write)
     gone (flow.Goto i) = number (pos i)
     gone (flow.Call i) = number (pos i)

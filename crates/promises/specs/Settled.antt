@@ -22,10 +22,12 @@
 --   c_breaches_settled    as breaches_settled, of `dibol_breaches`
 --   c_breach_settled, c_version_settled, c_state_len_settled    the numbers that `dibol_breach`, `dibol_version` and `dibol_state_len` answer
 -- Assumes nothing.
-use Rattle.std.specs.Prelude.{ℕ, ◌≡◌}
+use Rattle.rules_unit.specs.declared.Field.{Field}
+use Rattle.rules_unit.specs.declared.Refusal.{Refusal}
+use Rattle.rules_unit.specs.declared.Parts.{Parts}
+use Rattle.std.specs.Prelude.{ℕ, ◌≡◌, Result, Option}
 use Rattle.std.proofs.Common.{sym, ap, ◌∙◌}
 use contract.Lifetimes
-use Rattle.rules_unit.specs.declared.Checked.{Checked}
 use Rattle.rules_unit.specs.declared.Stretch.{Stretch}
 use Rattle.rules_run.specs.declared.State.{State}
 use Rattle.rules_run.specs.declared.Outcome.{Outcome}
@@ -34,7 +36,6 @@ use Rattle.rules_fence.specs.declared.Breach.{Breach}
 use Rattle.rules_fence.specs.declared.Validity.{Validity}
 use Rattle.rules_fence.specs.declared.Verdict.{Verdict}
 use Rattle.rules_fence.specs.Listed.{Listed}
-use Rattle.rules_host.specs.declared.Entry.{Entry}
 use Rattle.rules_host.specs.Words.{Said}
 use Rattle.rules_host.specs.Calls.{Told, Handed}
 use Rattle.dibol.proofs.check.Reads as check
@@ -68,7 +69,7 @@ use Rattle.dibol_c.proofs.dibol_breaches.Reads as c-breaches
 use Rattle.dibol_c.proofs.dibol_version.Reads as c-version
 use Rattle.dibol_c.proofs.dibol_state_len.Reads as c-state-len
 
-pub check_settled : (κs : Lifetimes.Lfts 1) (a : _) (r r' : Checked) (s s' : _) → check.Post κs a r s → check.Post κs a r' s' → r ≡ r'
+pub check_settled : (κs : Lifetimes.Lfts 1) (a : _) (r r' : Result Parts Refusal) (s s' : _) → check.Post κs a r s → check.Post κs a r' s' → r ≡ r'
 check_settled κs a r r' s s' p q = p ∙ sym q
 
 pub fence_settled : (κs : Lifetimes.Lfts 1) (a : _) (r r' : Verdict) (s s' : _) → fence.Post κs a r s → fence.Post κs a r' s' → r ≡ r'
@@ -108,7 +109,7 @@ pub breach_words_settled : (κs : Lifetimes.Lfts 1) (a : _) (r r' : ℕ) (s s' :
     → (r ≡ r') × (s.1.0.now ≡ s'.1.0.now)
 breach_words_settled κs a r r' s s' p q = (ap (λ (x : Said). x.size) (p ∙ sym q), ap (λ (x : Said). x.text) (p ∙ sym q))
 
-pub field_settled : (κs : Lifetimes.Lfts 1) (a : _) (r r' : Entry) (s s' : _) → field-entry.Post κs a r s → field-entry.Post κs a r' s' → r ≡ r'
+pub field_settled : (κs : Lifetimes.Lfts 1) (a : _) (r r' : Option Field) (s s' : _) → field-entry.Post κs a r s → field-entry.Post κs a r' s' → r ≡ r'
 field_settled κs a r r' s s' p q = p ∙ sym q
 
 pub invalid_settled : (κs : Lifetimes.Lfts 2) (a : _) (r r' : Validity) (s s' : _) → invalid.Post κs a r s → invalid.Post κs a r' s' → r ≡ r'

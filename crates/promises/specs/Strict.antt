@@ -16,11 +16,10 @@
 --   strict_references  what references to a strict field come to, beside the same to a loose one, computed
 --   bookings           runs with a strict field, and what the fence check says of them, computed
 -- What check 3 says of the byte is in Refusals. Assumes nothing.
-use Rattle.std.specs.Prelude.{ℕ, ◌+◌, ◌<◌, ◌≤◌, ◌≡◌, refl, ◌⊎◌, ◌↔◌, true, List, [], ◌∷◌, ◌++◌, ℤ, pos, neg_ℤ, length, set}
+use Rattle.std.specs.Prelude.{ℕ, ◌+◌, ◌<◌, ◌≤◌, ◌≡◌, refl, ◌⊎◌, ◌↔◌, true, List, [], ◌∷◌, ◌++◌, ℤ, pos, neg_ℤ, length, set, Err, None}
 use Prim.Native.String as string
 use Rattle.std.proofs.Common.{sym, subst}
 use Rattle.rules.specs.declared.Fault.TheVariants as fault
-use Rattle.rules.specs.declared.Num.TheVariants.{Failed}
 use Rattle.rules.specs.Values.{read_from, padded_read, read_of}
 use Rattle.rules.specs.Moves.{fitted}
 use Rattle.rules_unit.specs.declared.Rule.{Rule}
@@ -36,9 +35,7 @@ use Rattle.rules_unit.specs.Decode.{mark_of, parts_of, kind_of, field_at, refere
 use Rattle.rules_unit.specs.Table.{verb_of}
 use Rattle.rules_unit.specs.Expressions.{digitsb, numberb, textb, sort_from, sort_at, usesb}
 use Rattle.rules_unit.specs.Checks.{filledb, rangesb, choiceb, entryb, good_fields, rowb, shapeb, found_of, statements_from, parts_check, check_of}
-use Rattle.rules_run.specs.declared.Span.TheVariants.{At, Outside}
-use Rattle.rules_run.specs.declared.Worked.TheVariants as worked
-use Rattle.rules_run.specs.Spans.{within, subscript_span, start_end_span, pos_length_span, span_of, span_by, Located, Inside}
+use Rattle.rules_run.specs.Spans.{within, subscript_span, start_end_span, pos_length_span, span_of, span_by, Located, Inside, span_at}
 use Rattle.rules_run.specs.Evaluation.{calc, digits_from, literal_number, reference, step_by, place_by, place, last_of, worked_from, worked_of}
 use Rattle.rules_run.specs.States.{returnsb, emptyb, slotsb, soundb}
 use Rattle.rules_run.specs.Turns.{stored, applied, turn_by, turn_of}
@@ -65,35 +62,35 @@ module _ (size : ℕ) (f : Field) (h : Form) (x y : ℤ) where
 
   module _ (bit : f.zero ≡ 0x80) where
     -- "with it, 21 is given whenever the span leaves that field's size x count bytes": 02 names the first element, which does not
-    pub strict_21 : (h ≡ form.First → ⊥) → (a n : ℕ) → span_of size f h x y ≡ At a n → (Inside f a n → ⊥) → span_by (rule_of f) size f h x y ≡ Outside
-    strict_21 b a n e i = subst (λ (r : Rule). span_by r size f h x y ≡ Outside) (sym (strict.rule_strict f bit)) (strict.strict_past size f h x y b e i)
+    pub strict_21 : (h ≡ form.First → ⊥) → (a n : ℕ) → span_of size f h x y ≡ span_at a n → (Inside f a n → ⊥) → span_by (rule_of f) size f h x y ≡ None
+    strict_21 b a n e i = subst (λ (r : Rule). span_by r size f h x y ≡ None) (sym (strict.rule_strict f bit)) (strict.strict_past size f h x y b e i)
 
-    pub strict_same : (a n : ℕ) → span_by (rule_of f) size f h x y ≡ At a n → span_of size f h x y ≡ At a n
+    pub strict_same : (a n : ℕ) → span_by (rule_of f) size f h x y ≡ span_at a n → span_of size f h x y ≡ span_at a n
     strict_same a n e = strict.found_loose size f (rule_of f) h x y e
 
     -- "Size and count are at least 1"
     module _ (many : 1 ≤ f.count) where
-      pub strict_exactly : (a n : ℕ) → (span_by (rule_of f) size f h x y ≡ At a n) ↔ Located f h x y a n × (a + n ≤ size) × Inside f a n
+      pub strict_exactly : (a n : ℕ) → (span_by (rule_of f) size f h x y ≡ span_at a n) ↔ Located f h x y a n × (a + n ≤ size) × Inside f a n
       strict_exactly a n =
-          subst (λ (r : Rule). (span_by r size f h x y ≡ At a n) ↔ Located f h x y a n × (a + n ≤ size) × Inside f a n) (sym (strict.rule_strict f bit))
+          subst (λ (r : Rule). (span_by r size f h x y ≡ span_at a n) ↔ Located f h x y a n × (a + n ≤ size) × Inside f a n) (sym (strict.rule_strict f bit))
           (strict.strict_exactly size f many a n h x y)
 
-      pub strict_outside_21 : (span_by (rule_of f) size f h x y ≡ Outside) ↔ ((a n : ℕ) → Located f h x y a n → a + n ≤ size → Inside f a n → ⊥)
+      pub strict_outside_21 : (span_by (rule_of f) size f h x y ≡ None) ↔ ((a n : ℕ) → Located f h x y a n → a + n ≤ size → Inside f a n → ⊥)
       strict_outside_21 =
-          subst (λ (r : Rule). (span_by r size f h x y ≡ Outside) ↔ ((a n : ℕ) → Located f h x y a n → a + n ≤ size → Inside f a n → ⊥)) (sym (strict.rule_strict f bit))
+          subst (λ (r : Rule). (span_by r size f h x y ≡ None) ↔ ((a n : ℕ) → Located f h x y a n → a + n ≤ size → Inside f a n → ⊥)) (sym (strict.rule_strict f bit))
           (strict.strict_outside size f many h x y)
 
 -- ---- references of a unit, over the data d
 
 module _ (c : Code) (s : SoundCode c) (d : List ℕ) (f : ℕ) (known : f < c.fields) (h : Form) (x y : ℤ) where
-  pub strict_inside : (c.field f).zero ≡ 0x80 → (a n : ℕ) → span_by (rule_of (c.field f)) (length d) (c.field f) h x y ≡ At a n → Inside (c.field f) a n
+  pub strict_inside : (c.field f).zero ≡ 0x80 → (a n : ℕ) → span_by (rule_of (c.field f)) (length d) (c.field f) h x y ≡ span_at a n → Inside (c.field f) a n
   strict_inside bit a n e = ((strict_exactly (length d) (c.field f) h x y bit (s.entries f known).own.many a n).0 e).2
 
   -- "every statement that uses one follows suit": these two are all that find one
-  pub place_21 : (place_by c d h f x y ≡ worked.Failed fault.Outside) ↔ (span_by (rule_of (c.field f)) (length d) (c.field f) h x y ≡ Outside)
+  pub place_21 : (place_by c d h f x y ≡ Err fault.Outside) ↔ (span_by (rule_of (c.field f)) (length d) (c.field f) h x y ≡ None)
   place_21 = strict.place_21 c d h f x y known
 
-  pub read_21 : decimalb c f ≡ true → (reference c d h f x y ≡ Failed fault.Outside) ↔ (span_by (rule_of (c.field f)) (length d) (c.field f) h x y ≡ Outside)
+  pub read_21 : decimalb c f ≡ true → (reference c d h f x y ≡ Err fault.Outside) ↔ (span_by (rule_of (c.field f)) (length d) (c.field f) h x y ≡ None)
   read_21 = strict.read_21 c d h f x y known
 
 -- ---- computed

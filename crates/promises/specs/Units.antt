@@ -6,14 +6,13 @@
 --   for_shaped, for_sorted    what 5 and what 4 ask of a FOR (request 4 of document 02, "FOR loops")
 --   row_behind        where the next of several expressions in a row starts
 -- Assumes nothing.
-use Rattle.std.specs.Prelude.{◌≡◌, false, ◌↔◌, List, ℕ, ◌-◌, ◌<◌, take, drop}
+use Rattle.rules_unit.specs.Table.{used}
+use Rattle.rules_unit.specs.declared.Refusal.{Refusal}
+use Rattle.std.specs.Prelude.{◌≡◌, false, ◌↔◌, List, ℕ, ◌-◌, ◌<◌, take, drop, Result, Ok}
 use Rattle.std.proofs.Common.{subst}
 use contract.Lifetimes
 use Rattle.rules_unit.specs.declared.Parts.{Parts}
-use Rattle.rules_unit.specs.declared.Checked.{Checked}
-use Rattle.rules_unit.specs.declared.Checked.TheVariants.{Passed}
 use Rattle.rules_unit.specs.declared.Item.TheVariants as item
-use Rattle.rules_unit.specs.declared.Use.TheVariants as use-of
 use Rattle.rules_unit.specs.declared.Want.{Want}
 use Rattle.rules_unit.specs.declared.Want.TheVariants as want
 use Rattle.rules_unit.specs.Codes.{Code}
@@ -30,14 +29,14 @@ use Rattle.rules_unit.proofs.Sound.{passed_sound, sound_passed, check_says, chec
 use Rattle.rules_fence.proofs.Sorts.{known_of}
 use Rattle.dibol.proofs.check.Reads as check
 
-pub passes_exactly : (u : List ℕ) (p : Parts) → (check_of u ≡ Passed p) ↔ SoundUnit u p
+pub passes_exactly : (u : List ℕ) (p : Parts) → (check_of u ≡ Ok p) ↔ SoundUnit u p
 passes_exactly u p = (passed_sound u p, sound_passed u p)
 
-pub answers_exactly : (u : List ℕ) (r : Checked) → (check_of u ≡ r) ↔ Says u r
+pub answers_exactly : (u : List ℕ) (r : Result Parts Refusal) → (check_of u ≡ r) ↔ Says u r
 answers_exactly u r = (λ e. subst (Says u) e (check_says u), check_only u r)
 
 -- Of whatever `dibol::check` may answer: `Post` is what its `ensures` says of its argument a, the unit, and its result r.
-pub checks_exactly : (κs : Lifetimes.Lfts 1) (a : _) (r : Checked) (s : _) → check.Post κs a r s → (x : Checked) → (r ≡ x) ↔ Says a.0.now x
+pub checks_exactly : (κs : Lifetimes.Lfts 1) (a : _) (r : Result Parts Refusal) (s : _) → check.Post κs a r s → (x : Result Parts Refusal) → (r ≡ x) ↔ Says a.0.now x
 checks_exactly κs a r s p x = rw p (answers_exactly a.0.now x)
 
 -- ---- FOR: code 14
@@ -60,4 +59,4 @@ module _ (c : Code) (i : ℕ) (for : (c.statement i).code ≡ 14) where
 -- expression is the end of this one.
 pub row_behind : (u : List ℕ) (p : Parts) (w : Want) (e : ℕ) → WellFormed (code_of u p) w ((code_of u p).items e)
     → item_at (take p.e (drop (expressions_at p) u)) (next_at (code_of u p) e - 1) ≡ item.End
-row_behind u p w e f = next_behind u p e (known_of (code_of u p) w e ((use_tells (code_of u p) (use-of.Of w e false)).of f))
+row_behind u p w e f = next_behind u p e (known_of (code_of u p) w e ((use_tells (code_of u p) (used w e false)).of f))

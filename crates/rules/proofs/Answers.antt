@@ -1,6 +1,7 @@
 -- Every number that is read, from a decimal or from alpha, is in the range of values: so it can be an operand (document 01, "Values and
 -- references").
 -- Assumes nothing.
+use Rattle.std.specs.Prelude.{Err, Ok}
 use mathlib.Core.Bool.{Bool, true, false, cond}
 use mathlib.Core.List.{List, [], ◌∷◌}
 use Prim.Native.Nat.{ℕ, suc, ◌+◌, ◌-◌, ◌*◌, ◌^◌, ◌≤◌, ◌<◌}
@@ -10,7 +11,6 @@ use lib.Dec.{ltb, eqb, lit<}
 use lib.IntN.{pos, nat_abs}
 use lib.ListN.{length}
 use borrow.Author.Tests.{ltb-true, ltb-false}
-use Rattle.rules.specs.declared.Num.TheVariants.{Value, Failed}
 use Rattle.rules.specs.declared.Fault.TheVariants as fault
 use Rattle.rules.specs.Values.{Val, signed, is_from, read_from, padded_read, read_of}
 use Rattle.rules.specs.Moves.{alpha_from, alpha_of}
@@ -31,11 +31,11 @@ module _ (limit : ℕ) where
   range_from : (sign acc i b : ℕ) (bs : List ℕ) → acc < 10 ^ i → i + length bs < limit → InRange (10 ^ limit) (read_from sign acc b bs)
   unfolding read_from
   range_from sign acc i b [] h k =
-      cond_case (InRange (10 ^ limit)) (is_from 48 b) (Value (pos (acc * 10 + (b - 48)))) (cond (is_from sign b) (Value (signed true (acc * 10 + (b - sign)))) (Failed fault.BadDigit))
+      cond_case (InRange (10 ^ limit)) (is_from 48 b) (Ok (pos (acc * 10 + (b - 48)))) (cond (is_from sign b) (Ok (signed true (acc * 10 + (b - sign)))) (Err fault.BadDigit))
       (λ e. one_val false acc i (b - 48) h (omega arith) (from_digit 48 b e))
-      (λ n. cond_case (InRange (10 ^ limit)) (is_from sign b) (Value (signed true (acc * 10 + (b - sign)))) (Failed fault.BadDigit) (λ e. one_val true acc i (b - sign) h (omega arith) (from_digit sign b e)) (λ e. tt))
+      (λ n. cond_case (InRange (10 ^ limit)) (is_from sign b) (Ok (signed true (acc * 10 + (b - sign)))) (Err fault.BadDigit) (λ e. one_val true acc i (b - sign) h (omega arith) (from_digit sign b e)) (λ e. tt))
   range_from sign acc i b (x ∷ xs) h k =
-      cond_case (InRange (10 ^ limit)) (is_from 48 b) (read_from sign (acc * 10 + (b - 48)) x xs) (Failed fault.BadDigit)
+      cond_case (InRange (10 ^ limit)) (is_from 48 b) (read_from sign (acc * 10 + (b - 48)) x xs) (Err fault.BadDigit)
       (λ e. range_from sign (acc * 10 + (b - 48)) (i + 1) x xs (more_digits acc i (b - 48) h (from_digit 48 b e)) (omega arith))
       (λ e. tt)
 
@@ -51,7 +51,7 @@ pub range_read : (limit sign : ℕ) (s : List ℕ) → InRange (10 ^ limit) (rea
 unfolding read_of
 range_read limit sign [] = tt
 range_read limit sign (b ∷ bs) =
-    cond_case (InRange (10 ^ limit)) (ltb limit (length (b ∷ bs))) (Failed fault.TooLong) (padded_read sign (b ∷ bs)) (λ e. tt)
+    cond_case (InRange (10 ^ limit)) (ltb limit (length (b ∷ bs))) (Err fault.TooLong) (padded_read sign (b ∷ bs)) (λ e. tt)
     (λ e. range_padded limit sign (b ∷ bs) (ltb-false limit (suc (length bs)) e))
 
 -- ---- alpha to number
@@ -59,13 +59,13 @@ range_read limit sign (b ∷ bs) =
 range_after : (top : ℕ) (minus : Bool) (acc : ℕ) (s : List ℕ) → InRange top (alpha_from top minus acc s)
 unfolding alpha_from
 range_after top minus acc [] =
-    cond_case (InRange top) (ltb (nat_abs (signed minus acc)) top) (Value (signed minus acc)) (Failed fault.TooLong) (λ e. record { small = ltb-true (nat_abs (signed minus acc)) top e }) (λ e. tt)
+    cond_case (InRange top) (ltb (nat_abs (signed minus acc)) top) (Ok (signed minus acc)) (Err fault.TooLong) (λ e. record { small = ltb-true (nat_abs (signed minus acc)) top e }) (λ e. tt)
 range_after top minus acc (b ∷ bs) =
     let same = range_after top minus acc bs in
     cond_case (InRange top) (eqb b 32) _ _ (λ e. same)
     (λ n. cond_case (InRange top) (eqb b 43) _ _ (λ e. same)
-    (λ n. cond_case (InRange top) (eqb b 45) _ _ (λ e. cond_case (InRange top) minus (Failed fault.BadDigit) (alpha_from top true acc bs) (λ e. tt) (λ e. range_after top true acc bs))
-    (λ n. cond_case (InRange top) (is_from 48 b) _ (Failed fault.BadDigit) (λ e. range_after top minus (acc * 10 + (b - 48)) bs) (λ e. tt))))
+    (λ n. cond_case (InRange top) (eqb b 45) _ _ (λ e. cond_case (InRange top) minus (Err fault.BadDigit) (alpha_from top true acc bs) (λ e. tt) (λ e. range_after top true acc bs))
+    (λ n. cond_case (InRange top) (is_from 48 b) _ (Err fault.BadDigit) (λ e. range_after top minus (acc * 10 + (b - 48)) bs) (λ e. tt))))
 
 pub range_alpha : (top : ℕ) (s : List ℕ) → InRange top (alpha_of top s)
 range_alpha top s = range_after top false 0 s

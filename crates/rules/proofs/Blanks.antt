@@ -1,5 +1,6 @@
 -- Spaces in a decimal (request 2 of document 02): leading ones read as zeros do, one behind a digit is 22, and none is written.
 -- Assumes nothing.
+use Rattle.std.specs.Prelude.{Err}
 use mathlib.Core.Path.{◌≡◌, refl, sym, ap, ◌∙◌}
 use mathlib.Core.Bool.{Bool, true, false}
 use mathlib.Core.Logic.{◌⊎◌, inl, inr}
@@ -10,7 +11,6 @@ use lib.Dec.{ltb, eqb}
 use lib.IntN.{ℤ}
 use lib.ListN.{length, get_or, length-append}
 use borrow.Author.Tests.{ltb-true, ltb-false, ne_eqb, eqb-true, eqb-false}
-use Rattle.rules.specs.declared.Num.TheVariants.{Failed}
 use Rattle.rules.specs.declared.Fault.TheVariants as fault
 use Rattle.rules.specs.Values.{Letters, is_from, Valid, Figures, read_from, padded_read, read_of}
 use Rattle.rules.specs.Moves.{written, blanks, zeros}
@@ -78,5 +78,5 @@ module _ {sign : ℕ} (letters : Letters sign) where
   zeros_space n j h = figures_space (zeros n) (zeros_figures n sign n (omega (arith, length_zeros n)) (omega arith)) j h
 
 pub space_behind : (limit sign : ℕ) → Letters sign → (s : List ℕ) → length s ≤ limit → (i j : ℕ) → i < j → j < length s → is_from 48 (get_or s i 0) ≡ true → get_or s j 0 ≡ 32
-    → read_of limit sign s ≡ Failed fault.BadDigit
+    → read_of limit sign s ≡ Err fault.BadDigit
 space_behind limit sign letters s m i j h l e q = (read_22 limit sign s).1 (m, behind letters limit s i j h l e q)

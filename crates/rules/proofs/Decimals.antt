@@ -1,6 +1,7 @@
 -- What the moves write (document 01, "Moves and arithmetic"): how long each text is, that a written number reads back as the digits that were
 -- kept with their sign, and that what is written to a decimal is valid and has no spaces.
 -- Assumes nothing.
+use Rattle.std.specs.Prelude.{Ok}
 use mathlib.Core.Path.{◌≡◌, refl, sym, ap, ◌∙◌}
 use mathlib.Core.Bool.{Bool, true, false, cond}
 use mathlib.Core.Logic.{inl}
@@ -16,7 +17,6 @@ use lib.ListN.{length, get_or, length-replicate, get_or-replicate, length-map}
 use borrow.Author.Tests.{ltb-true, leb-true, lt-ltb, le-ltb, le-leb, lt-leb, ne_eqb}
 use Rattle.rules.proofs.Tests.{both}
 use Rattle.rules.specs.Tests.{◌and◌}
-use Rattle.rules.specs.declared.Num.TheVariants.{Value}
 use Rattle.rules.specs.Values.{Letters, signed, is_neg, is_from, Figures, last_digit, read_from, padded_read, read_of}
 use Rattle.rules.specs.Moves.{placed, zero_at, digit_at, written, shown_at, width, shown, fitted, upper, lower, upcased, locased, blanks, zeros}
 use Rattle.rules.proofs.Signed.{pow_pos10}
@@ -98,18 +98,18 @@ sign_kept true zero = refl
 sign_kept true (suc x) = rw (lt-ltb 0 (suc x) (omega arith))
 
 module _ {sign : ℕ} (letters : Letters sign) where
-  read_one : (t : Bool) (acc d : ℕ) → d < 10 → last_digit sign acc (cond t sign 48 + d) ≡ Value (signed t (acc * 10 + d))
+  read_one : (t : Bool) (acc d : ℕ) → d < 10 → last_digit sign acc (cond t sign 48 + d) ≡ Ok (signed t (acc * 10 + d))
   read_one true acc d h = simp (from_high 48 (sign + d) (omega (arith, letters.above)), from_yes sign (sign + d) (omega arith) (omega arith), add-sub_cancel_left)
   read_one false acc d h = simp (from_yes 48 (48 + d) (omega arith) (omega arith), add-sub_cancel_left)
 
-  read_digits : (t : Bool) (k m acc : ℕ) → read_from sign acc (zero_at (cond t sign 48) k + m / 10 ^ k % 10) (placed (digit_at (cond t sign 48) m) k) ≡ Value (signed t (acc * 10 ^ suc k + m % 10 ^ suc k))
+  read_digits : (t : Bool) (k m acc : ℕ) → read_from sign acc (zero_at (cond t sign 48) k + m / 10 ^ k % 10) (placed (digit_at (cond t sign 48) m) k) ≡ Ok (signed t (acc * 10 ^ suc k + m % 10 ^ suc k))
   unfolding read_from placed
   read_digits t zero m acc = read_one t acc (m / 1 % 10) (mod-lt (m / 1) (lit< tt)) ∙ rw (div-one m)
   read_digits t (suc k) m acc =
       let d = m / 10 ^ suc k % 10 in
       let h : d < 10 = mod-lt (m / 10 ^ suc k) (lit< tt) in
       rw (from_yes 48 (48 + d) (omega arith) (omega arith), add-sub_cancel_left 48 d)
-      (read_digits t k m (acc * 10 + d) ∙ ap (λ (x : ℕ). Value (signed t x)) (next_digit acc m (suc k)))
+      (read_digits t k m (acc * 10 + d) ∙ ap (λ (x : ℕ). Ok (signed t x)) (next_digit acc m (suc k)))
 
   -- The first character that is written is no space.
   first_figure : (t : Bool) (k d : ℕ) → eqb (zero_at (cond t sign 48) k + d) 32 ≡ false
@@ -118,7 +118,7 @@ module _ {sign : ℕ} (letters : Letters sign) where
   first_figure t (suc k) d = ne_eqb (48 + d) 32 (λ q. omega arith)
 
   -- A number that was written reads as its last n digits, with its sign.
-  pub read_written : (limit n : ℕ) (v : ℤ) → 1 ≤ n → n ≤ limit → read_of limit sign (written sign n v) ≡ Value (signed (is_neg v) (nat_abs v % 10 ^ n))
+  pub read_written : (limit n : ℕ) (v : ℤ) → 1 ≤ n → n ≤ limit → read_of limit sign (written sign n v) ≡ Ok (signed (is_neg v) (nat_abs v % 10 ^ n))
   unfolding read_of padded_read placed
   read_written limit zero v h l = absurd (omega arith)
   read_written limit (suc k) v h l =
@@ -126,7 +126,7 @@ module _ {sign : ℕ} (letters : Letters sign) where
       let x = m % 10 ^ suc k in
       let t = is_neg v and ltb 0 x in
       rw (length_placed (digit_at (cond t sign 48) m) k, le-ltb limit (suc k) l, first_figure t k (m / 10 ^ k % 10))
-      (read_digits t k m 0 ∙ ap (λ (y : ℕ). Value (signed t y)) (omega arith) ∙ ap Value (sign_kept (is_neg v) x))
+      (read_digits t k m 0 ∙ ap (λ (y : ℕ). Ok (signed t y)) (omega arith) ∙ ap Ok (sign_kept (is_neg v) x))
 
   -- "Writing never makes such spaces.", nor anything else that is not valid.
   pub written_figures : (limit n : ℕ) (v : ℤ) → 1 ≤ n → n ≤ limit → Figures limit sign (written sign n v)

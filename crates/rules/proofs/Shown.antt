@@ -1,5 +1,6 @@
 -- Number to alpha (document 01, "Moves and arithmetic"): the digits shown are the shortest, and a number that has room reads back.
 -- Assumes nothing.
+use Rattle.std.specs.Prelude.{Ok}
 use mathlib.Core.Path.{◌≡◌, refl, ap, ◌∙◌}
 use mathlib.Core.Bool.{Bool, true, false, cond}
 use Prim.Native.Nat.{ℕ, zero, suc, ◌+◌, ◌-◌, ◌*◌, ◌/◌, ◌%◌, ◌^◌, ◌≤◌, ◌<◌}
@@ -8,7 +9,6 @@ use native.Mathlib.Omega.{arith}
 use lib.Dec.{ltb, eqb, lit<}
 use lib.IntN.{ℤ, nat_abs}
 use borrow.Author.Tests.{ltb-true, ltb-false, lt-ltb, le-ltb, eq-eqb, ne_eqb, eqb-true, eqb-false}
-use Rattle.rules.specs.declared.Num.TheVariants.{Value}
 use Rattle.rules.specs.Values.{Val, Top, signed, is_neg}
 use Rattle.rules.specs.Arithmetic.{kept}
 use Rattle.rules.specs.Moves.{placed, width_from, width, shown_at, shown, alpha_from, alpha_of}
@@ -73,7 +73,7 @@ spaces_read top neg m w (suc k) h = by (eqb k w) refl (spaces_read top neg m w k
         rw (space_at neg m w k l) (f l)
 
 -- A number that has room, with a place for a minus, reads as itself.
-pub shown_reads : {top : ℕ} (n : ℕ) (v : ℤ) → Top top → Val top v → width (nat_abs v) + 1 ≤ n → alpha_of top (shown n v) ≡ Value v
+pub shown_reads : {top : ℕ} (n : ℕ) (v : ℤ) → Top top → Val top v → width (nat_abs v) + 1 ≤ n → alpha_of top (shown n v) ≡ Ok v
 shown_reads {top} n v t h r =
     let m = nat_abs v in
     let w = width m in

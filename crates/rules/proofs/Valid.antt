@@ -1,6 +1,8 @@
 -- Valid decimals (document 01, "Values and references"): the test and the statement with quantifiers say the same, and a decimal reads as
 -- a number exactly when it is valid.
 -- Assumes nothing.
+use Rattle.std.specs.Prelude.{Result, Err, Ok}
+use Rattle.rules.specs.declared.Fault.{Fault}
 use mathlib.Core.Path.{◌≡◌, refl, sym, ap, ◌∙◌}
 use mathlib.Core.Bool.{Bool, true, false, cond, ◌||◌, false≢true}
 use mathlib.Core.Logic.{◌⊎◌, inl, inr}
@@ -14,8 +16,6 @@ use borrow.Author.Tests.{ltb-true, ltb-false, leb-true, le-leb, lt-leb, eq-eqb, 
 use Rattle.rules.proofs.Tests.{both}
 use Rattle.rules.proofs.Walk.{cond_case, cond_either}
 use Rattle.rules.specs.Tests.{◌and◌}
-use Rattle.rules.specs.declared.Num.{Num}
-use Rattle.rules.specs.declared.Num.TheVariants.{Value, Failed}
 use Rattle.rules.specs.declared.Fault.TheVariants as fault
 use Rattle.rules.specs.Values.{signed, is_from, valid_from, paddedb, validb, Valid, Figures, read_from, padded_read, read_of}
 
@@ -150,15 +150,15 @@ figures_valid f = padded_valid f.some f.most (no_blanks f)
 
 -- ---- a decimal reads as a number exactly when it is valid
 
-abbrev is_value : Num → Bool
-is_value (Value v) = true
-is_value (Failed f) = false
+abbrev is_value : Result ℤ Fault → Bool
+is_value (Ok v) = true
+is_value (Err f) = false
 
-value_cond : (t : Bool) (x y : Num) → is_value (cond t x y) ≡ cond t (is_value x) (is_value y)
+value_cond : (t : Bool) (x y : Result ℤ Fault) → is_value (cond t x y) ≡ cond t (is_value x) (is_value y)
 value_cond true x y = refl
 value_cond false x y = refl
 
-value_or : (t u : Bool) (y z : ℤ) → is_value (cond t (Value y) (cond u (Value z) (Failed fault.BadDigit))) ≡ (t || u)
+value_or : (t u : Bool) (y z : ℤ) → is_value (cond t (Ok y) (cond u (Ok z) (Err fault.BadDigit))) ≡ (t || u)
 value_or true u y z = refl
 value_or false true y z = refl
 value_or false false y z = refl
@@ -167,7 +167,7 @@ from_is : (sign acc b : ℕ) (bs : List ℕ) → is_value (read_from sign acc b 
 unfolding read_from valid_from
 from_is sign acc b [] = value_or (is_from 48 b) (is_from sign b) (pos (acc * 10 + (b - 48))) (signed true (acc * 10 + (b - sign)))
 from_is sign acc b (x ∷ xs) =
-    value_cond (is_from 48 b) (read_from sign (acc * 10 + (b - 48)) x xs) (Failed fault.BadDigit) ∙ ap (λ (t : Bool). is_from 48 b and t) (from_is sign (acc * 10 + (b - 48)) x xs)
+    value_cond (is_from 48 b) (read_from sign (acc * 10 + (b - 48)) x xs) (Err fault.BadDigit) ∙ ap (λ (t : Bool). is_from 48 b and t) (from_is sign (acc * 10 + (b - 48)) x xs)
 
 padded_is : (sign : ℕ) (s : List ℕ) → is_value (padded_read sign s) ≡ paddedb sign s
 unfolding padded_read paddedb
@@ -179,20 +179,20 @@ unfolding read_of validb
 read_is limit sign [] = refl
 read_is limit sign (b ∷ bs) = by (ltb limit (length (b ∷ bs))) refl
   where
-    by : (t : Bool) → ltb limit (length (b ∷ bs)) ≡ t → is_value (cond t (Failed fault.TooLong) (padded_read sign (b ∷ bs))) ≡ (leb (length (b ∷ bs)) limit and paddedb sign (b ∷ bs))
+    by : (t : Bool) → ltb limit (length (b ∷ bs)) ≡ t → is_value (cond t (Err fault.TooLong) (padded_read sign (b ∷ bs))) ≡ (leb (length (b ∷ bs)) limit and paddedb sign (b ∷ bs))
     by true e = rw (lt-leb (length (b ∷ bs)) limit (ltb-true limit (length (b ∷ bs)) e))
     by false e = rw (le-leb (length (b ∷ bs)) limit (ltb-false limit (length (b ∷ bs)) e)) (padded_is sign (b ∷ bs))
 
 -- Characters that read as a number without a space before them.
-pub reads_figures : {limit sign b : ℕ} {bs : List ℕ} {v : ℤ} → length (b ∷ bs) ≤ limit → read_from sign 0 b bs ≡ Value v → Figures limit sign (b ∷ bs)
+pub reads_figures : {limit sign b : ℕ} {bs : List ℕ} {v : ℤ} → length (b ∷ bs) ≤ limit → read_from sign 0 b bs ≡ Ok v → Figures limit sign (b ∷ bs)
 reads_figures {sign = sign} {b = b} {bs = bs} h e = figures_of sign b bs h (sym (from_is sign 0 b bs) ∙ ap is_value e)
 
-pub reads_valid : {limit sign : ℕ} {s : List ℕ} {v : ℤ} → read_of limit sign s ≡ Value v → Valid limit sign s
+pub reads_valid : {limit sign : ℕ} {s : List ℕ} {v : ℤ} → read_of limit sign s ≡ Ok v → Valid limit sign s
 reads_valid {limit} {sign} {s} e = valid_to (sym (read_is limit sign s) ∙ ap is_value e)
 
-pub valid_reads : {limit sign : ℕ} {s : List ℕ} → Valid limit sign s → (v : ℤ) × (read_of limit sign s ≡ Value v)
+pub valid_reads : {limit sign : ℕ} {s : List ℕ} → Valid limit sign s → (v : ℤ) × (read_of limit sign s ≡ Ok v)
 valid_reads {limit} {sign} {s} h = by (read_of limit sign s) (read_is limit sign s ∙ valid_of h)
   where
-    by : (r : Num) → is_value r ≡ true → (v : ℤ) × (r ≡ Value v)
-    by (Value v) e = (v, refl)
-    by (Failed f) e = absurd (false≢true e)
+    by : (r : Result ℤ Fault) → is_value r ≡ true → (v : ℤ) × (r ≡ Ok v)
+    by (Ok v) e = (v, refl)
+    by (Err f) e = absurd (false≢true e)

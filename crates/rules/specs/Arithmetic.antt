@@ -6,41 +6,40 @@
 --   Powers xs                     xs holds the nineteen powers of ten
 -- Divide, round, negate, the relations and the truth of numbers in the range stay in it, so they are told no bound.
 -- Assumes nothing.
-use Rattle.std.specs.Prelude.{Bool, true, false, cond, not, ◌||◌, List, ℕ, ◌+◌, ◌/◌, ◌^◌, ltb, leb, eqb, ℤ, pos, negsuc, nat_abs, ◌+ℤ◌, ◌-ℤ◌, ◌*ℤ◌}
+use Rattle.rules.specs.declared.Fault.{Fault}
+use Rattle.std.specs.Prelude.{Bool, true, false, cond, not, ◌||◌, List, ℕ, ◌+◌, ◌/◌, ◌^◌, ltb, leb, eqb, ℤ, pos, negsuc, nat_abs, ◌+ℤ◌, ◌-ℤ◌, ◌*ℤ◌, Result, Err, Ok}
 use Rattle.std.specs.Int.Signed.{quot_z, lt_z, le_z}
 use Rattle.rules.specs.Tests.{◌and◌}
 use Rattle.rules.specs.Charts.{Charts}
-use Rattle.rules.specs.declared.Num.{Num}
-use Rattle.rules.specs.declared.Num.TheVariants.{Value, Failed}
 use Rattle.rules.specs.declared.Fault.TheVariants as fault
 use Rattle.rules.specs.Values.{signed, is_neg}
 
 -- "Values run from -(10^18 - 1) to 10^18 - 1"; "20 | more than 18 digits"
-abbrev pub kept : ℕ → ℤ → Num
-kept top z = cond (ltb (nat_abs z) top) (Value z) (Failed fault.TooLong)
+abbrev pub kept : ℕ → ℤ → Result ℤ Fault
+kept top z = cond (ltb (nat_abs z) top) (Ok z) (Err fault.TooLong)
 
 -- "10 add, 11 subtract, 12 multiply"; "Of two operands the one held first is the left."
-abbrev pub add_of : ℕ → ℤ → ℤ → Num
+abbrev pub add_of : ℕ → ℤ → ℤ → Result ℤ Fault
 add_of top a b = kept top (a +ℤ b)
 
-abbrev pub sub_of : ℕ → ℤ → ℤ → Num
+abbrev pub sub_of : ℕ → ℤ → ℤ → Result ℤ Fault
 sub_of top a b = kept top (a -ℤ b)
 
-abbrev pub mul_of : ℕ → ℤ → ℤ → Num
+abbrev pub mul_of : ℕ → ℤ → ℤ → Result ℤ Fault
 mul_of top a b = kept top (a *ℤ b)
 
 -- "Divide truncates toward zero."; "23 | zero divisor"
-abbrev pub div_of : ℤ → ℤ → Num
-div_of a b = cond (eqb (nat_abs b) 0) (Failed fault.ZeroDivisor) (Value (quot_z a b))
+abbrev pub div_of : ℤ → ℤ → Result ℤ Fault
+div_of a b = cond (eqb (nat_abs b) 0) (Err fault.ZeroDivisor) (Ok (quot_z a b))
 
 -- "v # k drops k digits of the magnitude, rounding half up in magnitude, sign kept"
 abbrev pub rounded : ℤ → ℕ → ℤ
 rounded v k = signed (is_neg v) ((nat_abs v + 10 ^ k / 2) / 10 ^ k)
 
 -- "k outside 0 to 18 is 26"
-abbrev pub round_of : ℤ → ℤ → Num
-round_of v (pos k) = cond (leb k 18) (Value (rounded v k)) (Failed fault.RoundCount)
-round_of v (negsuc k) = Failed fault.RoundCount
+abbrev pub round_of : ℤ → ℤ → Result ℤ Fault
+round_of v (pos k) = cond (leb k 18) (Ok (rounded v k)) (Err fault.RoundCount)
+round_of v (negsuc k) = Err fault.RoundCount
 
 -- "Relations and NOT, AND, OR, XOR give 1 or 0; nonzero is true."
 abbrev pub truth : Bool → ℤ

@@ -8,10 +8,9 @@
 --   blanks n, zeros n     CLEAR of alpha and of decimal
 -- Each answers the new characters alone: where they are stored is no matter of these rules. 32 is a space, 43 '+', 45 '-', 48 '0'.
 -- Assumes nothing.
-use Rattle.std.specs.Prelude.{Bool, true, false, cond, List, [], ◌∷◌, map, ℕ, zero, suc, ◌+◌, ◌-◌, ◌*◌, ◌/◌, ◌%◌, ◌^◌, ltb, leb, eqb, ℤ, nat_abs, replicate}
+use Rattle.rules.specs.declared.Fault.{Fault}
+use Rattle.std.specs.Prelude.{Bool, true, false, cond, List, [], ◌∷◌, map, ℕ, zero, suc, ◌+◌, ◌-◌, ◌*◌, ◌/◌, ◌%◌, ◌^◌, ltb, leb, eqb, ℤ, nat_abs, replicate, Result, Err}
 use Rattle.rules.specs.Tests.{◌and◌}
-use Rattle.rules.specs.declared.Num.{Num}
-use Rattle.rules.specs.declared.Num.TheVariants.{Failed}
 use Rattle.rules.specs.declared.Fault.TheVariants as fault
 use Rattle.rules.specs.Values.{signed, is_neg, is_from}
 use Rattle.rules.specs.Arithmetic.{kept}
@@ -57,7 +56,7 @@ shown n v = placed (shown_at (is_neg v) (nat_abs v) (width (nat_abs v))) n
 
 -- "spaces and + are skipped; one minus anywhere makes it negative; a second minus, or any other character, is 22. No digits is 0. More than
 -- 18 digits after leading zeros is 20; 22 comes before it." Here after a minus or none, and after the digits of acc.
-unfoldable pub alpha_from : ℕ → Bool → ℕ → List ℕ → Num
+unfoldable pub alpha_from : ℕ → Bool → ℕ → List ℕ → Result ℤ Fault
 alpha_from top minus acc [] = kept top (signed minus acc)
 alpha_from top minus acc (b ∷ bs) =
     let same = alpha_from top minus acc bs in
@@ -65,10 +64,10 @@ alpha_from top minus acc (b ∷ bs) =
     let more = alpha_from top minus (acc * 10 + (b - 48)) bs in
     cond (eqb b 32) same
     (cond (eqb b 43) same
-    (cond (eqb b 45) (cond minus (Failed fault.BadDigit) turned)
-    (cond (is_from 48 b) more (Failed fault.BadDigit))))
+    (cond (eqb b 45) (cond minus (Err fault.BadDigit) turned)
+    (cond (is_from 48 b) more (Err fault.BadDigit))))
 
-abbrev pub alpha_of : ℕ → List ℕ → Num
+abbrev pub alpha_of : ℕ → List ℕ → Result ℤ Fault
 alpha_of top s = alpha_from top false 0 s
 
 -- ---- alpha to alpha, case, CLEAR

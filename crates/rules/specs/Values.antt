@@ -8,10 +8,9 @@
 -- A dialect is a digit limit, the first magnitude `top` that has more digits (10 to the limit), and the character `sign` that stands for a
 -- last digit 0 with a minus. Document 01's own dialect is 18, 10 ^ 18 and 112 ('p'). 32 is a space, 48 '0'.
 -- Assumes nothing.
-use Rattle.std.specs.Prelude.{◌≡◌, Bool, true, false, cond, ◌||◌, ◌⊎◌, List, [], ◌∷◌, ℕ, ◌+◌, ◌-◌, ◌*◌, ◌^◌, ◌<◌, ◌≤◌, ltb, leb, eqb, ℤ, pos, negsuc, nat_abs, neg_ℤ, length, get_or}
+use Rattle.rules.specs.declared.Fault.{Fault}
+use Rattle.std.specs.Prelude.{◌≡◌, Bool, true, false, cond, ◌||◌, ◌⊎◌, List, [], ◌∷◌, ℕ, ◌+◌, ◌-◌, ◌*◌, ◌^◌, ◌<◌, ◌≤◌, ltb, leb, eqb, ℤ, pos, negsuc, nat_abs, neg_ℤ, length, get_or, Result, Err, Ok}
 use Rattle.rules.specs.Tests.{◌and◌}
-use Rattle.rules.specs.declared.Num.{Num}
-use Rattle.rules.specs.declared.Num.TheVariants.{Value, Failed}
 use Rattle.rules.specs.declared.Fault.TheVariants as fault
 
 -- "Values run from -(10^18 - 1) to 10^18 - 1."
@@ -81,27 +80,27 @@ pub record Figures (limit sign : ℕ) (s : List ℕ) : Type 0 where
   pub last : (is_from 48 (get_or s (length s - 1) 0) ≡ true) ⊎ (is_from sign (get_or s (length s - 1) 0) ≡ true)
 
 -- The last character b, after the digits of acc: "p to y for a negative number ending in 0 to 9"; "a stored "0p" reads as 0".
-abbrev pub last_digit : ℕ → ℕ → ℕ → Num
+abbrev pub last_digit : ℕ → ℕ → ℕ → Result ℤ Fault
 last_digit sign acc b =
-    cond (is_from 48 b) (Value (pos (acc * 10 + (b - 48))))
-    (cond (is_from sign b) (Value (signed true (acc * 10 + (b - sign)))) (Failed fault.BadDigit))
+    cond (is_from 48 b) (Ok (pos (acc * 10 + (b - 48))))
+    (cond (is_from sign b) (Ok (signed true (acc * 10 + (b - sign)))) (Err fault.BadDigit))
 
 -- The character b and those after it, after the digits of acc.
-unfoldable pub read_from : ℕ → ℕ → ℕ → List ℕ → Num
+unfoldable pub read_from : ℕ → ℕ → ℕ → List ℕ → Result ℤ Fault
 read_from sign acc b [] = last_digit sign acc b
 read_from sign acc b (x ∷ xs) =
-    let more = read_from sign (acc * 10 + (b - 48)) x xs in cond (is_from 48 b) more (Failed fault.BadDigit)
+    let more = read_from sign (acc * 10 + (b - 48)) x xs in cond (is_from 48 b) more (Err fault.BadDigit)
 
 -- "Reading must take leading spaces as zeros, and an all-space span as 0.": they are passed over, and spaces alone are 0.
-unfoldable pub padded_read : ℕ → List ℕ → Num
-padded_read sign [] = Value (pos 0)
+unfoldable pub padded_read : ℕ → List ℕ → Result ℤ Fault
+padded_read sign [] = Ok (pos 0)
 padded_read sign (b ∷ bs) =
     let more = padded_read sign bs in
     let number = read_from sign 0 b bs in
     cond (eqb b 32) more number
 
 -- "A decimal span of more than 18 characters then gives 20, and on reading, an invalid character 22." No characters are no decimal.
-unfoldable pub read_of : ℕ → ℕ → List ℕ → Num
-read_of limit sign [] = Failed fault.BadDigit
+unfoldable pub read_of : ℕ → ℕ → List ℕ → Result ℤ Fault
+read_of limit sign [] = Err fault.BadDigit
 read_of limit sign (b ∷ bs) =
-    let number = padded_read sign (b ∷ bs) in cond (ltb limit (length (b ∷ bs))) (Failed fault.TooLong) number
+    let number = padded_read sign (b ∷ bs) in cond (ltb limit (length (b ∷ bs))) (Err fault.TooLong) number

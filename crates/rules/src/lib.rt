@@ -31,13 +31,6 @@ pub enum Fault {
     NoLoop,
 }
 
-// What working out a number answers.
-#[derive(Clone, Copy)]
-pub enum Num {
-    Value(i64),
-    Failed(Fault),
-}
-
 // The papers' number for a fault.
 pub fn fault_number(f: Fault) -> u8
     ensures { result ≡ fault_number f }

@@ -1,6 +1,7 @@
 -- Destinations, and the store of a fenced statement over valid data (document 01, "Fence rules"): what it touches lies in a destination, and it
 -- leaves every decimal element valid.
 -- Assumes nothing.
+use Rattle.std.specs.Prelude.{Option, None, Result, Err, Ok}
 use Prim.Native.Nat.{ℕ, zero, suc, ◌<◌, ◌≤◌}
 use native.Mathlib.Omega.{arith}
 use mathlib.Core.Path.{◌≡◌, refl, sym, ap, ◌∙◌, subst}
@@ -8,13 +9,13 @@ use mathlib.Core.Bool.{Bool, true, false, false≢true}
 use mathlib.Core.Logic.{◌↔◌, ◌⊎◌, inl, inr}
 use mathlib.Core.List.{List}
 use lib.ListN.{length, get_or}
+use Rattle.rules.specs.declared.Fault.{Fault}
 use Rattle.rules_unit.specs.declared.Act.TheVariants as act
 use Rattle.rules_unit.specs.declared.Verb.{Verb}
 use Rattle.rules_unit.specs.declared.Verb.TheVariants as verb
 use Rattle.rules_unit.specs.declared.Role.{Role}
 use Rattle.rules_unit.specs.declared.Role.TheVariants as role
 use Rattle.rules_unit.specs.declared.Statement.{Statement}
-use Rattle.rules_unit.specs.declared.Use.TheVariants as use-of
 use Rattle.rules_unit.specs.Codes.{Code}
 use Rattle.rules_unit.specs.Table.{verb_of, row_of, use_of, more_of, uses_of, WritesA}
 use Rattle.rules_unit.proofs.Table.{code_back, verb_code, writes_some}
@@ -22,12 +23,15 @@ use Rattle.rules_unit.specs.Sound.{SoundCode}
 use Rattle.rules_run.specs.declared.Span.{Span}
 use Rattle.rules_run.specs.declared.Write.{Write}
 use Rattle.rules_run.specs.declared.Write.TheVariants as write
+use Rattle.rules_run.specs.declared.Turn.{Turn}
 use Rattle.rules_run.specs.Turns.{applied, Room}
-use Rattle.rules_run.proofs.Outside.{Touches, new_of, start_of, len_of, applied_stored, length_new}
+use Rattle.rules_run.specs.Runs.{data_by}
+use Rattle.rules_run.proofs.Outside.{Touches, new_of, start_of, len_of, applied_stored, length_new, applied_outside}
+use Rattle.rules_run.proofs.Room.{TurnRoom}
 use Rattle.rules_fence.specs.Destinations.{PlaceNames, Writes, Covers, Destination, InPlaceA, AllValid}
 use Rattle.rules_fence.proofs.PlaceSpans.{use_writes}
 use Rattle.rules_fence.proofs.Elements.{store_valid}
-use Rattle.rules_fence.proofs.Moves.{Aimed, still, aims}
+use Rattle.rules_fence.proofs.Moves.{Aimed, still, aims, TurnAimed}
 use Rattle.rules_fence.proofs.Turns.{aim_of}
 
 -- ---- destinations
@@ -42,7 +46,7 @@ writtenb role.Numbers = false
 writtenb role.End = false
 writtenb role.Never = false
 
-role_writes : (c : Code) (r : Role) (x : ℕ) (span : Span) → Writes c (use_of r x) span → (writtenb r ≡ true) × PlaceNames c (c.items x) span
+role_writes : (c : Code) (r : Role) (x : ℕ) (span : Option Span) → Writes c (use_of r x) span → (writtenb r ≡ true) × PlaceNames c (c.items x) span
 role_writes c role.Unused x span r = absurd r
 role_writes c (role.Written w) x span r = (refl, r.1)
 role_writes c (role.Read w) x span r = absurd (false≢true r.0)
@@ -81,7 +85,7 @@ only_a verb.OffError = record { codes = λ e. absurd (false≢true e); not_b = r
 only_a verb.Bad = record { codes = λ e. absurd (false≢true e); not_b = refl; not_c = refl }
 
 -- What follows in a row is read.
-more_reads : (c : Code) (r : Role) (x k : ℕ) (span : Span) → Writes c (get_or (more_of c r x) k use-of.Nothing) span → ⊥
+more_reads : (c : Code) (r : Role) (x k : ℕ) (span : Option Span) → Writes c (get_or (more_of c r x) k None) span → ⊥
 more_reads c role.Unused x k span r = r
 more_reads c (role.Written w) x k span r = r
 more_reads c (role.Read w) x k span r = r
@@ -94,7 +98,7 @@ more_reads c role.End x k span r = r
 more_reads c role.Never x k span r = r
 
 -- What a statement writes is named by its part a.
-a_writes : (c : Code) (t : Statement) (k : ℕ) (span : Span) → k < length (uses_of c t) → Writes c (get_or (uses_of c t) k use-of.Nothing) span
+a_writes : (c : Code) (t : Statement) (k : ℕ) (span : Option Span) → k < length (uses_of c t) → Writes c (get_or (uses_of c t) k None) span
     → (writtenb (row_of (verb_of t.code)).a ≡ true) × PlaceNames c (c.items t.a) span
 a_writes c t zero span l r = role_writes c (row_of (verb_of t.code)).a t.a span r
 a_writes c t (suc zero) span l r =
@@ -103,7 +107,7 @@ a_writes c t (suc (suc zero)) span l r =
     let v = verb_of t.code in absurd (false≢true (sym (only_a v).not_c ∙ (role_writes c (row_of v).c t.c span r).0))
 a_writes c t (suc (suc (suc k))) span l r = absurd (more_reads c (row_of (verb_of t.code)).b t.b k span r)
 
-low_a : (c : Code) (code x : ℕ) (span : Span) → 1 ≤ code → code ≤ 6 → PlaceNames c (c.items x) span → Writes c (use_of (row_of (verb_of code)).a x) span
+low_a : (c : Code) (code x : ℕ) (span : Option Span) → 1 ≤ code → code ≤ 6 → PlaceNames c (c.items x) span → Writes c (use_of (row_of (verb_of code)).a x) span
 unfolding verb_of
 low_a c zero x span l m p = absurd (omega arith)
 low_a c (suc zero) x span l m p = (refl, p)
@@ -114,7 +118,7 @@ low_a c (suc (suc (suc (suc (suc zero))))) x span l m p = (refl, p)
 low_a c (suc (suc (suc (suc (suc (suc zero)))))) x span l m p = (refl, p)
 low_a c (suc (suc (suc (suc (suc (suc (suc code))))))) x span l m p = absurd (omega arith)
 
-codes_a : (c : Code) (code x : ℕ) (span : Span) → WritesA code → PlaceNames c (c.items x) span → Writes c (use_of (row_of (verb_of code)).a x) span
+codes_a : (c : Code) (code x : ℕ) (span : Option Span) → WritesA code → PlaceNames c (c.items x) span → Writes c (use_of (row_of (verb_of code)).a x) span
 unfolding verb_of
 codes_a c code x span (inl h) p = low_a c code x span h.0 h.1 p
 codes_a c code x span (inr (inl e)) p = rw e (refl, p)
@@ -149,14 +153,25 @@ aim_destination c i h b z =
 
 -- ---- the store
 
-module _ (c : Code) (s : SoundCode c) (d : List ℕ) (e : length d ≡ c.size) (v : AllValid c d) (span : Span) (w : Write) (room : Room c (length d) w) where
-  pub applied_valid : Aimed c d span w → AllValid c (applied c d w)
+module _ (c : Code) (s : SoundCode c) (d : List ℕ) (e : length d ≡ c.size) (v : AllValid c d) (span : Option Span) (w : Write) (room : Room c (length d) w) where
+  applied_valid : Aimed c d span w → AllValid c (applied c d w)
   unfolding applied
   applied_valid (still q) = rw q v
   applied_valid (aims decimal k fresh) =
       rw (applied_stored c d w)
       (store_valid c s d e v k.field (start_of w) (len_of w) (new_of c d w) k.known k.fenced (length_new c d w room) k.some (λ t. fresh (sym k.kind ∙ t)))
 
-  pub touches_covered : Aimed c d span w → (b : ℕ) → Touches w b → Covers span b
+  touches_covered : Aimed c d span w → (b : ℕ) → Touches w b → Covers span b
   touches_covered (still q) b t = let x : Touches write.Nothing b = subst (λ (y : Write). Touches y b) q t in absurd (omega (arith, x.to))
   touches_covered (aims decimal k fresh) b t = rw k.is (t.from, t.to)
+
+-- ---- the turn
+
+module _ (c : Code) (s : SoundCode c) (d : List ℕ) (e : length d ≡ c.size) (v : AllValid c d) (span : Option Span) where
+  pub turn_valid : (t : Result Turn Fault) → TurnRoom c (length d) t → TurnAimed c d span t → AllValid c (data_by c d t)
+  turn_valid (Ok t) room aimed = applied_valid c s d e v span t.write room aimed
+  turn_valid (Err x) room aimed = v
+
+  pub turn_outside : (t : Result Turn Fault) → TurnRoom c (length d) t → TurnAimed c d span t → (b : ℕ) → (Covers span b → ⊥) → get_or (data_by c d t) b 0 ≡ get_or d b 0
+  turn_outside (Ok t) room aimed b o = applied_outside c d t.write room b (λ z. o (touches_covered c s d e v span t.write room aimed b z))
+  turn_outside (Err x) room aimed b o = refl

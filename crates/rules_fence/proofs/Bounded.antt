@@ -3,14 +3,14 @@
 --   seen_bounds      what is held stands directly before
 --   fenced_fixed, fixed_fenced   so a reference keeps the rules exactly when its fixed span does
 -- Assumes nothing.
+use Rattle.std.specs.Prelude.{Result, Err, Ok, None}
+use Rattle.rules.specs.declared.Fault.{Fault}
 use Prim.Native.Nat.{ℕ}
 use mathlib.Core.Path.{◌≡◌, refl, sym, ap, ◌∙◌, subst}
 use mathlib.Core.Bool.{Bool, true, false, cond, false≢true, true≢false}
 use mathlib.Core.List.{List, [], ◌∷◌, ◌++◌, append_assoc, append-nil}
 use mathlib.Core.Logic.{inl, inr}
 use lib.IntN.{ℤ, pos, neg_ℤ}
-use Rattle.rules.specs.declared.Num.{Num}
-use Rattle.rules.specs.declared.Num.TheVariants.{Value, Failed}
 use Rattle.rules_unit.specs.declared.Form.{Form}
 use Rattle.rules_unit.specs.declared.Form.TheVariants as form
 use Rattle.rules_unit.specs.declared.Op.{Op}
@@ -18,7 +18,6 @@ use Rattle.rules_unit.specs.declared.Op.TheVariants as op
 use Rattle.rules_unit.specs.declared.Item.{Item}
 use Rattle.rules_unit.specs.declared.Item.TheVariants as item
 use Rattle.rules_unit.specs.Codes.{Code}
-use Rattle.rules_run.specs.declared.Span.TheVariants.{Outside}
 use Rattle.rules_run.specs.Spans.{span_of}
 use Rattle.rules_run.specs.Evaluation.{literal_number}
 use Rattle.rules_fence.specs.declared.Seen.{Seen}
@@ -63,22 +62,22 @@ module _ (c : Code) where
   BothAre (seen.One z plain) x y = ⊥
   BothAre (seen.Two w z plain) x y = (w ≡ x) × (z ≡ y)
 
-  literal_last : (s : Seen) (v : ℤ) → LastIs (seen_number (Value v) s) v
+  literal_last : (s : Seen) (v : ℤ) → LastIs (seen_number (Ok v) s) v
   literal_last seen.Nothing v = refl
   literal_last (seen.One z plain) v = refl
   literal_last (seen.Two w z plain) v = refl
 
-  negated_last : (s : Seen) (v : ℤ) → LastIs (seen_negate (seen_number (Value v) s)) (neg_ℤ v)
+  negated_last : (s : Seen) (v : ℤ) → LastIs (seen_negate (seen_number (Ok v) s)) (neg_ℤ v)
   negated_last seen.Nothing v = refl
   negated_last (seen.One z plain) v = refl
   negated_last (seen.Two w z plain) v = refl
 
-  literal_both : (s : Seen) (x v : ℤ) → LastIs s x → BothAre (seen_number (Value v) s) x v
+  literal_both : (s : Seen) (x v : ℤ) → LastIs s x → BothAre (seen_number (Ok v) s) x v
   literal_both seen.Nothing x v h = absurd h
   literal_both (seen.One z plain) x v h = (h, refl)
   literal_both (seen.Two w z plain) x v h = (h, refl)
 
-  negated_both : (s : Seen) (x v : ℤ) → LastIs s x → BothAre (seen_negate (seen_number (Value v) s)) x (neg_ℤ v)
+  negated_both : (s : Seen) (x v : ℤ) → LastIs s x → BothAre (seen_negate (seen_number (Ok v) s)) x (neg_ℤ v)
   negated_both seen.Nothing x v h = absurd h
   negated_both (seen.One z plain) x v h = (h, refl)
   negated_both (seen.Two w z plain) x v h = (h, refl)
@@ -86,12 +85,12 @@ module _ (c : Code) where
   bound_last : (s : Seen) (is : List Item) (v : ℤ) → Bound c is v → LastIs (seen_in c s is) v
   unfolding seen_in
   bound_last s is v (inl b) = rw (b.items, b.value) (literal_last s v)
-  bound_last s is v (inr b) = rw (b.items, b.value) (subst (LastIs (seen_negate (seen_number (Value b.magnitude) s))) b.sign (negated_last s b.magnitude))
+  bound_last s is v (inr b) = rw (b.items, b.value) (subst (LastIs (seen_negate (seen_number (Ok b.magnitude) s))) b.sign (negated_last s b.magnitude))
 
   bound_both : (s : Seen) (is : List Item) (x v : ℤ) → LastIs s x → Bound c is v → BothAre (seen_in c s is) x v
   unfolding seen_in
   bound_both s is x v h (inl b) = rw (b.items, b.value) (literal_both s x v h)
-  bound_both s is x v h (inr b) = rw (b.items, b.value) (subst (BothAre (seen_negate (seen_number (Value b.magnitude) s)) x) b.sign (negated_both s x b.magnitude h))
+  bound_both s is x v h (inr b) = rw (b.items, b.value) (subst (BothAre (seen_negate (seen_number (Ok b.magnitude) s)) x) b.sign (negated_both s x b.magnitude h))
 
   one_last : (before : List Item) (x : ℤ) → OneBound c before x → LastIs (seen_in c seen.Nothing before) x
   one_last before x b =
@@ -164,7 +163,7 @@ module _ (c : Code) where
   Shown (seen.Two x y plain) is = BothShown is x y plain
 
   module _ (is : List Item) where
-    shown_number : (s : Seen) (p l : ℕ) (v : ℤ) → literal_number c p l ≡ Value v → Shown s is → Shown (seen_number (Value v) s) (is ++ (item.Number p l ∷ []))
+    shown_number : (s : Seen) (p l : ℕ) (v : ℤ) → literal_number c p l ≡ Ok v → Shown s is → Shown (seen_number (Ok v) s) (is ++ (item.Number p l ∷ []))
     shown_number seen.Nothing p l v e h =
         record { rest = is; last = item.Number p l ∷ []; items = refl; is_last = record { place = p; len = l; items = refl; value = e } }
     shown_number (seen.One y plain) p l v e h =
@@ -214,9 +213,9 @@ module _ (c : Code) where
         }
     shown_negate (seen.Two x y false) h = tt
 
-    shown_literal : (s : Seen) (p l : ℕ) (v : Num) → literal_number c p l ≡ v → Shown s is → Shown (seen_number v s) (is ++ (item.Number p l ∷ []))
-    shown_literal s p l (Failed e) q h = tt
-    shown_literal s p l (Value v) q h = shown_number s p l v q h
+    shown_literal : (s : Seen) (p l : ℕ) (v : Result ℤ Fault) → literal_number c p l ≡ v → Shown s is → Shown (seen_number v s) (is ++ (item.Number p l ∷ []))
+    shown_literal s p l (Err e) q h = tt
+    shown_literal s p l (Ok v) q h = shown_number s p l v q h
 
     shown_operator : (s : Seen) (o : Op) (t : Bool) → is_negate o ≡ t → Shown s is → Shown (cond t (seen_negate s) seen.Nothing) (is ++ (item.Operator o ∷ []))
     shown_operator s o true e h = rw (negate_is o e) (shown_negate s h)
@@ -277,7 +276,7 @@ module _ (c : Code) where
 
   -- ---- a reference
 
-  pub unbounded : (f : ℕ) (h : Form) (s : Seen) → boundedb h s ≡ false → fixed_span c h f s ≡ Outside
+  pub unbounded : (f : ℕ) (h : Form) (s : Seen) → boundedb h s ≡ false → fixed_span c h f s ≡ None
   unfolding fixed_span
   unbounded f form.First s e = absurd (true≢false e)
   unbounded f form.Subscript seen.Nothing e = refl

@@ -1,6 +1,7 @@
 -- The elements of decimal fields over valid data (document 01, "Fence rules"): a fenced decimal span reads as a number, and a store at a fenced
 -- destination leaves every element valid. Of its own element it keeps the head and writes the tail, and of the others it touches no byte.
 -- Assumes nothing.
+use Rattle.std.specs.Prelude.{Ok}
 use Prim.Native.Nat.{ℕ, ◌+◌, ◌-◌, ◌*◌, ◌<◌, ◌≤◌, max}
 use native.Mathlib.Omega.{arith}
 use native.Mathlib.Nat.{mul-le-mul_right}
@@ -11,7 +12,6 @@ use lib.Dec.{ltb, leb}
 use lib.IntN.{ℤ}
 use lib.ListN.{length, take, drop}
 use borrow.Author.Tests.{ltb-true, ltb-false, leb-true, leb-false}
-use Rattle.rules.specs.declared.Num.TheVariants.{Value}
 use Rattle.rules.specs.Values.{Valid, Figures}
 use Rattle.rules.proofs.Valid.{valid_reads}
 use Rattle.rules.proofs.Sizes.{part_length}
@@ -51,7 +51,7 @@ module _ (c : Code) (s : SoundCode c) where
 
   module _ (d : List ℕ) (e : length d ≡ c.size) (v : AllValid c d) where
     -- "a bad digit can come only from moving alpha text": a fenced decimal span reads as a number.
-    pub span_reads : {dest : Bool} {f a n : ℕ} → f < c.fields → decimalb c f ≡ true → 1 ≤ n → SpanFenced c dest f a n → (z : ℤ) × (read_at c d a n ≡ Value z)
+    pub span_reads : {dest : Bool} {f a n : ℕ} → f < c.fields → decimalb c f ≡ true → 1 ≤ n → SpanFenced c dest f a n → (z : ℤ) × (read_at c d a n ≡ Ok z)
     span_reads {dest} {f} {a} {n} h t o r =
         let k = (r.element t).0 in
         let i = (r.element t).1 in

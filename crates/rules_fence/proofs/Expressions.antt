@@ -1,6 +1,8 @@
 -- A fenced expression over valid data (document 01, "Fence rules"): it gives neither 21 nor 22, and its last reference names its fixed span.
 -- The bounds that are written directly before an item are the values that are held last when it is worked out.
 -- Assumes nothing.
+use Rattle.rules.specs.declared.Fault.{Fault}
+use Rattle.std.specs.Prelude.{Ok, Result, Err, None, Option}
 use Prim.Native.Nat.{ℕ}
 use mathlib.Core.Path.{◌≡◌, refl, sym, ap, subst}
 use mathlib.Core.Bool.{Bool, true, false, cond}
@@ -8,7 +10,6 @@ use mathlib.Core.List.{List, [], ◌∷◌}
 use lib.IntN.{ℤ, neg_ℤ}
 use lib.ListN.{length}
 use Rattle.rules.specs.declared.Fault.TheVariants as fault
-use Rattle.rules.specs.declared.Num.TheVariants.{Value}
 use Rattle.rules_unit.specs.declared.Op.{Op}
 use Rattle.rules_unit.specs.declared.Op.TheVariants as op
 use Rattle.rules_unit.specs.declared.Item.{Item}
@@ -17,7 +18,6 @@ use Rattle.rules_unit.specs.Codes.{Code}
 use Rattle.rules_unit.specs.Expressions.{op_takes, takes, textb}
 use Rattle.rules_unit.specs.Sound.{SoundCode}
 use Rattle.rules_run.specs.declared.Span.{Span}
-use Rattle.rules_run.specs.declared.Span.TheVariants.{Outside}
 use Rattle.rules_run.specs.declared.Worked.{Worked}
 use Rattle.rules_run.specs.declared.Worked.TheVariants as worked
 use Rattle.rules_run.specs.Evaluation.{calc, literal_number, apply, step_by, on_held, left, last_of, worked_from, worked_of}
@@ -35,7 +35,7 @@ use Rattle.rules_fence.proofs.References.{ref_step}
 
 -- ---- the values held
 
-held_number : (b : Seen) (st : List ℤ) (v : ℤ) → HeldAs b st → HeldAs (seen_number (Value v) b) (v ∷ st)
+held_number : (b : Seen) (st : List ℤ) (v : ℤ) → HeldAs b st → HeldAs (seen_number (Ok v) b) (v ∷ st)
 held_number seen.Nothing st v h = refl
 held_number (seen.One y plain) [] v h = absurd h
 held_number (seen.One y plain) (z ∷ st) v h = (refl, h)
@@ -54,20 +54,20 @@ held_negate (seen.Two w y false) x (z ∷ st) h = tt
 module _ (c : Code) (d : List ℕ) where
   -- ---- one item, for any property of what an expression comes to
 
-  module _ (P : Worked → Type 0) (w : Mild P) where
-    number_step : (p l : ℕ) (b : Seen) (st : List ℤ) (k : List ℤ → Worked) → HeldAs b st → ((st' : List ℤ) → HeldAs (seen_after c b (item.Number p l)) st' → P (k st'))
+  module _ (P : Result Worked Fault → Type 0) (w : Mild P) where
+    number_step : (p l : ℕ) (b : Seen) (st : List ℤ) (k : List ℤ → Result Worked Fault) → HeldAs b st → ((st' : List ℤ) → HeldAs (seen_after c b (item.Number p l)) st' → P (k st'))
         → P (on_held (step_by 0 (apply c d (item.Number p l)) st) k)
     unfolding step_by
     number_step p l b st k t h = on_room (mildb false) refl P w st (literal_number c p l) k (literal_passes (mildb false) refl c p l) (λ z q. h (z ∷ st) (rw q (held_number b st z t)))
 
-    negate_step : (b : Seen) (st : List ℤ) (k : List ℤ → Worked) → HeldAs b st → ((st' : List ℤ) → HeldAs (seen_negate b) st' → P (k st'))
+    negate_step : (b : Seen) (st : List ℤ) (k : List ℤ → Result Worked Fault) → HeldAs b st → ((st' : List ℤ) → HeldAs (seen_negate b) st' → P (k st'))
         → P (on_held (step_by 1 (apply c d (item.Operator op.Negate)) st) k)
     unfolding step_by calc
     negate_step b [] k t h = w fault.Malformed refl
     negate_step b (x ∷ st) k t h =
-        on_room (mildb false) refl P w st (Value (neg_ℤ x)) k refl (λ z q. let g : neg_ℤ x ≡ z = cc in h (z ∷ st) (subst (λ (y : ℤ). HeldAs (seen_negate b) (y ∷ st)) g (held_negate b x st t)))
+        on_room (mildb false) refl P w st (Ok (neg_ℤ x)) k refl (λ z q. let g : neg_ℤ x ≡ z = cc in h (z ∷ st) (subst (λ (y : ℤ). HeldAs (seen_negate b) (y ∷ st)) g (held_negate b x st t)))
 
-    operator_step : (o : Op) (b : Seen) (st : List ℤ) (k : List ℤ → Worked) → HeldAs b st → ((st' : List ℤ) → HeldAs (seen_after c b (item.Operator o)) st' → P (k st'))
+    operator_step : (o : Op) (b : Seen) (st : List ℤ) (k : List ℤ → Result Worked Fault) → HeldAs b st → ((st' : List ℤ) → HeldAs (seen_after c b (item.Operator o)) st' → P (k st'))
         → P (on_held (step_by (op_takes o) (apply c d (item.Operator o)) st) k)
     operator_step o b st k t h = by (is_negate o) refl
       where
@@ -78,29 +78,29 @@ module _ (c : Code) (d : List ℕ) where
         by false p = step_any (mildb false) refl P w (op_takes o) (apply c d (item.Operator o)) st k (λ x y. calc_passes (mildb false) refl refl refl c.dialect.top o x y) (λ st'. h st' (rw p tt))
 
   module _ (s : SoundCode c) (e : length d ≡ c.size) (v : AllValid c d) (dest : Bool) where
-    left_ok : (span : Span) (st : List ℤ) → WorkedOk c dest span (left st)
+    left_ok : (span : Option Span) (st : List ℤ) → WorkedOk c dest span (left st)
     left_ok span [] = refl
     left_ok span (x ∷ []) = tt
     left_ok span (x ∷ (y ∷ st)) = refl
 
-    wrong_ok : (span : Span) → Mild (WorkedOk c dest span)
+    wrong_ok : (span : Option Span) → Mild (WorkedOk c dest span)
     wrong_ok span f m = m
 
-    text_ok : (p l : ℕ) (t : Bool) → WorkedOk c dest Outside (cond t (worked.Text p l) (worked.Failed fault.Malformed))
+    text_ok : (p l : ℕ) (t : Bool) → WorkedOk c dest None (cond t (Ok (worked.Text p l)) (Err fault.Malformed))
     text_ok p l true = tt
     text_ok p l false = refl
 
     last_ok : (i : Item) (b : Seen) (st : List ℤ) → ItemFenced c dest b i [] → HeldAs b st → WorkedOk c dest (last_span c b i) (last_of c d i st)
     unfolding last_of
-    last_ok (item.Number p l) b st r t = number_step (WorkedOk c dest Outside) (wrong_ok Outside) p l b st left t (λ st' u. left_ok Outside st')
+    last_ok (item.Number p l) b st r t = number_step (WorkedOk c dest None) (wrong_ok None) p l b st left t (λ st' u. left_ok None st')
     last_ok (item.Reference h f) b st r t = place_ok c s d e dest f h b st r t
     last_ok (item.Text p l) b [] r t = text_ok p l (textb c p l)
     last_ok (item.Text p l) b (x ∷ st) r t = refl
-    last_ok (item.Operator o) b st r t = operator_step (WorkedOk c dest Outside) (wrong_ok Outside) o b st left t (λ st' u. left_ok Outside st')
+    last_ok (item.Operator o) b st r t = operator_step (WorkedOk c dest None) (wrong_ok None) o b st left t (λ st' u. left_ok None st')
     last_ok item.End b st r t = refl
     last_ok item.Bad b st r t = refl
 
-    item_ok : (P : Worked → Type 0) → Mild P → (i j : Item) (is : List Item) (b : Seen) (st : List ℤ) (k : List ℤ → Worked) → ItemFenced c dest b i (j ∷ is) → HeldAs b st
+    item_ok : (P : Result Worked Fault → Type 0) → Mild P → (i j : Item) (is : List Item) (b : Seen) (st : List ℤ) (k : List ℤ → Result Worked Fault) → ItemFenced c dest b i (j ∷ is) → HeldAs b st
         → ((st' : List ℤ) → HeldAs (seen_after c b i) st' → P (k st')) → P (on_held (step_by (takes i) (apply c d i) st) k)
     item_ok P w (item.Number p l) j is b st k r t h = number_step P w p l b st k t h
     item_ok P w (item.Reference g f) j is b st k r t h = ref_step c s d e v f P w g b st k r t (λ st'. h st' tt)

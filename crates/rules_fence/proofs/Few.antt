@@ -2,6 +2,7 @@
 --   few       of the statements of a unit that passes the check
 --   few_in    of one statement
 -- Assumes nothing.
+use Rattle.std.specs.Prelude.{Ok, None, Option, Some}
 use Prim.Native.Nat.{ℕ, zero, suc, ◌+◌, ◌*◌, ◌<◌, ◌≤◌}
 use native.Mathlib.Omega.{arith}
 use mathlib.Core.Path.{◌≡◌}
@@ -15,8 +16,6 @@ use Rattle.rules_unit.specs.declared.Role.{Role}
 use Rattle.rules_unit.specs.declared.Role.TheVariants as role
 use Rattle.rules_unit.specs.declared.Statement.{Statement}
 use Rattle.rules_unit.specs.declared.Use.{Use}
-use Rattle.rules_unit.specs.declared.Use.TheVariants as use-of
-use Rattle.rules_unit.specs.declared.Checked.TheVariants as checked
 use Rattle.rules_unit.specs.Codes.{Code}
 use Rattle.rules_unit.specs.Decode.{item_at, width_of, follow, items_in, items_at, expressions_at, code_of}
 use Rattle.rules_unit.specs.Table.{verb_of, row_of, more_of, uses_of}
@@ -76,11 +75,11 @@ module _ (c : Code) (i : ℕ) where
 -- ---- statements: 16,385 items in an expression at the most, 5 expressions in a statement
 
 module _ (c : Code) (most : (at : ℕ) → length (c.items at) ≤ 16385) where
-  use_most : (i : ℕ) (x : Use) → length (use_broken c i x) ≤ 16385
-  use_most i use-of.Nothing = omega arith
-  use_most i (use-of.Of w at written) = omega (arith, most at, from_most c i written seen.Nothing at (c.items at))
+  use_most : (i : ℕ) (x : Option Use) → length (use_broken c i x) ≤ 16385
+  use_most i None = omega arith
+  use_most i (Some u) = omega (arith, most u.at, from_most c i u.written seen.Nothing u.at (c.items u.at))
 
-  uses_most : (i : ℕ) (us : List Use) → length (uses_broken c i us) ≤ length us * 16385
+  uses_most : (i : ℕ) (us : List (Option Use)) → length (uses_broken c i us) ≤ length us * 16385
   unfolding uses_broken
   uses_most i [] = omega arith
   uses_most i (x ∷ xs) = omega (arith, use_most i x, uses_most i xs, length-append (use_broken c i x) (uses_broken c i xs))
@@ -109,7 +108,7 @@ module _ (c : Code) (most : (at : ℕ) → length (c.items at) ≤ 16385) where
 
 -- ---- the unit
 
-module _ (u : List ℕ) (p : Parts) (e : check_of u ≡ checked.Passed p) where
+module _ (u : List ℕ) (p : Parts) (e : check_of u ≡ Ok p) where
   unit_most : (at : ℕ) → length ((code_of u p).items at) ≤ 16385
   unit_most at =
       let s = take p.e (drop (expressions_at p) u) in

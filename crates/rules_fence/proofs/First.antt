@@ -1,5 +1,6 @@
 -- The breach of a statement (document 01, "Fence rules"): it is named exactly when the first of its references that breaks a rule breaks that one.
 -- Assumes nothing.
+use Rattle.std.specs.Prelude.{None, Option, Some}
 use Prim.Native.Nat.{ℕ, zero, suc, ◌<◌}
 use native.Mathlib.Omega.{arith}
 use mathlib.Core.Path.{◌≡◌, refl, ap, ◌∙◌, subst}
@@ -10,14 +11,12 @@ use borrow.Author.Tests.{ltb-true}
 use Rattle.rules_unit.specs.declared.Item.{Item}
 use Rattle.rules_unit.specs.declared.Item.TheVariants as item
 use Rattle.rules_unit.specs.declared.Use.{Use}
-use Rattle.rules_unit.specs.declared.Use.TheVariants as use-of
 use Rattle.rules_unit.specs.Codes.{Code}
 use Rattle.rules_unit.specs.Expressions.{Known, itemb, useb}
 use Rattle.rules_unit.specs.Table.{uses_of}
 use Rattle.rules_unit.specs.Sound.{SoundCode}
 use Rattle.rules_unit.proofs.Statements.{uses_good}
 use Rattle.rules_run.specs.declared.Span.{Span}
-use Rattle.rules_run.specs.declared.Span.TheVariants.{At, Outside}
 use Rattle.rules_fence.specs.declared.Breach.{Breach}
 use Rattle.rules_fence.specs.declared.Breach.TheVariants as breach
 use Rattle.rules_fence.specs.declared.Seen.{Seen}
@@ -58,8 +57,8 @@ read_dest (i ∷ is) = refl
 module _ (c : Code) (s : SoundCode c) where
   -- ---- what stands before a reference is read
 
-  read_kept : (dest : Bool) (f : ℕ) (span : Span) → SpanKept c dest f span → SpanKept c false f span
-  read_kept dest f (At a n) r =
+  read_kept : (dest : Bool) (f : ℕ) (span : Option Span) → SpanKept c dest f span → SpanKept c false f span
+  read_kept dest f (Some s) r =
       record {
         from = r.from;
         to = r.to;
@@ -68,7 +67,7 @@ module _ (c : Code) (s : SoundCode c) where
             (e.0, record { low = e.1.low; from = e.1.from; to = e.1.to; ends = λ z. absurd (false≢true z) });
         apart = λ t z. absurd (false≢true z);
       }
-  read_kept dest f Outside r = r
+  read_kept dest f None r = r
 
   inner_dest : (dest : Bool) (before : List Item) (i : Item) (after : List Item) → destb dest (before ++ (i ∷ after)) ≡ false
   inner_dest dest [] i after = refl
@@ -162,19 +161,19 @@ module _ (c : Code) (s : SoundCode c) where
 
   -- ---- statements
 
-  use_breaks : (x : Use) → useb c x ≡ true → keepsb (use_breach c x) ≡ false → UseBreaks c x (use_breach c x)
+  use_breaks : (x : Option Use) → useb c x ≡ true → keepsb (use_breach c x) ≡ false → UseBreaks c x (use_breach c x)
   unfolding seen_in
-  use_breaks use-of.Nothing e z = absurd (true≢false z)
-  use_breaks (use-of.Of w at written) e z = from_breaks written [] (c.items at) tt (known_of c w at e) z
+  use_breaks None e z = absurd (true≢false z)
+  use_breaks (Some u) e z = from_breaks u.written [] (c.items u.at) tt (known_of c u.want u.at e) z
 
-  use_named : (x : Use) (b : Breach) → useb c x ≡ true → keepsb b ≡ false → UseBreaks c x b → use_breach c x ≡ b
-  use_named use-of.Nothing b e z r = absurd r
-  use_named (use-of.Of w at written) b e z r = expr_named written (c.items at) b (known_of c w at e) z r
+  use_named : (x : Option Use) (b : Breach) → useb c x ≡ true → keepsb b ≡ false → UseBreaks c x b → use_breach c x ≡ b
+  use_named None b e z r = absurd r
+  use_named (Some u) b e z r = expr_named u.written (c.items u.at) b (known_of c u.want u.at e) z r
 
-  abbrev Good : List Use → Type 0
-  Good us = (k : ℕ) → k < length us → useb c (get_or us k use-of.Nothing) ≡ true
+  abbrev Good : List (Option Use) → Type 0
+  Good us = (k : ℕ) → k < length us → useb c (get_or us k None) ≡ true
 
-  uses_break : (us : List Use) → Good us → keepsb (uses_breach c us) ≡ false → UsesBreak c us (uses_breach c us)
+  uses_break : (us : List (Option Use)) → Good us → keepsb (uses_breach c us) ≡ false → UsesBreak c us (uses_breach c us)
   unfolding uses_breach
   uses_break [] e z = absurd (true≢false z)
   uses_break (x ∷ xs) e z = by (keepsb (use_breach c x)) refl (uses_break xs (λ k h. e (suc k) (omega arith))) z
@@ -183,13 +182,13 @@ module _ (c : Code) (s : SoundCode c) where
           → let b = cond t (uses_breach c xs) (use_breach c x) in keepsb b ≡ false → UsesBreak c (x ∷ xs) b
       by true p more z = let r = more z in record { k = suc r.k; low = omega (arith, r.low); earlier = before r.earlier; here = r.here }
         where
-          before : {k : ℕ} → ((j : ℕ) → j < k → UseFenced c (get_or xs j use-of.Nothing)) → (j : ℕ) → j < suc k → UseFenced c (get_or (x ∷ xs) j use-of.Nothing)
+          before : {k : ℕ} → ((j : ℕ) → j < k → UseFenced c (get_or xs j None)) → (j : ℕ) → j < suc k → UseFenced c (get_or (x ∷ xs) j None)
           before f zero l = (use_tells c s x (e 0 (omega arith))).to p
           before f (suc j) l = f j (omega arith)
       by false p more z = record { k = 0; low = omega arith; earlier = λ j l. absurd (omega arith); here = use_breaks x (e 0 (omega arith)) z }
 
-  uses_named : (us : List Use) (b : Breach) → Good us → keepsb b ≡ false → (k : ℕ) → k < length us → ((j : ℕ) → j < k → UseFenced c (get_or us j use-of.Nothing))
-      → UseBreaks c (get_or us k use-of.Nothing) b → uses_breach c us ≡ b
+  uses_named : (us : List (Option Use)) (b : Breach) → Good us → keepsb b ≡ false → (k : ℕ) → k < length us → ((j : ℕ) → j < k → UseFenced c (get_or us j None))
+      → UseBreaks c (get_or us k None) b → uses_breach c us ≡ b
   unfolding uses_breach
   uses_named [] b e z k l f r = absurd (omega arith)
   uses_named (x ∷ xs) b e z zero l f r = first_some (use_breach c x) (uses_breach c xs) b (use_named x b (e 0 (omega arith)) z r) z

@@ -6,6 +6,7 @@
 --   none_exactly   there is none exactly for a yes and for a refusal
 --   rising         the statements rise
 -- Assumes nothing.
+use Rattle.std.specs.Prelude.{Result, Err, Ok, None, Option, Some}
 use Prim.Native.Nat.{ℕ, zero, suc, ◌+◌, ◌≤◌}
 use native.Mathlib.Omega.{arith}
 use mathlib.Core.Path.{◌≡◌, refl, sym, ap, ◌∙◌, subst}
@@ -18,11 +19,8 @@ use Rattle.rules_unit.specs.declared.Form.{Form}
 use Rattle.rules_unit.specs.declared.Item.{Item}
 use Rattle.rules_unit.specs.declared.Item.TheVariants as item
 use Rattle.rules_unit.specs.declared.Use.{Use}
-use Rattle.rules_unit.specs.declared.Use.TheVariants as use-of
 use Rattle.rules_unit.specs.declared.Parts.{Parts}
 use Rattle.rules_unit.specs.declared.Refusal.{Refusal}
-use Rattle.rules_unit.specs.declared.Checked.{Checked}
-use Rattle.rules_unit.specs.declared.Checked.TheVariants as checked
 use Rattle.rules_unit.specs.Codes.{Code}
 use Rattle.rules_unit.specs.Decode.{width_of, parts_of, code_of}
 use Rattle.rules_unit.specs.Table.{uses_of}
@@ -91,11 +89,11 @@ module _ (c : Code) (i : ℕ) where
       tells_more (item_broken c i dest s at x xs) (broken_from c i dest (seen_after c s x) (at + width_of x) xs) (item_breach c dest s x xs)
       (breach_from c dest (seen_after c s x) xs) (item_tells dest s at x xs) (from_tells dest (seen_after c s x) (at + width_of x) xs)
 
-  use_tells : (x : Use) → Tells (use_broken c i x) (use_breach c x)
-  use_tells use-of.Nothing = tells_none
-  use_tells (use-of.Of w at written) = from_tells written seen.Nothing at (c.items at)
+  use_tells : (x : Option Use) → Tells (use_broken c i x) (use_breach c x)
+  use_tells None = tells_none
+  use_tells (Some u) = from_tells u.written seen.Nothing u.at (c.items u.at)
 
-  uses_tell : (us : List Use) → Tells (uses_broken c i us) (uses_breach c us)
+  uses_tell : (us : List (Option Use)) → Tells (uses_broken c i us) (uses_breach c us)
   unfolding uses_broken uses_breach
   uses_tell [] = tells_none
   uses_tell (x ∷ xs) = tells_more (use_broken c i x) (uses_broken c i xs) (use_breach c x) (uses_breach c xs) (use_tells x) (uses_tell xs)
@@ -137,11 +135,11 @@ module _ (c : Code) (i : ℕ) where
       of_more i (item_broken c i dest s at x xs) (broken_from c i dest (seen_after c s x) (at + width_of x) xs) (item_of dest s at x xs)
       (from_of dest (seen_after c s x) (at + width_of x) xs)
 
-  use_of_i : (x : Use) → Of i (use_broken c i x)
-  use_of_i use-of.Nothing = tt
-  use_of_i (use-of.Of w at written) = from_of written seen.Nothing at (c.items at)
+  use_of_i : (x : Option Use) → Of i (use_broken c i x)
+  use_of_i None = tt
+  use_of_i (Some u) = from_of u.written seen.Nothing u.at (c.items u.at)
 
-  uses_of_i : (us : List Use) → Of i (uses_broken c i us)
+  uses_of_i : (us : List (Option Use)) → Of i (uses_broken c i us)
   unfolding uses_broken
   uses_of_i [] = tt
   uses_of_i (x ∷ xs) = of_more i (use_broken c i x) (uses_broken c i xs) (use_of_i x) (uses_of_i xs)
@@ -169,9 +167,9 @@ pub rising : (u : List ℕ) → Rising 0 (breaches_of u)
 unfolding breaches_of
 rising u = by (check_of u)
   where
-    by : (x : Checked) → Rising 0 (breaches_by u x)
-    by (checked.Passed p) = rising_from (code_of u p) p.n 0
-    by (checked.Refused r) = tt
+    by : (x : Result Parts Refusal) → Rising 0 (breaches_by u x)
+    by (Ok p) = rising_from (code_of u p) p.n 0
+    by (Err r) = tt
 
 -- ---- the fence check and the list
 
@@ -197,15 +195,15 @@ module _ (c : Code) where
       by false e more = no_lists i (broken_of c i) (statements_broken c k (i + 1)) (statement_tells c i) (statement_of c i) e
 
 module _ (u : List ℕ) where
-  unit_lists : (p : Parts) → check_of u ≡ checked.Passed p → Lists (code_of u p) (fence_of u) (breaches_of u)
+  unit_lists : (p : Parts) → check_of u ≡ Ok p → Lists (code_of u p) (fence_of u) (breaches_of u)
   unfolding fence_of breaches_of
   unit_lists p e = rw e (from_lists (code_of u p) p.n 0)
 
-  refused_none : (r : Refusal) → check_of u ≡ checked.Refused r → breaches_of u ≡ []
+  refused_none : (r : Refusal) → check_of u ≡ Err r → breaches_of u ≡ []
   unfolding breaches_of
   refused_none r e = rw e
 
-  refused_fence : (r : Refusal) → check_of u ≡ checked.Refused r → fence_of u ≡ verdict.Refused r
+  refused_fence : (r : Refusal) → check_of u ≡ Err r → fence_of u ≡ verdict.Refused r
   unfolding fence_of
   refused_fence r e = rw e
 
@@ -235,9 +233,9 @@ module _ (u : List ℕ) where
           let z : j ≡ i = sym l.3 ∙ ap (λ (x : Broken). x.statement) same ∙ w in
           e ∙ ap verdict.No z
 
-      back : (x : Checked) → check_of u ≡ x → (b : Broken) (bs : List Broken) → breaches_of u ≡ b ∷ bs → b.statement ≡ i → fence_of u ≡ verdict.No i
-      back (checked.Passed p) e b bs q w = passed p (fence_of u) refl (unit_lists p e) b bs q w
-      back (checked.Refused r) e b bs q w = absurd (some_none b bs (sym q ∙ refused_none r e))
+      back : (x : Result Parts Refusal) → check_of u ≡ x → (b : Broken) (bs : List Broken) → breaches_of u ≡ b ∷ bs → b.statement ≡ i → fence_of u ≡ verdict.No i
+      back (Ok p) e b bs q w = passed p (fence_of u) refl (unit_lists p e) b bs q w
+      back (Err r) e b bs q w = absurd (some_none b bs (sym q ∙ refused_none r e))
 
   pub no_rule : (i : ℕ) → fence_of u ≡ verdict.No i → first_rule (breaches_of u) ≡ breach_in u i
   no_rule i e =
@@ -254,9 +252,9 @@ module _ (u : List ℕ) where
       to q verdict.Yes e = inl e
       to q (verdict.No i) e = let n = (no_first i).0 e in absurd (some_none n.0 n.1 (sym n.2 ∙ q))
 
-      refused : (r : Refusal) → fence_of u ≡ verdict.Refused r → (x : Checked) → check_of u ≡ x → breaches_of u ≡ []
-      refused r e (checked.Passed p) q = absurd (subst (λ (v : Verdict). Lists (code_of u p) v (breaches_of u)) e (unit_lists p q))
-      refused r e (checked.Refused x) q = refused_none x q
+      refused : (r : Refusal) → fence_of u ≡ verdict.Refused r → (x : Result Parts Refusal) → check_of u ≡ x → breaches_of u ≡ []
+      refused r e (Ok p) q = absurd (subst (λ (v : Verdict). Lists (code_of u p) v (breaches_of u)) e (unit_lists p q))
+      refused r e (Err x) q = refused_none x q
 
       of : (fence_of u ≡ verdict.Yes) ⊎ ((r : Refusal) × (fence_of u ≡ verdict.Refused r)) → breaches_of u ≡ []
       of (inl e) = (yes_none.0 e).1
@@ -272,9 +270,9 @@ module _ (u : List ℕ) where
       low p true = statement_tells (code_of u p) i
       low p false = tells_none
 
-      by : (x : Checked) → Tells (broken_in_by u i x) (breach_by u i x)
-      by (checked.Passed p) = low p (ltb i p.n)
-      by (checked.Refused r) = tells_none
+      by : (x : Result Parts Refusal) → Tells (broken_in_by u i x) (breach_by u i x)
+      by (Ok p) = low p (ltb i p.n)
+      by (Err r) = tells_none
 
   pub first_rule_lem : (i : ℕ) → first_rule (broken_in u i) ≡ breach_in u i
   first_rule_lem i = (in_tells i).rule
@@ -290,9 +288,9 @@ module _ (u : List ℕ) where
       low p true = statement_of (code_of u p) i
       low p false = tt
 
-      by : (x : Checked) → Of i (broken_in_by u i x)
-      by (checked.Passed p) = low p (ltb i p.n)
-      by (checked.Refused r) = tt
+      by : (x : Result Parts Refusal) → Of i (broken_in_by u i x)
+      by (Ok p) = low p (ltb i p.n)
+      by (Err r) = tt
 
   pub some_left : (i : ℕ) → (breach_in u i ≡ breach.None → ⊥) → (b : Broken) × (bs : List Broken) × (broken_in u i ≡ b ∷ bs) × (b.statement ≡ i)
   some_left i n = by (broken_in u i) refl (in_of i)

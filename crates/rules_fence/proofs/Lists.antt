@@ -4,6 +4,8 @@
 --   breaches_of_lem     the list of a unit that passes
 --   stands_told     the bytes told are those that break the rule
 -- Assumes nothing.
+use Rattle.rules_run.specs.Spans.{span_at}
+use Rattle.std.specs.Prelude.{Ok, None, Option, Some}
 use Prim.Native.Nat.{ℕ, zero, suc, ◌+◌, ◌<◌, ◌≤◌}
 use native.Mathlib.Omega.{arith}
 use mathlib.Core.Path.{◌≡◌, refl, sym, ap, ◌∙◌, subst}
@@ -19,8 +21,6 @@ use Rattle.rules_unit.specs.declared.Form.{Form}
 use Rattle.rules_unit.specs.declared.Item.{Item}
 use Rattle.rules_unit.specs.declared.Item.TheVariants as item
 use Rattle.rules_unit.specs.declared.Use.{Use}
-use Rattle.rules_unit.specs.declared.Use.TheVariants as use-of
-use Rattle.rules_unit.specs.declared.Checked.TheVariants as checked
 use Rattle.rules_unit.specs.Codes.{Code}
 use Rattle.rules_unit.specs.Decode.{width_of, parts_of, code_of}
 use Rattle.rules_unit.specs.Expressions.{Known, useb}
@@ -30,7 +30,6 @@ use Rattle.rules_unit.specs.Sound.{SoundCode, SoundUnit}
 use Rattle.rules_unit.proofs.Sound.{sound_passed}
 use Rattle.rules_unit.proofs.Statements.{uses_good}
 use Rattle.rules_run.specs.declared.Span.{Span}
-use Rattle.rules_run.specs.declared.Span.TheVariants.{At, Outside}
 use Rattle.rules_fence.specs.declared.Breach.{Breach}
 use Rattle.rules_fence.specs.declared.Breach.TheVariants as breach
 use Rattle.rules_fence.specs.declared.Broken.{Broken}
@@ -147,7 +146,7 @@ module _ (c : Code) (h : Form) (f : ℕ) (before : List Item) where
       by true e = let w = seen_bounds c f before h e in inl (record { x = w.x; y = w.y; bounds = w.bounds; is_span = sym w.span })
       by false e = inr (λ x y b. false≢true (sym e ∙ (bounds_seen c f h before x y b).bounded), unbounded c f h (seen_in c seen.Nothing before) e)
 
-  names_fixed : (span : Span) → Fixes c h f before span → fixed_span c h f (seen_in c seen.Nothing before) ≡ span
+  names_fixed : (span : Option Span) → Fixes c h f before span → fixed_span c h f (seen_in c seen.Nothing before) ≡ span
   names_fixed span (inl w) = (bounds_seen c f h before w.x w.y w.bounds).span ∙ w.is_span
   names_fixed span (inr n) = by (boundedb h (seen_in c seen.Nothing before)) refl
     where
@@ -156,20 +155,20 @@ module _ (c : Code) (h : Form) (f : ℕ) (before : List Item) where
       by false e = unbounded c f h (seen_in c seen.Nothing before) e ∙ sym n.1
 
   -- There is one span that is named.
-  named_same : (span other : Span) → Names c h f before other → Fixes c h f before span → span ≡ other
+  named_same : (span other : Option Span) → Names c h f before other → Fixes c h f before span → span ≡ other
   named_same span other w x = sym (names_fixed span x) ∙ names_fixed other (inl w)
 
-  unnamed : (span : Span) → ((x y : ℤ) → Bounds c h before x y → ⊥) → Fixes c h f before span → span ≡ Outside
+  unnamed : (span : Option Span) → ((x y : ℤ) → Bounds c h before x y → ⊥) → Fixes c h f before span → span ≡ None
   unnamed span n (inl w) = absurd (n w.x w.y w.bounds)
   unnamed span n (inr q) = q.1
 
-  told_at : (dest : Bool) (span : Span) (r : Breach) → NamedBreaks c dest h f before r → Fixes c h f before span → SpanAt c dest f span r
-  told_at dest span r w x = record { a = w.a; n = w.n; is_span = named_same span (At w.a w.n) w.names x; breaks = w.breaks }
+  told_at : (dest : Bool) (span : Option Span) (r : Breach) → NamedBreaks c dest h f before r → Fixes c h f before span → SpanAt c dest f span r
+  told_at dest span r w x = record { a = w.a; n = w.n; is_span = named_same span (span_at w.a w.n) w.names x; breaks = w.breaks }
 
-  told_by : (dest : Bool) (span : Span) (r : Breach) → RefBreaks c dest h f before r → Fixes c h f before span → SpanTold c dest f span r
+  told_by : (dest : Bool) (span : Option Span) (r : Breach) → RefBreaks c dest h f before r → Fixes c h f before span → SpanTold c dest f span r
   told_by dest span breach.None w x = w
   told_by dest span breach.BoundNotLiteral w x = unnamed span w x
-  told_by dest span breach.BoundsWrong w x = named_same span Outside w x
+  told_by dest span breach.BoundsWrong w x = named_same span None w x
   told_by dest span breach.LeavesField w x = told_at dest span breach.LeavesField w x
   told_by dest span breach.OverElements w x = told_at dest span breach.OverElements w x
   told_by dest span breach.StopsMidElement w x = told_at dest span breach.StopsMidElement w x
@@ -187,15 +186,15 @@ module _ (c : Code) (h : Form) (f : ℕ) (before : List Item) where
 
 -- The bytes told, of a reference that stands in the unit.
 pub stands_told : (c : Code) (b : Broken) → Stands c b → SpanTold c b.written b.field b.span b.rule
-stands_told c b r = by (get_or (uses_of c (c.statement b.statement)) r.use_number use-of.Nothing) r.here
+stands_told c b r = by (get_or (uses_of c (c.statement b.statement)) r.use_number None) r.here
   where
-    by : (x : Use) → StandsAt c x b → SpanTold c b.written b.field b.span b.rule
-    by use-of.Nothing n = absurd n
-    by (use-of.Of w at written) t = told_by c b.form b.field t.before b.written b.span b.rule t.breaks t.fixes
+    by : (x : Option Use) → StandsAt c x b → SpanTold c b.written b.field b.span b.rule
+    by None n = absurd n
+    by (Some u) t = told_by c b.form b.field t.before b.written b.span b.rule t.breaks t.fixes
 
 -- ---- one statement of a sound unit
 
-same_broken : (b : Broken) (i : ℕ) (r : Breach) (w : Bool) (span : Span) (at : ℕ) → b.statement ≡ i → b.rule ≡ r → b.written ≡ w → b.span ≡ span → b.at ≡ at
+same_broken : (b : Broken) (i : ℕ) (r : Breach) (w : Bool) (span : Option Span) (at : ℕ) → b.statement ≡ i → b.rule ≡ r → b.written ≡ w → b.span ≡ span → b.at ≡ at
     → b ≡ record { statement = i; rule = r; written = w; field = b.field; form = b.form; span = span; at = at }
 same_broken b i r w span at e₁ e₂ e₃ e₄ e₅ = rw (← e₁, ← e₂, ← e₃, ← e₄, ← e₅)
 
@@ -234,21 +233,21 @@ module _ (c : Code) (s : SoundCode c) (b : Broken) where
         (subst (λ (x : Broken). In x (broken_from c i dest seen.Nothing start (r.before ++ (item.Reference b.form b.field ∷ r.after)))) (sym w)
         (split_in c i dest seen.Nothing start r.before r.after b.form b.field z))
 
-    use_stands : (x : Use) → useb c x ≡ true → In b (use_broken c i x) → (b.statement ≡ i) × StandsAt c x b
-    use_stands use-of.Nothing g n = absurd n
-    use_stands (use-of.Of w at written) g n = expr_stands written at (known_of c w at g) n
+    use_stands : (x : Option Use) → useb c x ≡ true → In b (use_broken c i x) → (b.statement ≡ i) × StandsAt c x b
+    use_stands None g n = absurd n
+    use_stands (Some u) g n = expr_stands u.written u.at (known_of c u.want u.at g) n
 
-    use_in : (x : Use) → useb c x ≡ true → b.statement ≡ i → StandsAt c x b → In b (use_broken c i x)
-    use_in use-of.Nothing g e r = absurd r
-    use_in (use-of.Of w at written) g e r = expr_in written at (known_of c w at g) e r
+    use_in : (x : Option Use) → useb c x ≡ true → b.statement ≡ i → StandsAt c x b → In b (use_broken c i x)
+    use_in None g e r = absurd r
+    use_in (Some u) g e r = expr_in u.written u.at (known_of c u.want u.at g) e r
 
-    abbrev Good : List Use → Type 0
-    Good us = (k : ℕ) → k < length us → useb c (get_or us k use-of.Nothing) ≡ true
+    abbrev Good : List (Option Use) → Type 0
+    Good us = (k : ℕ) → k < length us → useb c (get_or us k None) ≡ true
 
-    abbrev One : List Use → Type 0
-    One us = (b.statement ≡ i) × (k : ℕ) × (k < length us) × StandsAt c (get_or us k use-of.Nothing) b
+    abbrev One : List (Option Use) → Type 0
+    One us = (b.statement ≡ i) × (k : ℕ) × (k < length us) × StandsAt c (get_or us k None) b
 
-    uses_stand : (us : List Use) → Good us → In b (uses_broken c i us) → One us
+    uses_stand : (us : List (Option Use)) → Good us → In b (uses_broken c i us) → One us
     unfolding uses_broken
     uses_stand [] g n = absurd n
     uses_stand (x ∷ xs) g n = by (in_either b (use_broken c i x) (uses_broken c i xs) n) (uses_stand xs (λ k h. g (suc k) (omega arith)))
@@ -257,7 +256,7 @@ module _ (c : Code) (s : SoundCode c) (b : Broken) where
         by (inl k) more = let r = use_stands x (g 0 (omega arith)) k in (r.0, 0, omega arith, r.1)
         by (inr k) more = let r = more k in (r.0, suc r.1, omega (arith, r.2), r.3)
 
-    uses_in : (us : List Use) → Good us → b.statement ≡ i → (k : ℕ) → k < length us → StandsAt c (get_or us k use-of.Nothing) b → In b (uses_broken c i us)
+    uses_in : (us : List (Option Use)) → Good us → b.statement ≡ i → (k : ℕ) → k < length us → StandsAt c (get_or us k None) b → In b (uses_broken c i us)
     unfolding uses_broken
     uses_in [] g e k l r = absurd (omega arith)
     uses_in (x ∷ xs) g e zero l r = in_left b (use_broken c i x) (uses_broken c i xs) (use_in x (g 0 (omega arith)) e r)
@@ -269,7 +268,7 @@ module _ (c : Code) (s : SoundCode c) (b : Broken) where
         let r = uses_stand (uses_of c (c.statement i)) (uses_good c i (s.statements i l).uses) n in
         let q =
         subst
-        (λ (j : ℕ). (j < c.statements) × (k : ℕ) × (k < length (uses_of c (c.statement j))) × StandsAt c (get_or (uses_of c (c.statement j)) k use-of.Nothing) b)
+        (λ (j : ℕ). (j < c.statements) × (k : ℕ) × (k < length (uses_of c (c.statement j))) × StandsAt c (get_or (uses_of c (c.statement j)) k None) b)
         (sym r.0) (l, r.1, r.2, r.3) in
         (r.0, record { low = q.0; use_number = q.1; used = q.2; here = q.3 })
 
@@ -304,11 +303,11 @@ module _ (c : Code) (s : SoundCode c) (b : Broken) where
 
 -- ---- the unit
 
-pub breaches_of_lem : (u : List ℕ) (p : Parts) → check_of u ≡ checked.Passed p → breaches_of u ≡ statements_broken (code_of u p) p.n 0
+pub breaches_of_lem : (u : List ℕ) (p : Parts) → check_of u ≡ Ok p → breaches_of u ≡ statements_broken (code_of u p) p.n 0
 unfolding breaches_of
 breaches_of_lem u p e = rw e
 
-broken_in_lem : (u : List ℕ) (p : Parts) (i : ℕ) → check_of u ≡ checked.Passed p → broken_in u i ≡ cond (ltb i p.n) (broken_of (code_of u p) i) []
+broken_in_lem : (u : List ℕ) (p : Parts) (i : ℕ) → check_of u ≡ Ok p → broken_in u i ≡ cond (ltb i p.n) (broken_of (code_of u p) i) []
 unfolding broken_in
 broken_in_lem u p i e = rw e
 

@@ -1,18 +1,16 @@
 -- Faults that a fenced unit may give: not 21, and 22 only where it may be.
 --   mildb may e        e is such a fault, where 22 may be or not
 --   mild_num may r      r is a number, or such a fault
---   MildFault M e      e is not 21, and M holds where it is 22; MildNum M r the same of a number
+--   MildFault M e      e is not 21, and M holds where it is 22; MildAnswer M r the same of what is answered, a number or a turn
 --   Mild P             P holds of an expression that fails so
 -- Assumes nothing.
+use Rattle.std.specs.Prelude.{Result, Err, Ok}
 use mathlib.Core.Path.{◌≡◌, refl, ap}
 use mathlib.Core.Bool.{Bool, true, false, false≢true}
 use lib.IntN.{ℤ}
 use Rattle.rules.specs.declared.Fault.{Fault}
 use Rattle.rules.specs.declared.Fault.TheVariants as fault
-use Rattle.rules.specs.declared.Num.{Num}
-use Rattle.rules.specs.declared.Num.TheVariants.{Value, Failed}
 use Rattle.rules_run.specs.declared.Worked.{Worked}
-use Rattle.rules_run.specs.declared.Worked.TheVariants as worked
 use Rattle.rules_run.proofs.Faults.{passes}
 
 abbrev pub mildb : Bool → Fault → Bool
@@ -28,7 +26,7 @@ mildb may fault.ZeroStep = true
 mildb may fault.LoopsFull = true
 mildb may fault.NoLoop = true
 
-abbrev pub mild_num : Bool → Num → Bool
+abbrev pub mild_num : Bool → Result ℤ Fault → Bool
 mild_num may r = passes (mildb may) r
 
 abbrev pub MildFault : Type 0 → Fault → Type 0
@@ -71,20 +69,20 @@ mild_plain M fault.ZeroStep m = tt
 mild_plain M fault.LoopsFull m = tt
 mild_plain M fault.NoLoop m = tt
 
-abbrev pub MildNum : Type 0 → Num → Type 0
-MildNum M (Value v) = Unit {0}
-MildNum M (Failed e) = MildFault M e
+abbrev pub MildAnswer : {A : Type 0} → Type 0 → Result A Fault → Type 0
+MildAnswer M (Ok v) = Unit {0}
+MildAnswer M (Err e) = MildFault M e
 
-pub num_plain : (M : Type 0) (r : Num) → mild_num false r ≡ true → MildNum M r
-num_plain M (Value v) m = tt
-num_plain M (Failed e) m = mild_plain M e m
+pub num_plain : (M : Type 0) (r : Result ℤ Fault) → mild_num false r ≡ true → MildAnswer M r
+num_plain M (Ok v) m = tt
+num_plain M (Err e) m = mild_plain M e m
 
-pub num_fault : (M : Type 0) (r : Num) → mild_num true r ≡ true → (r ≡ Failed fault.BadDigit → M) → MildNum M r
-num_fault M (Value v) m f = tt
-num_fault M (Failed e) m f = mild_fault M e m (λ q. f (ap Failed q))
+pub num_fault : (M : Type 0) (r : Result ℤ Fault) → mild_num true r ≡ true → (r ≡ Err fault.BadDigit → M) → MildAnswer M r
+num_fault M (Ok v) m f = tt
+num_fault M (Err e) m f = mild_fault M e m (λ q. f (ap Err q))
 
-pub mild_value : (may : Bool) {r : Num} → (z : ℤ) × (r ≡ Value z) → mild_num may r ≡ true
+pub mild_value : (may : Bool) {r : Result ℤ Fault} → (z : ℤ) × (r ≡ Ok z) → mild_num may r ≡ true
 mild_value may g = rw g.1 refl
 
-abbrev pub Mild : (Worked → Type 0) → Type 0
-Mild P = (e : Fault) → mildb false e ≡ true → P (worked.Failed e)
+abbrev pub Mild : (Result Worked Fault → Type 0) → Type 0
+Mild P = (e : Fault) → mildb false e ≡ true → P (Err e)

@@ -1,5 +1,6 @@
 -- The offset of a listed reference: at that offset of the expressions stands an item that is that reference.
 -- Assumes nothing.
+use Rattle.std.specs.Prelude.{None, Option, Some}
 use Prim.Native.Nat.{ℕ, ◌+◌}
 use native.Mathlib.Omega.{arith}
 use mathlib.Core.Path.{◌≡◌, sym, ap, ◌∙◌, subst}
@@ -9,7 +10,6 @@ use Rattle.rules_unit.specs.declared.Parts.{Parts}
 use Rattle.rules_unit.specs.declared.Item.{Item}
 use Rattle.rules_unit.specs.declared.Item.TheVariants as item
 use Rattle.rules_unit.specs.declared.Use.{Use}
-use Rattle.rules_unit.specs.declared.Use.TheVariants as use-of
 use Rattle.rules_unit.specs.Decode.{item_at, width_of, follow, items_at, expressions_at, code_of}
 use Rattle.rules_unit.specs.Table.{uses_of}
 use Rattle.rules_unit.proofs.Items.{items_step}
@@ -59,9 +59,9 @@ item_along s at (y ∷ before) x after e =
 -- ---- a listed reference
 
 pub stands_there : (u : List ℕ) (p : Parts) (b : Broken) → Stands (code_of u p) b → item_at (take p.e (drop (expressions_at p) u)) b.at ≡ item.Reference b.form b.field
-stands_there u p b r = by (get_or (uses_of (code_of u p) ((code_of u p).statement b.statement)) r.use_number use-of.Nothing) r.here
+stands_there u p b r = by (get_or (uses_of (code_of u p) ((code_of u p).statement b.statement)) r.use_number None) r.here
   where
-    by : (x : Use) → StandsAt (code_of u p) x b → item_at (take p.e (drop (expressions_at p) u)) b.at ≡ item.Reference b.form b.field
-    by use-of.Nothing n = absurd n
-    by (use-of.Of w at written) t =
-        rw t.offset (item_along (take p.e (drop (expressions_at p) u)) at t.before (item.Reference b.form b.field) t.after t.items)
+    by : (x : Option Use) → StandsAt (code_of u p) x b → item_at (take p.e (drop (expressions_at p) u)) b.at ≡ item.Reference b.form b.field
+    by None n = absurd n
+    by (Some x) t =
+        rw t.offset (item_along (take p.e (drop (expressions_at p) u)) x.at t.before (item.Reference b.form b.field) t.after t.items)

@@ -3,6 +3,7 @@
 --   use_span c x        the span of a use that is written
 --   names_span, span_names    it is the one that the statement with quantifiers names
 -- Assumes nothing.
+use Rattle.std.specs.Prelude.{None, Option, Some}
 use Prim.Native.Nat.{ℕ}
 use mathlib.Core.Path.{◌≡◌, refl, sym, ◌∙◌, subst}
 use mathlib.Core.Bool.{Bool, true, false, cond}
@@ -11,10 +12,8 @@ use Rattle.rules_unit.specs.declared.Form.{Form}
 use Rattle.rules_unit.specs.declared.Item.{Item}
 use Rattle.rules_unit.specs.declared.Item.TheVariants as item
 use Rattle.rules_unit.specs.declared.Use.{Use}
-use Rattle.rules_unit.specs.declared.Use.TheVariants as use-of
 use Rattle.rules_unit.specs.Codes.{Code}
 use Rattle.rules_run.specs.declared.Span.{Span}
-use Rattle.rules_run.specs.declared.Span.TheVariants.{Outside}
 use Rattle.rules_fence.specs.declared.Seen.{Seen}
 use Rattle.rules_fence.specs.declared.Seen.TheVariants as seen
 use Rattle.rules_fence.specs.Bounds.{seen_after, seen_in, boundedb, fixed_span}
@@ -22,27 +21,27 @@ use Rattle.rules_fence.specs.Destinations.{PlaceNames, Writes, Covers}
 use Rattle.rules_fence.proofs.Bounded.{seen_along, bounds_seen, seen_bounds, unbounded}
 
 -- A last reference, where the bounds s stand before it.
-abbrev pub last_span : Code → Seen → Item → Span
-last_span c s (item.Number place len) = Outside
+abbrev pub last_span : Code → Seen → Item → Option Span
+last_span c s (item.Number place len) = None
 last_span c s (item.Reference h field) = fixed_span c h field s
-last_span c s (item.Text place len) = Outside
-last_span c s (item.Operator o) = Outside
-last_span c s item.End = Outside
-last_span c s item.Bad = Outside
+last_span c s (item.Text place len) = None
+last_span c s (item.Operator o) = None
+last_span c s item.End = None
+last_span c s item.Bad = None
 
 -- "A *place* ends with a reference": the item i and those after it.
-unfoldable pub span_from : Code → Seen → Item → List Item → Span
+unfoldable pub span_from : Code → Seen → Item → List Item → Option Span
 span_from c s i [] = last_span c s i
 span_from c s i (j ∷ is) = span_from c (seen_after c s i) j is
 
-unfoldable pub place_span : Code → List Item → Span
-place_span c [] = Outside
+unfoldable pub place_span : Code → List Item → Option Span
+place_span c [] = None
 place_span c (i ∷ is) = span_from c seen.Nothing i is
 
 -- Outside for a use that is read.
-abbrev pub use_span : Code → Use → Span
-use_span c use-of.Nothing = Outside
-use_span c (use-of.Of w at written) = cond written (place_span c (c.items at)) Outside
+abbrev pub use_span : Code → Option Use → Option Span
+use_span c None = None
+use_span c (Some u) = cond u.written (place_span c (c.items u.at)) None
 
 module _ (c : Code) where
   -- ---- the span named is that of the place
@@ -58,7 +57,7 @@ module _ (c : Code) where
     last_span_lem [] = refl
     last_span_lem (i ∷ b) = from_last seen.Nothing i b
 
-  pub names_span : (is : List Item) (span : Span) → PlaceNames c is span → place_span c is ≡ span
+  pub names_span : (is : List Item) (span : Option Span) → PlaceNames c is span → place_span c is ≡ span
   names_span is span r =
       let w = r.names in
       rw r.items
@@ -75,7 +74,7 @@ module _ (c : Code) where
         by true e =
             let w = seen_bounds c f done h e in
             record { before = done; h = h; f = f; items = refl; names = record { x = w.x; y = w.y; bounds = w.bounds; is_span = sym w.span } }
-        by false e = absurd (subst (λ (x : Span). Covers x b) (unbounded c f h (seen_in c seen.Nothing done) e) v)
+        by false e = absurd (subst (λ (x : Option Span). Covers x b) (unbounded c f h (seen_in c seen.Nothing done) e) v)
 
     item_names : (i : Item) (done : List Item) → Covers (last_span c (seen_in c seen.Nothing done) i) b
         → PlaceNames c (done ++ (i ∷ [])) (last_span c (seen_in c seen.Nothing done) i)
@@ -103,7 +102,10 @@ module _ (c : Code) where
 
     -- ---- uses
 
-    pub use_writes : (x : Use) → Covers (use_span c x) b → Writes c x (use_span c x)
-    use_writes use-of.Nothing v = absurd v
-    use_writes (use-of.Of w at true) v = (refl, span_names (c.items at) v)
-    use_writes (use-of.Of w at false) v = absurd v
+    pub use_writes : (x : Option Use) → Covers (use_span c x) b → Writes c x (use_span c x)
+    use_writes None v = absurd v
+    use_writes (Some u) v = by u.written refl v
+      where
+        by : (t : Bool) → u.written ≡ t → Covers (cond t (place_span c (c.items u.at)) None) b → Writes c (Some u) (cond t (place_span c (c.items u.at)) None)
+        by true e v = (e, span_names (c.items u.at) v)
+        by false e v = absurd v

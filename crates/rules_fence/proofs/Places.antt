@@ -3,6 +3,8 @@
 --   PlaceOk c dest span t a n      n bytes from a on are the span, that of a fenced reference to a field which is decimal as t says
 --   WorkedOk c dest span w         what a fenced expression may come to, where its last reference has that span
 -- Assumes nothing.
+use Rattle.std.specs.Prelude.{Result, Err, Ok, None, Option, Some}
+use Rattle.rules.specs.declared.Fault.{Fault}
 use Prim.Native.Nat.{ℕ, ◌<◌, ◌≤◌}
 use mathlib.Core.Path.{◌≡◌, refl, sym}
 use mathlib.Core.Bool.{Bool, true, false, cond}
@@ -18,10 +20,9 @@ use Rattle.rules_unit.specs.declared.Form.TheVariants as form
 use Rattle.rules_unit.specs.Codes.{Code, rule_of, decimalb}
 use Rattle.rules_unit.specs.Sound.{SoundCode}
 use Rattle.rules_run.specs.declared.Span.{Span}
-use Rattle.rules_run.specs.declared.Span.TheVariants.{At, Outside}
 use Rattle.rules_run.specs.declared.Worked.{Worked}
 use Rattle.rules_run.specs.declared.Worked.TheVariants as worked
-use Rattle.rules_run.specs.Spans.{span_of, span_by}
+use Rattle.rules_run.specs.Spans.{span_of, span_by, span_at}
 use Rattle.rules_run.specs.Evaluation.{as_place, place_by, place}
 use Rattle.rules_run.proofs.Located.{span_some}
 use Rattle.rules_run.proofs.Strict.{found_held}
@@ -39,19 +40,19 @@ HeldAs (seen.Two x y plain) [] = ⊥
 HeldAs (seen.Two x y plain) (v ∷ []) = ⊥
 HeldAs (seen.Two x y plain) (v ∷ (w ∷ st)) = (v ≡ y) × (w ≡ x)
 
-pub record PlaceOk (c : Code) (dest : Bool) (span : Span) (decimal : Bool) (a n : ℕ) : Type 0 where
+pub record PlaceOk (c : Code) (dest : Bool) (span : Option Span) (decimal : Bool) (a n : ℕ) : Type 0 where
   pub field : ℕ
   pub known : field < c.fields
   pub kind : decimalb c field ≡ decimal
-  pub is : span ≡ At a n
+  pub is : span ≡ span_at a n
   pub fenced : SpanFenced c dest field a n
   pub some : 1 ≤ n
 
-abbrev pub WorkedOk : Code → Bool → Span → Worked → Type 0
-WorkedOk c dest span (worked.Number v) = Unit {0}
-WorkedOk c dest span (worked.Place decimal a n) = PlaceOk c dest span decimal a n
-WorkedOk c dest span (worked.Text p l) = Unit {0}
-WorkedOk c dest span (worked.Failed e) = mildb false e ≡ true
+abbrev pub WorkedOk : Code → Bool → Option Span → Result Worked Fault → Type 0
+WorkedOk c dest span (Ok (worked.Number v)) = Unit {0}
+WorkedOk c dest span (Ok (worked.Place decimal a n)) = PlaceOk c dest span decimal a n
+WorkedOk c dest span (Ok (worked.Text p l)) = Unit {0}
+WorkedOk c dest span (Err e) = mildb false e ≡ true
 
 module _ (c : Code) (s : SoundCode c) (d : List ℕ) (e : length d ≡ c.size) where
   -- ---- the span that the values held give is the fixed one
@@ -86,28 +87,28 @@ module _ (c : Code) (s : SoundCode c) (d : List ℕ) (e : length d ≡ c.size) w
     -- ---- a last reference
 
     -- the fence rules keep a span inside its field, so it is found by either rule
-    pub kept_found : (r : Rule) (h : Form) (x y : ℤ) (span : Span) → span ≡ span_of (length d) (c.field f) h x y → SpanKept c dest f span → span_by r (length d) (c.field f) h x y ≡ span
-    kept_found r h x y Outside q k = absurd k
-    kept_found r h x y (At a n) q k = found_held (length d) (c.field f) r h x y (k.from, k.to) (sym q)
+    pub kept_found : (r : Rule) (h : Form) (x y : ℤ) (span : Option Span) → span ≡ span_of (length d) (c.field f) h x y → SpanKept c dest f span → span_by r (length d) (c.field f) h x y ≡ span
+    kept_found r h x y None q k = absurd k
+    kept_found r h x y (Some s) q k = found_held (length d) (c.field f) r h x y (k.from, k.to) (sym q)
 
     module _ (h : Form) (x y : ℤ) where
-      as_place_lem : (span : Span) → f < c.fields → span ≡ span_of (length d) (c.field f) h x y → SpanKept c dest f span → WorkedOk c dest span (as_place c f span)
-      as_place_lem Outside k q r = absurd r
-      as_place_lem (At a n) k q r = by (decimalb c f) refl (ltb c.dialect.limit n)
+      as_place_lem : (span : Option Span) → f < c.fields → span ≡ span_of (length d) (c.field f) h x y → SpanKept c dest f span → WorkedOk c dest span (as_place c f span)
+      as_place_lem None k q r = absurd r
+      as_place_lem (Some v) k q r = by (decimalb c f) refl (ltb c.dialect.limit v.len)
         where
-          ok : (t : Bool) → decimalb c f ≡ t → PlaceOk c dest (At a n) t a n
+          ok : (t : Bool) → decimalb c f ≡ t → PlaceOk c dest (span_at v.start v.len) t v.start v.len
           ok t z = record { field = f; known = k; kind = z; is = refl; fenced = r; some = span_some (length d) (c.field f) h x y (s.entries f k).own.some (sym q) }
 
-          by : (t : Bool) → decimalb c f ≡ t → (u : Bool) → WorkedOk c dest (At a n) (cond t (cond u (worked.Failed fault.TooLong) (worked.Place true a n)) (worked.Place false a n))
+          by : (t : Bool) → decimalb c f ≡ t → (u : Bool) → WorkedOk c dest (Some v) (cond t (cond u (Err fault.TooLong) (Ok (worked.Place true v.start v.len))) (Ok (worked.Place false v.start v.len)))
           by true z true = refl
           by true z false = ok true z
           by false z u = ok false z
 
-      place_by_lem : (span : Span) → span ≡ span_of (length d) (c.field f) h x y → SpanKept c dest f span → WorkedOk c dest span (place_by c d h f x y)
+      place_by_lem : (span : Option Span) → span ≡ span_of (length d) (c.field f) h x y → SpanKept c dest f span → WorkedOk c dest span (place_by c d h f x y)
       unfolding place_by
       place_by_lem span q r = by (ltb f c.fields) refl
         where
-          by : (t : Bool) → ltb f c.fields ≡ t → WorkedOk c dest span (cond t (as_place c f (span_by (rule_of (c.field f)) (length d) (c.field f) h x y)) (worked.Failed fault.Malformed))
+          by : (t : Bool) → ltb f c.fields ≡ t → WorkedOk c dest span (cond t (as_place c f (span_by (rule_of (c.field f)) (length d) (c.field f) h x y)) (Err fault.Malformed))
           by true p = rw (kept_found (rule_of (c.field f)) h x y span q r) (as_place_lem span (ltb-true f c.fields p) q r)
           by false p = refl
 

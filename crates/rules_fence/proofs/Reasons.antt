@@ -2,6 +2,7 @@
 --   span_breaks, span_named             of a span
 --   reference_breaks, reference_named   of a reference
 -- Assumes nothing.
+use Rattle.std.specs.Prelude.{None, Option, Some}
 use Prim.Native.Nat.{ℕ, zero, suc, ◌+◌, ◌<◌, ◌≤◌, max}
 use native.Mathlib.Omega.{arith}
 use mathlib.Core.Path.{◌≡◌, refl, sym, ap, ◌∙◌}
@@ -16,8 +17,7 @@ use Rattle.rules_unit.specs.Codes.{Code, decimalb, offset_of, size_of, element_a
 use Rattle.rules_unit.specs.Sound.{SoundCode}
 use Rattle.rules_unit.proofs.Fields.{some_byte}
 use Rattle.rules_run.specs.declared.Span.{Span}
-use Rattle.rules_run.specs.declared.Span.TheVariants.{At, Outside}
-use Rattle.rules_run.specs.Spans.{span_of}
+use Rattle.rules_run.specs.Spans.{span_of, span_at}
 use Rattle.rules_run.proofs.Located.{span_some}
 use Rattle.rules_fence.specs.declared.Breach.{Breach}
 use Rattle.rules_fence.specs.declared.Breach.TheVariants as breach
@@ -118,7 +118,7 @@ module _ (c : Code) (s : SoundCode c) (a n : ℕ) (o : 1 ≤ n) where
   -- ---- the span
 
   module _ (dest : Bool) (f : ℕ) (h : f < c.fields) where
-    pub span_breaks : keepsb (span_breach c dest f (At a n)) ≡ false → SpanBreaks c dest f a n (span_breach c dest f (At a n))
+    pub span_breaks : keepsb (span_breach c dest f (span_at a n)) ≡ false → SpanBreaks c dest f a n (span_breach c dest f (span_at a n))
     span_breaks = by (leb (offset_of c f) a) (leb (a + n) (end_of c f)) (decimalb c f) refl refl refl
       where
         by : (x y z : Bool) → leb (offset_of c f) a ≡ x → leb (a + n) (end_of c f) ≡ y → decimalb c f ≡ z
@@ -128,10 +128,10 @@ module _ (c : Code) (s : SoundCode c) (a n : ℕ) (o : 1 ≤ n) where
         by true false z p q t e = λ i. omega (arith, leb-false (a + n) (end_of c f) q, i.1)
         by false y z p q t e = λ i. omega (arith, leb-false (offset_of c f) a p, i.0)
 
-    inside_named : Inside c f a n → span_breach c dest f (At a n) ≡ cond (decimalb c f) (element_breach c dest f a n) (alpha_breach c dest a n)
+    inside_named : Inside c f a n → span_breach c dest f (span_at a n) ≡ cond (decimalb c f) (element_breach c dest f a n) (alpha_breach c dest a n)
     inside_named i = rw (le-leb (offset_of c f) a i.0, le-leb (a + n) (end_of c f) i.1)
 
-    leaves_named : (Inside c f a n → ⊥) → span_breach c dest f (At a n) ≡ breach.LeavesField
+    leaves_named : (Inside c f a n → ⊥) → span_breach c dest f (span_at a n) ≡ breach.LeavesField
     leaves_named out = by (leb (offset_of c f) a) (leb (a + n) (end_of c f)) refl refl
       where
         by : (x y : Bool) → leb (offset_of c f) a ≡ x → leb (a + n) (end_of c f) ≡ y
@@ -140,7 +140,7 @@ module _ (c : Code) (s : SoundCode c) (a n : ℕ) (o : 1 ≤ n) where
         by true false p q = refl
         by false y p q = refl
 
-    pub span_named : (b : Breach) → SpanBreaks c dest f a n b → span_breach c dest f (At a n) ≡ b
+    pub span_named : (b : Breach) → SpanBreaks c dest f a n b → span_breach c dest f (span_at a n) ≡ b
     span_named breach.None r = absurd r
     span_named breach.BoundNotLiteral r = absurd r
     span_named breach.BoundsWrong r = absurd r
@@ -152,10 +152,10 @@ module _ (c : Code) (s : SoundCode c) (a n : ℕ) (o : 1 ≤ n) where
 -- ---- a reference
 
 module _ (c : Code) (s : SoundCode c) (dest : Bool) (f : ℕ) (l : f < c.fields) (h : Form) (before : List Item) where
-  some : (x y : ℤ) (a n : ℕ) → span_of c.size (c.field f) h x y ≡ At a n → 1 ≤ n
+  some : (x y : ℤ) (a n : ℕ) → span_of c.size (c.field f) h x y ≡ span_at a n → 1 ≤ n
   some x y a n e = span_some c.size (c.field f) h x y (s.entries f l).own.some e
 
-  named_breaks : (a n : ℕ) (b : Breach) → Names c h f before (At a n) → SpanBreaks c dest f a n b → RefBreaks c dest h f before b
+  named_breaks : (a n : ℕ) (b : Breach) → Names c h f before (span_at a n) → SpanBreaks c dest f a n b → RefBreaks c dest h f before b
   named_breaks a n breach.None w r = r
   named_breaks a n breach.BoundNotLiteral w r = absurd r
   named_breaks a n breach.BoundsWrong w r = absurd r
@@ -164,9 +164,9 @@ module _ (c : Code) (s : SoundCode c) (dest : Bool) (f : ℕ) (l : f < c.fields)
   named_breaks a n breach.StopsMidElement w r = record { a = a; n = n; names = w; breaks = r }
   named_breaks a n breach.OnDecimal w r = record { a = a; n = n; names = w; breaks = r }
 
-  by_span : (span : Span) → Names c h f before span → keepsb (span_breach c dest f span) ≡ false → RefBreaks c dest h f before (span_breach c dest f span)
-  by_span (At a n) w e = named_breaks a n (span_breach c dest f (At a n)) w (span_breaks c s a n (some w.x w.y a n w.is_span) dest f l e)
-  by_span Outside w e = w
+  by_span : (span : Option Span) → Names c h f before span → keepsb (span_breach c dest f span) ≡ false → RefBreaks c dest h f before (span_breach c dest f span)
+  by_span (Some z) w e = named_breaks z.start z.len (span_breach c dest f (span_at z.start z.len)) w (span_breaks c s z.start z.len (some w.x w.y z.start z.len w.is_span) dest f l e)
+  by_span None w e = w
 
   pub reference_breaks : let b = reference_breach c dest h f (seen_in c seen.Nothing before) in keepsb b ≡ false → RefBreaks c dest h f before b
   unfolding reference_breach
@@ -180,7 +180,7 @@ module _ (c : Code) (s : SoundCode c) (dest : Bool) (f : ℕ) (l : f < c.fields)
       by false p e = λ x y b. false≢true (sym p ∙ (bounds_seen c f h before x y b).bounded)
 
   -- Bounds that name a span, as the tests hold them.
-  names_named : (span : Span) → Names c h f before span → reference_breach c dest h f (seen_in c seen.Nothing before) ≡ span_breach c dest f span
+  names_named : (span : Option Span) → Names c h f before span → reference_breach c dest h f (seen_in c seen.Nothing before) ≡ span_breach c dest f span
   unfolding reference_breach
   names_named span w =
       let q = bounds_seen c f h before w.x w.y w.bounds in
@@ -188,7 +188,7 @@ module _ (c : Code) (s : SoundCode c) (dest : Bool) (f : ℕ) (l : f < c.fields)
 
   span_is : (b : Breach) → NamedBreaks c dest h f before b → reference_breach c dest h f (seen_in c seen.Nothing before) ≡ b
   span_is b r =
-      names_named (At r.a r.n) r.names
+      names_named (span_at r.a r.n) r.names
       ∙ span_named c s r.a r.n (some r.names.x r.names.y r.a r.n r.names.is_span) dest f l b r.breaks
 
   unbounded : ((x y : ℤ) → Bounds c h before x y → ⊥) → reference_breach c dest h f (seen_in c seen.Nothing before) ≡ breach.BoundNotLiteral
@@ -203,7 +203,7 @@ module _ (c : Code) (s : SoundCode c) (dest : Bool) (f : ℕ) (l : f < c.fields)
   pub reference_named : (b : Breach) → RefBreaks c dest h f before b → reference_breach c dest h f (seen_in c seen.Nothing before) ≡ b
   reference_named breach.None r = absurd r
   reference_named breach.BoundNotLiteral r = unbounded r
-  reference_named breach.BoundsWrong r = names_named Outside r
+  reference_named breach.BoundsWrong r = names_named None r
   reference_named breach.LeavesField r = span_is breach.LeavesField r
   reference_named breach.OverElements r = span_is breach.OverElements r
   reference_named breach.StopsMidElement r = span_is breach.StopsMidElement r

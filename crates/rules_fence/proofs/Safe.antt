@@ -1,6 +1,7 @@
 -- A run of a fenced unit over valid data (the owner's letter, demand 3): however it stops, no byte outside the destinations has changed, every
 -- decimal element is valid, no 21 was given, trapped or not, and 22 only by a statement that moves alpha text to a decimal place.
 -- Assumes nothing.
+use Rattle.std.specs.Prelude.{Result, Err, Ok}
 use Prim.Native.Nat.{ℕ, zero, suc, ◌<◌}
 use native.Mathlib.Omega.{arith}
 use mathlib.Core.Path.{◌≡◌, refl, sym, ap, ◌∙◌, subst}
@@ -19,14 +20,14 @@ use Rattle.rules_run.specs.declared.Flow.TheVariants as flow
 use Rattle.rules_run.specs.declared.State.{State}
 use Rattle.rules_run.specs.declared.Stop.{Stop}
 use Rattle.rules_run.specs.declared.Stop.TheVariants as stop
-use Rattle.rules_run.specs.declared.Write.{Write}
+use Rattle.rules_run.specs.declared.Turn.{Turn}
 use Rattle.rules_run.specs.States.{Sound, called, returned, unhandled, look_of}
 use Rattle.rules_run.specs.Stops.{stop_number}
-use Rattle.rules_run.specs.Turns.{Room, turn_of}
-use Rattle.rules_run.specs.Runs.{Moved, to, stuck, moved_by, data_after, Ran, ended, run_from}
+use Rattle.rules_run.specs.Turns.{turn_of}
+use Rattle.rules_run.specs.Runs.{Moved, to, stuck, moved_by, led_by, data_after, Ran, ended, run_from}
 use Rattle.rules_run.specs.Answers.{Reaches, Gives}
-use Rattle.rules_run.proofs.Outside.{applied_length, applied_outside}
-use Rattle.rules_run.proofs.Room.{turn_room}
+use Rattle.rules_run.proofs.Outside.{turn_length}
+use Rattle.rules_run.proofs.Room.{TurnRoom, turn_room}
 use Rattle.rules_run.proofs.SoundRuns.{In, step_sound}
 use Rattle.rules_run.proofs.States.{look_sound}
 use Rattle.rules_run.proofs.Steps.{every_run}
@@ -34,9 +35,8 @@ use Rattle.rules_run.proofs.Traps.{error_case}
 use Rattle.rules_fence.specs.Fence.{Fenced}
 use Rattle.rules_fence.specs.Destinations.{AllValid, BadText}
 use Rattle.rules_fence.specs.Safety.{Safe}
-use Rattle.rules_fence.proofs.Aims.{aim_destination, applied_valid, touches_covered}
-use Rattle.rules_fence.proofs.Mild.{MildFault}
-use Rattle.rules_fence.proofs.Moves.{MildFlow}
+use Rattle.rules_fence.proofs.Aims.{aim_destination, turn_valid, turn_outside}
+use Rattle.rules_fence.proofs.Mild.{MildFault, MildAnswer}
 use Rattle.rules_fence.proofs.Turns.{aim_of, TurnAims, turn_ok}
 
 -- ---- faults
@@ -67,23 +67,26 @@ mild_22 M fault.ZeroStep m q = absurd (omega arith)
 mild_22 M fault.LoopsFull m q = absurd (omega arith)
 mild_22 M fault.NoLoop m q = absurd (omega arith)
 
--- Where a mild flow leads.
+-- Where a mild turn leads.
 abbrev MovedOk : Type 0 → Moved → Type 0
 MovedOk M (to s) = Unit {0}
 MovedOk M (stuck x) = MildFault M x
 
-moved_ok : (n : ℕ) (s : State) (M : Type 0) (f : Flow) → MildFlow M f → MovedOk M (moved_by n s f)
+moved_ok : (n : ℕ) (s : State) (M : Type 0) (f : Flow) → MovedOk M (moved_by n s f)
 unfolding moved_by
-moved_ok n s M flow.Next m = tt
-moved_ok n s M (flow.Goto i) m = tt
-moved_ok n s M (flow.Call i) m = cond_either (MovedOk M) (ltb s.depth 50) (to (called s i)) (stuck fault.CallsFull) tt tt
-moved_ok n s M flow.Return m = cond_either (MovedOk M) (eqb s.depth 0) (stuck fault.NoCall) (to (returned s)) tt tt
-moved_ok n s M flow.Stop m = tt
-moved_ok n s M (flow.Enter limit step) m = tt
-moved_ok n s M (flow.Leave i) m = tt
-moved_ok n s M (flow.Arm i) m = tt
-moved_ok n s M flow.Disarm m = tt
-moved_ok n s M (flow.Bad x) m = error_case (MovedOk M) s x (λ z. m) (λ i q r. tt)
+moved_ok n s M flow.Next = tt
+moved_ok n s M (flow.Goto i) = tt
+moved_ok n s M (flow.Call i) = cond_either (MovedOk M) (ltb s.depth 50) (to (called s i)) (stuck fault.CallsFull) tt tt
+moved_ok n s M flow.Return = cond_either (MovedOk M) (eqb s.depth 0) (stuck fault.NoCall) (to (returned s)) tt tt
+moved_ok n s M flow.Stop = tt
+moved_ok n s M (flow.Enter limit step) = tt
+moved_ok n s M (flow.Leave i) = tt
+moved_ok n s M (flow.Arm i) = tt
+moved_ok n s M flow.Disarm = tt
+
+led_ok : (n : ℕ) (s : State) (M : Type 0) (t : Result Turn Fault) → MildAnswer M t → MovedOk M (led_by n s t)
+led_ok n s M (Ok t) m = moved_ok n s M t.flow
+led_ok n s M (Err x) m = error_case (MovedOk M) s x (λ z. m) (λ i q r. tt)
 
 -- ---- the run
 
@@ -101,12 +104,12 @@ module _ (c : Code) (o : In c) (s : SoundCode c) (limit : Limit c.dialect.limit)
 
   -- A completed statement leaves data of the same length, all valid.
   left_length : (d : List ℕ) (t : State) → length (data_after c t d) ≡ length d
-  left_length d t = applied_length c d (turn_of c (look_of t) t.at d).write (turn_room c d limit bound (look_of t) t.at)
+  left_length d t = turn_length c d (turn_of c (look_of t) t.at d) (turn_room c d limit bound (look_of t) t.at)
 
   left_valid : (d : List ℕ) (t : State) → length d ≡ c.size → AllValid c d → Sound c t → t.at < c.statements → AllValid c (data_after c t d)
   left_valid d t e v y h =
       let ok = aims d t e v y h in
-      applied_valid c s d e v (aim_of c (c.statement ok.at)) (turn_of c (look_of t) t.at d).write (turn_room c d limit bound (look_of t) t.at) ok.ok.aimed
+      turn_valid c s d e v (aim_of c (c.statement ok.at)) (turn_of c (look_of t) t.at d) (turn_room c d limit bound (look_of t) t.at) ok.ok.aimed
 
   -- After a completed statement, what is safe from there on is safe from here on.
   through : (d : List ℕ) (t : State) (x : Ran) → length d ≡ c.size → AllValid c d → Sound c t → t.at < c.statements
@@ -114,16 +117,15 @@ module _ (c : Code) (o : In c) (s : SoundCode c) (limit : Limit c.dialect.limit)
   through d t x e v y h more =
       record {
         length_kept = next.length_kept ∙ left_length d t;
-        outside = λ b o. next.outside b o ∙ applied_outside c d w room b (λ z. o (aim_destination c ok.at ok.low b (touches_covered c s d e v (aim_of c (c.statement ok.at)) w room ok.ok.aimed b z)));
+        outside =
+            λ b o. next.outside b o
+            ∙ turn_outside c s d e v (aim_of c (c.statement ok.at)) (turn_of c (look_of t) t.at d) room ok.ok.aimed b (λ z. o (aim_destination c ok.at ok.low b z));
         valid = next.valid;
         no_21 = next.no_21;
         only_22 = next.only_22;
       }
     where
-      w : Write
-      w = (turn_of c (look_of t) t.at d).write
-
-      room : Room c (length d) (turn_of c (look_of t) t.at d).write
+      room : TurnRoom c (length d) (turn_of c (look_of t) t.at d)
       room = turn_room c d limit bound (look_of t) t.at
 
       ok : TurnAims c d (BadText c d (c.statement t.at)) (turn_of c (look_of t) t.at d)
@@ -140,7 +142,7 @@ module _ (c : Code) (o : In c) (s : SoundCode c) (limit : Limit c.dialect.limit)
       (λ m t d k f h q e v y.
       let ok = aims d t e v y h in
       let M = BadText c d (c.statement t.at) in
-      let mild : MildFault M f = subst (MovedOk M) q (moved_ok c.statements t M (turn_of c (look_of t) t.at d).flow ok.ok.mild) in
+      let mild : MildFault M f = subst (MovedOk M) q (led_ok c.statements t M (turn_of c (look_of t) t.at d) ok.ok.mild) in
       stays d (stop.Failed f) t k v (mild_21 M f mild) (λ z. (h, mild_22 M f mild z)))
       (λ m t t' d k x h q more e v y. through d t x e v y h (λ f w. more f w (step_sound c o s d y h q)))
 
@@ -158,4 +160,4 @@ module _ (c : Code) (o : In c) (s : SoundCode c) (limit : Limit c.dialect.limit)
       let z = reached_valid g.done t d e v y g.at g.seen g.reached in
       let M = BadText c g.seen (c.statement g.at.at) in
       let ok = aims g.seen g.at z.0 z.1.0 z.1.1 g.low in
-      subst (MovedOk M) g.here (moved_ok c.statements (unhandled g.at) M (turn_of c (look_of g.at) g.at.at g.seen).flow ok.ok.mild)
+      subst (MovedOk M) g.here (led_ok c.statements (unhandled g.at) M (turn_of c (look_of g.at) g.at.at g.seen) ok.ok.mild)

@@ -1,5 +1,6 @@
 -- The tests of one span (document 01, "Fence rules"): there is no breach exactly when the rules hold.
 -- Assumes nothing.
+use Rattle.rules_run.specs.Spans.{span_at}
 use Prim.Native.Nat.{ℕ, zero, suc, ◌+◌, ◌-◌, ◌/◌, ◌<◌, ◌≤◌, max}
 use native.Mathlib.Omega.{arith}
 use native.Mathlib.Nat.{div-mul-le_self, div-eq_of_lt-le, div-lt_iff_lt-mul}
@@ -11,7 +12,6 @@ use Rattle.rules_unit.specs.Codes.{Code, decimalb, offset_of, size_of, count_of,
 use Rattle.rules_unit.specs.Sound.{SoundCode}
 use Rattle.rules_unit.proofs.Fields.{some_byte}
 use Rattle.rules_unit.proofs.Tells.{Tells, tells_le, tells_eq, tells_as, tells_and}
-use Rattle.rules_run.specs.declared.Span.TheVariants.{At}
 use Rattle.rules_fence.specs.declared.Breach.TheVariants as breach
 use Rattle.rules_fence.specs.Fence.{InElement, SpanFenced}
 use Rattle.rules_fence.specs.Breaches.{end_breach, element_breach, apart_of, apart_from, alpha_breach, span_breach}
@@ -97,7 +97,7 @@ module _ (c : Code) (s : SoundCode c) (a n : ℕ) (o : 1 ≤ n) where
 
   -- ---- the span
 
-  pub span_tells : (dest : Bool) (f : ℕ) → f < c.fields → Kept (span_breach c dest f (At a n)) (SpanFenced c dest f a n)
+  pub span_tells : (dest : Bool) (f : ℕ) → f < c.fields → Kept (span_breach c dest f (span_at a n)) (SpanFenced c dest f a n)
   span_tells dest f h =
       kept_as
       (λ r. record { from = r.0; to = r.1.0; element = r.1.1.0; apart = λ t q g b hg tg. r.1.1.1 t q g hg tg b })

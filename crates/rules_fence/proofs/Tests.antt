@@ -1,5 +1,6 @@
 -- The fence check's tests (document 01, "Fence rules"): of a sound unit a statement has no breach exactly when it keeps the rules.
 -- Assumes nothing.
+use Rattle.std.specs.Prelude.{None, Option, Some}
 use Prim.Native.Nat.{ℕ, zero, suc, ◌<◌}
 use native.Mathlib.Omega.{arith}
 use mathlib.Core.Path.{◌≡◌, refl, sym}
@@ -13,14 +14,12 @@ use Rattle.rules_unit.specs.declared.Form.TheVariants as form
 use Rattle.rules_unit.specs.declared.Item.{Item}
 use Rattle.rules_unit.specs.declared.Item.TheVariants as item
 use Rattle.rules_unit.specs.declared.Use.{Use}
-use Rattle.rules_unit.specs.declared.Use.TheVariants as use-of
 use Rattle.rules_unit.specs.Codes.{Code}
 use Rattle.rules_unit.specs.Expressions.{Known, itemb, useb}
 use Rattle.rules_unit.specs.Table.{uses_of}
 use Rattle.rules_unit.specs.Sound.{SoundCode}
 use Rattle.rules_unit.proofs.Statements.{uses_good}
 use Rattle.rules_run.specs.declared.Span.{Span}
-use Rattle.rules_run.specs.declared.Span.TheVariants.{At, Outside}
 use Rattle.rules_run.specs.Spans.{span_of}
 use Rattle.rules_run.proofs.Located.{span_some}
 use Rattle.rules_fence.specs.declared.Seen.{Seen}
@@ -37,9 +36,9 @@ module _ (c : Code) (s : SoundCode c) where
   -- ---- references
 
   module _ (dest : Bool) (f : ℕ) (k : f < c.fields) where
-    by_span : (h : Form) (x y : ℤ) (span : Span) → span ≡ span_of c.size (c.field f) h x y → Kept (span_breach c dest f span) (SpanKept c dest f span)
-    by_span h x y (At a n) q = span_tells c s a n (span_some c.size (c.field f) h x y (s.entries f k).own.some (sym q)) dest f k
-    by_span h x y Outside q = kept_never _ refl
+    by_span : (h : Form) (x y : ℤ) (span : Option Span) → span ≡ span_of c.size (c.field f) h x y → Kept (span_breach c dest f span) (SpanKept c dest f span)
+    by_span h x y (Some z) q = span_tells c s z.start z.len (span_some c.size (c.field f) h x y (s.entries f k).own.some (sym q)) dest f k
+    by_span h x y None q = kept_never _ refl
 
     found : (h : Form) (x y : ℤ) → Kept (span_breach c dest f (span_of c.size (c.field f) h x y)) (SpanKept c dest f (span_of c.size (c.field f) h x y))
     found h x y = by_span h x y (span_of c.size (c.field f) h x y) refl
@@ -78,21 +77,21 @@ module _ (c : Code) (s : SoundCode c) where
 
   -- ---- statements
 
-  pub use_tells : (x : Use) → useb c x ≡ true → Kept (use_breach c x) (UseFenced c x)
-  use_tells use-of.Nothing e = kept_none
-  use_tells (use-of.Of w at written) e = expr_tells written (c.items at) (known_of c w at e)
+  pub use_tells : (x : Option Use) → useb c x ≡ true → Kept (use_breach c x) (UseFenced c x)
+  use_tells None e = kept_none
+  use_tells (Some u) e = expr_tells u.written (c.items u.at) (known_of c u.want u.at e)
 
-  uses_tell : (us : List Use) → ((k : ℕ) → k < length us → useb c (get_or us k use-of.Nothing) ≡ true)
-      → Kept (uses_breach c us) ((k : ℕ) → k < length us → UseFenced c (get_or us k use-of.Nothing))
+  uses_tell : (us : List (Option Use)) → ((k : ℕ) → k < length us → useb c (get_or us k None) ≡ true)
+      → Kept (uses_breach c us) ((k : ℕ) → k < length us → UseFenced c (get_or us k None))
   unfolding uses_breach
   uses_tell [] e = record { to = λ q k h. absurd (omega arith); of = λ r. refl }
   uses_tell (x ∷ xs) e = kept_as gives asks (kept_first (use_tells x (e 0 (omega arith))) (uses_tell xs (λ k h. e (suc k) (omega arith))))
     where
-      gives : UseFenced c x × ((k : ℕ) → k < length xs → UseFenced c (get_or xs k use-of.Nothing)) → (k : ℕ) → k < length (x ∷ xs) → UseFenced c (get_or (x ∷ xs) k use-of.Nothing)
+      gives : UseFenced c x × ((k : ℕ) → k < length xs → UseFenced c (get_or xs k None)) → (k : ℕ) → k < length (x ∷ xs) → UseFenced c (get_or (x ∷ xs) k None)
       gives r zero h = r.0
       gives r (suc k) h = r.1 k (omega arith)
 
-      asks : ((k : ℕ) → k < length (x ∷ xs) → UseFenced c (get_or (x ∷ xs) k use-of.Nothing)) → UseFenced c x × ((k : ℕ) → k < length xs → UseFenced c (get_or xs k use-of.Nothing))
+      asks : ((k : ℕ) → k < length (x ∷ xs) → UseFenced c (get_or (x ∷ xs) k None)) → UseFenced c x × ((k : ℕ) → k < length xs → UseFenced c (get_or xs k None))
       asks f = (f 0 (omega arith), λ k h. f (suc k) (omega arith))
 
   pub statement_tells : (i : ℕ) → i < c.statements → Kept (breach_of c i) (StatementFenced c (c.statement i))

@@ -4,6 +4,8 @@
 --   aim_of c s        the destination of the statement s; Outside where it has none
 --   TurnAims c d M t  the turn t stores at the destination of a statement of the unit, and M holds where it is 22
 -- Assumes nothing.
+use Rattle.rules.specs.declared.Fault.{Fault}
+use Rattle.std.specs.Prelude.{Err, None, Option, Result}
 use Prim.Native.Nat.{ℕ, ◌<◌}
 use native.Mathlib.Omega.{arith}
 use mathlib.Core.Path.{◌≡◌, refl, sym, ap, ◌∙◌, subst}
@@ -15,13 +17,11 @@ use lib.IntN.{ℤ}
 use lib.ListN.{length, get_or}
 use borrow.Author.Tests.{eqb-true, eqb-false}
 use Rattle.rules.specs.declared.Fault.TheVariants as fault
-use Rattle.rules.specs.declared.Num.TheVariants.{Failed}
 use Rattle.rules.specs.Values.{Letters}
 use Rattle.rules.specs.Moves.{alpha_of}
 use Rattle.rules_unit.specs.declared.Sort.{Sort}
 use Rattle.rules_unit.specs.declared.Sort.TheVariants as sort
 use Rattle.rules_unit.specs.declared.Want.TheVariants as want
-use Rattle.rules_unit.specs.declared.Use.TheVariants as use-of
 use Rattle.rules_unit.specs.declared.Statement.{Statement}
 use Rattle.rules_unit.specs.declared.Act.{Act}
 use Rattle.rules_unit.specs.declared.Act.TheVariants as act
@@ -36,7 +36,6 @@ use Rattle.rules_unit.proofs.Sorts.{suits_right}
 use Rattle.rules_unit.proofs.Statements.{uses_good, Used}
 use Rattle.rules_unit.proofs.Table.{verb_for}
 use Rattle.rules_run.specs.declared.Span.{Span}
-use Rattle.rules_run.specs.declared.Span.TheVariants.{Outside}
 use Rattle.rules_run.specs.declared.Flow.{Flow}
 use Rattle.rules_run.specs.declared.Flow.TheVariants as flow
 use Rattle.rules_run.specs.declared.Turn.{Turn}
@@ -51,19 +50,19 @@ use Rattle.rules_fence.specs.Fence.{ExprFenced, UseFenced, Fenced}
 use Rattle.rules_fence.specs.Destinations.{AllValid, BadText}
 use Rattle.rules_fence.proofs.Exact.{expr_to}
 use Rattle.rules_fence.proofs.Expressions.{worked_ok}
-use Rattle.rules_fence.proofs.Jumps.{if_mild, choose_mild, number_mild, on_number_lem}
+use Rattle.rules_fence.proofs.Jumps.{number_mild, on_number_lem}
 use Rattle.rules_fence.proofs.Loops.{enters_ok, repeats_ok, exits_ok}
-use Rattle.rules_fence.proofs.Moves.{MildFlow, TurnOk, failed_ok, goes_ok, on_place_lem, source_ok, clear_ok, count_ok, case_ok, edit_ok}
+use Rattle.rules_fence.proofs.Moves.{TurnOk, failed_ok, goes_ok, on_place_lem, source_ok, clear_ok, count_ok, case_ok, edit_ok}
 use Rattle.rules_fence.proofs.PlaceSpans.{place_span, use_span}
 use Rattle.rules_fence.proofs.Places.{PlaceOk, WorkedOk}
 
-abbrev pub aim_by : Code → Row → Statement → Span
+abbrev pub aim_by : Code → Row → Statement → Option Span
 aim_by c r s = use_span c (use_of r.a s.a)
 
-abbrev pub aim_of : Code → Statement → Span
+abbrev pub aim_of : Code → Statement → Option Span
 aim_of c s = aim_by c (row_of (verb_of s.code)) s
 
-pub record TurnAims (c : Code) (d : List ℕ) (M : Type 0) (t : Turn) : Type 0 where
+pub record TurnAims (c : Code) (d : List ℕ) (M : Type 0) (t : Result Turn Fault) : Type 0 where
   pub at : ℕ
   pub low : at < c.statements
   pub ok : TurnOk c d (aim_of c (c.statement at)) M t
@@ -77,13 +76,13 @@ module _ (c : Code) (s : SoundCode c) (letters : Letters c.dialect.sign) (d : Li
 
   -- M is where 22 may be
   module _ (M : Type 0) where
-    at_place : (a : ℕ) (k : Bool → ℕ → ℕ → Turn) → ExprFenced c true (c.items a)
+    at_place : (a : ℕ) (k : Bool → ℕ → ℕ → Result Turn Fault) → ExprFenced c true (c.items a)
         → ((decimal : Bool) (x n : ℕ) → PlaceOk c true (place_span c (c.items a)) decimal x n → TurnOk c d (place_span c (c.items a)) M (k decimal x n))
         → TurnOk c d (place_span c (c.items a)) M (on_place (worked_of c d (c.items a)) k)
     at_place a k r h = on_place_lem c d (place_span c (c.items a)) M (worked_of c d (c.items a)) k (fenced true a r) (λ decimal x n q p. h decimal x n p)
 
     set_ok : (a b : ℕ) → suits want.Place (sort_at c a) ≡ true → suits want.Source (sort_at c b) ≡ true → ExprFenced c true (c.items a) → ExprFenced c false (c.items b)
-        → (sort_at c a ≡ sort.Decimal → alpha_sort (sort_at c b) ≡ true → alpha_of c.dialect.top (text_of c d (worked_of c d (c.items b))) ≡ Failed fault.BadDigit → M)
+        → (sort_at c a ≡ sort.Decimal → alpha_sort (sort_at c b) ≡ true → alpha_of c.dialect.top (text_of c d (worked_of c d (c.items b))) ≡ Err fault.BadDigit → M)
         → TurnOk c d (place_span c (c.items a)) M (on_place (worked_of c d (c.items a)) (λ decimal x n. move_worked c d decimal x n (worked_of c d (c.items b))))
     set_ok a b x y r q m =
         on_place_lem c d (place_span c (c.items a)) M (worked_of c d (c.items a)) _ (fenced true a r)
@@ -93,15 +92,15 @@ module _ (c : Code) (s : SoundCode c) (letters : Letters c.dialect.sign) (d : Li
         (sort_comes c d b (suits_right want.Source (sort_at c b) y)) (fenced false b q)
         (λ t g f. m (decimal_place (sort_at c a) decimal kind t) g f))
 
-    jump_ok : (b : ℕ) (k : ℤ → Flow) → ((z : ℤ) → MildFlow M (k z)) → ExprFenced c false (c.items b)
-        → TurnOk c d Outside M (on_number (number_of c d (worked_of c d (c.items b))) k)
-    jump_ok b k h r =
-        on_number_lem c d M (number_of c d (worked_of c d (c.items b))) k (number_mild c s d e v (place_span c (c.items b)) (worked_of c d (c.items b)) (fenced false b r)) h
+    jump_ok : (b : ℕ) (k : ℤ → Flow) → ExprFenced c false (c.items b)
+        → TurnOk c d None M (on_number (number_of c d (worked_of c d (c.items b))) k)
+    jump_ok b k r =
+        on_number_lem c d M (number_of c d (worked_of c d (c.items b))) k (number_mild c s d e v (place_span c (c.items b)) (worked_of c d (c.items b)) (fenced false b r))
 
   -- ---- statements
 
   abbrev Kept : Row → Statement → Type 0
-  Kept r t = (k : ℕ) → k < length (uses_by c r t) → UseFenced c (get_or (uses_by c r t) k use-of.Nothing)
+  Kept r t = (k : ℕ) → k < length (uses_by c r t) → UseFenced c (get_or (uses_by c r t) k None)
 
   act_ok : (t : Statement) (x : Act) → verb_of t.code ≡ verb.At x → Used c (row_of (verb.At x)) t → Kept (row_of (verb.At x)) t
       → TurnOk c d (aim_by c (row_of (verb.At x)) t) (BadText c d t) (on_place (worked_of c d (c.items t.a)) (act_at c d x t))
@@ -117,18 +116,18 @@ module _ (c : Code) (s : SoundCode c) (letters : Letters c.dialect.sign) (d : Li
 
   module _ (l : Look) where
     -- The turn y of the statement t, of the verb x, stores at its own destination, or at that of the entry of the loop opened last.
-    abbrev Stores : Statement → Verb → Turn → Type 0
+    abbrev Stores : Statement → Verb → Result Turn Fault → Type 0
     Stores t x y = TurnOk c d (aim_by c (row_of x) t) (BadText c d t) y ⊎ ((0 < l.opened) × TurnOk c d (aim_of c (entry_of c l)) (BadText c d t) y)
 
     -- The control place of the loop opened last is the destination of a FOR.
     abbrev Controlled : Type 0
     Controlled = 0 < l.opened → (verb_of (entry_of c l).code ≡ verb.For) × ExprFenced c true (c.items (entry_of c l).a)
 
-    again_ok : Controlled → (t : Statement) → TurnOk c d Outside (BadText c d t) (repeats c l d) ⊎ ((0 < l.opened) × TurnOk c d (aim_of c (entry_of c l)) (BadText c d t) (repeats c l d))
+    again_ok : Controlled → (t : Statement) → TurnOk c d None (BadText c d t) (repeats c l d) ⊎ ((0 < l.opened) × TurnOk c d (aim_of c (entry_of c l)) (BadText c d t) (repeats c l d))
     again_ok o t = by (eqb l.opened 0) refl
       where
-        by : (b : Bool) → eqb l.opened 0 ≡ b → TurnOk c d Outside (BadText c d t) (repeats c l d) ⊎ ((0 < l.opened) × TurnOk c d (aim_of c (entry_of c l)) (BadText c d t) (repeats c l d))
-        by true q = inl (rw (repeats_none c l d (eqb-true l.opened 0 q)) (failed_ok c d Outside (BadText c d t) fault.NoLoop tt))
+        by : (b : Bool) → eqb l.opened 0 ≡ b → TurnOk c d None (BadText c d t) (repeats c l d) ⊎ ((0 < l.opened) × TurnOk c d (aim_of c (entry_of c l)) (BadText c d t) (repeats c l d))
+        by true q = inl (rw (repeats_none c l d (eqb-true l.opened 0 q)) (failed_ok c d None (BadText c d t) fault.NoLoop tt))
         by false q =
             let h : 0 < l.opened = omega (arith, eqb-false l.opened 0 q) in
             inr (h, subst (λ (x : Verb). TurnOk c d (aim_by c (row_of x) (entry_of c l)) (BadText c d t) (repeats c l d)) (sym (o h).0) (repeats_ok c s letters d e v (BadText c d t) l (λ z. (o z).1)))
@@ -136,26 +135,26 @@ module _ (c : Code) (s : SoundCode c) (letters : Letters c.dialect.sign) (d : Li
     by_verb : Controlled → (i : ℕ) (t : Statement) (x : Verb) → verb_of t.code ≡ x → Used c (row_of x) t → Kept (row_of x) t → Stores t x (turn_by c l i d x t)
     unfolding turn_by
     by_verb o i t (verb.At x) q u r = inl (act_ok t x q u r)
-    by_verb o i t verb.Goto q u r = inl (goes_ok c d Outside (BadText c d t) (flow.Goto t.c) tt)
-    by_verb o i t verb.IfZero q u r = inl (jump_ok (BadText c d t) t.b (if_zero t.c) (if_mild (BadText c d t) t.c) (r 1 (omega arith)))
-    by_verb o i t verb.Call q u r = inl (goes_ok c d Outside (BadText c d t) (flow.Call t.c) tt)
-    by_verb o i t verb.Return q u r = inl (goes_ok c d Outside (BadText c d t) flow.Return tt)
-    by_verb o i t verb.Stop q u r = inl (goes_ok c d Outside (BadText c d t) flow.Stop tt)
-    by_verb o i t verb.Computed q u r = inl (jump_ok (BadText c d t) t.b (choose i t.a) (choose_mild (BadText c d t) i t.a) (r 1 (omega arith)))
+    by_verb o i t verb.Goto q u r = inl (goes_ok c d None (BadText c d t) (flow.Goto t.c))
+    by_verb o i t verb.IfZero q u r = inl (jump_ok (BadText c d t) t.b (if_zero t.c) (r 1 (omega arith)))
+    by_verb o i t verb.Call q u r = inl (goes_ok c d None (BadText c d t) (flow.Call t.c))
+    by_verb o i t verb.Return q u r = inl (goes_ok c d None (BadText c d t) flow.Return)
+    by_verb o i t verb.Stop q u r = inl (goes_ok c d None (BadText c d t) flow.Stop)
+    by_verb o i t verb.Computed q u r = inl (jump_ok (BadText c d t) t.b (choose i t.a) (r 1 (omega arith)))
     by_verb o i t verb.For q u r = inl (enters_ok c s letters d e v (BadText c d t) l t (r 0 (omega arith)) (r 1 (omega arith)) (r 3 (omega arith)) (r 4 (omega arith)))
     by_verb o i t verb.LoopEnd q u r = again_ok o t
-    by_verb o i t verb.ExitLoop q u r = inl (exits_ok c s letters d e v (BadText c d t) Outside l)
+    by_verb o i t verb.ExitLoop q u r = inl (exits_ok c s letters d e v (BadText c d t) None l)
     by_verb o i t verb.NextLoop q u r = again_ok o t
-    by_verb o i t verb.OnError q u r = inl (goes_ok c d Outside (BadText c d t) (flow.Arm t.c) tt)
-    by_verb o i t verb.OffError q u r = inl (goes_ok c d Outside (BadText c d t) flow.Disarm tt)
-    by_verb o i t verb.Bad q u r = inl (failed_ok c d Outside (BadText c d t) fault.Malformed tt)
+    by_verb o i t verb.OnError q u r = inl (goes_ok c d None (BadText c d t) (flow.Arm t.c))
+    by_verb o i t verb.OffError q u r = inl (goes_ok c d None (BadText c d t) flow.Disarm)
+    by_verb o i t verb.Bad q u r = inl (failed_ok c d None (BadText c d t) fault.Malformed tt)
 
     module _ (known : LookSound c l) (r : Fenced c) where
       for_controlled : Controlled
       for_controlled h =
           let x = known.last h in
           let q = verb_for (entry_of c l).code x.enters in
-          (q, subst (λ (y : Verb). UseFenced c (get_or (uses_by c (row_of y) (entry_of c l)) 0 use-of.Nothing)) q ((r.all l.last.entry x.low).each 0 (omega arith)))
+          (q, subst (λ (y : Verb). UseFenced c (get_or (uses_by c (row_of y) (entry_of c l)) 0 None)) q ((r.all l.last.entry x.low).each 0 (omega arith)))
 
       pub turn_ok : (i : ℕ) → i < c.statements → TurnAims c d (BadText c d (c.statement i)) (turn_of c l i d)
       unfolding turn_of

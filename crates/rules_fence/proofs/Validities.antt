@@ -2,6 +2,7 @@
 --   validity_exactly           .. of the unit and the data
 --   earlier_valid, before_valid    the elements before the first that is not valid are valid
 -- Assumes nothing.
+use Rattle.std.specs.Prelude.{Result, Err, Ok}
 use Prim.Native.Nat.{ℕ, zero, suc, ◌+◌, ◌<◌}
 use native.Mathlib.Omega.{arith}
 use mathlib.Core.Path.{◌≡◌, refl, sym, ap, ◌∙◌, subst}
@@ -15,8 +16,6 @@ use Rattle.rules.specs.Values.{Valid}
 use Rattle.rules.proofs.Valid.{valid_of, valid_to}
 use Rattle.rules_unit.specs.declared.Parts.{Parts}
 use Rattle.rules_unit.specs.declared.Refusal.{Refusal}
-use Rattle.rules_unit.specs.declared.Checked.{Checked}
-use Rattle.rules_unit.specs.declared.Checked.TheVariants as checked
 use Rattle.rules_unit.specs.Codes.{Code, decimalb, count_of}
 use Rattle.rules_unit.specs.Decode.{parts_of, code_of}
 use Rattle.rules_unit.specs.Checks.{check_of}
@@ -138,7 +137,7 @@ module _ (u d : List ℕ) where
   unfolding validity_of
   validity_says = by (check_of u) refl
     where
-      passed : SoundUnit u (parts_of u) → ValiditySays u d (validity_by u d (checked.Passed (parts_of u)))
+      passed : SoundUnit u (parts_of u) → ValiditySays u d (validity_by u d (Ok (parts_of u)))
       passed t = sized (eqb (length d) (parts_of u).d) refl
         where
           sized : (b : Bool) → eqb (length d) (parts_of u).d ≡ b → ValiditySays u d (cond b (fields_from (code_of u (parts_of u)) d (parts_of u).f 0) validity.WrongSize)
@@ -147,18 +146,18 @@ module _ (u d : List ℕ) where
               (fields_mean (code_of u (parts_of u)) d (parts_of u).f 0 (omega arith) (λ g h. absurd (omega arith)))
           sized false e = (t, eqb-false (length d) (parts_of u).d e)
 
-      by : (x : Checked) → check_of u ≡ x → ValiditySays u d (validity_by u d x)
-      by (checked.Passed p) e =
+      by : (x : Result Parts Refusal) → check_of u ≡ x → ValiditySays u d (validity_by u d x)
+      by (Ok p) e =
           let q = passed_parts u p e in
-          subst (λ (p : Parts). ValiditySays u d (validity_by u d (checked.Passed p))) (sym q) (passed (subst (SoundUnit u) q (passed_sound u p e)))
-      by (checked.Refused r) e = subst (Says u) e (check_says u)
+          subst (λ (p : Parts). ValiditySays u d (validity_by u d (Ok p))) (sym q) (passed (subst (SoundUnit u) q (passed_sound u p e)))
+      by (Err r) e = subst (Says u) e (check_says u)
 
-  not_both : (r : Refusal) → SoundUnit u (parts_of u) → Says u (checked.Refused r) → ⊥
-  not_both r t h = let q = sound_passed u (parts_of u) t in let e = check_only u (checked.Refused r) h in let z : ◌≡◌ {A = ℕ} 0 1 = cc in omega arith
+  not_both : (r : Refusal) → SoundUnit u (parts_of u) → Says u (Err r) → ⊥
+  not_both r t h = let q = sound_passed u (parts_of u) t in let e = check_only u (Err r) h in let z : ◌≡◌ {A = ℕ} 0 1 = cc in omega arith
 
   one_answer : (v w : Validity) → ValiditySays u d v → ValiditySays u d w → v ≡ w
   one_answer (validity.Refused r) (validity.Refused x) a b =
-      let e = check_only u (checked.Refused r) a in let f = check_only u (checked.Refused x) b in let q : r ≡ x = cc in ap validity.Refused q
+      let e = check_only u (Err r) a in let f = check_only u (Err x) b in let q : r ≡ x = cc in ap validity.Refused q
   one_answer (validity.Refused r) validity.WrongSize a b = absurd (not_both r b.0 a)
   one_answer (validity.Refused r) validity.AllValid a b = absurd (not_both r b.0 a)
   one_answer (validity.Refused r) (validity.Invalid g e) a b = absurd (not_both r b.0 a)

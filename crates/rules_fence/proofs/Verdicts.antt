@@ -1,6 +1,7 @@
 -- The fence check's answers (document 01, "Fence rules"): each is given exactly when what it says is so. A yes to a sound unit whose statements
 -- all keep the rules, a no with the first statement that breaks one, and a refusal that is the check's own.
 -- Assumes nothing.
+use Rattle.std.specs.Prelude.{Result, Err, Ok}
 use Prim.Native.Nat.{ℕ, zero, suc, ◌+◌, ◌<◌}
 use native.Mathlib.Omega.{arith}
 use mathlib.Core.Path.{◌≡◌, refl, sym, ap, ◌∙◌, subst}
@@ -11,8 +12,6 @@ use lib.Dec.{ltb}
 use borrow.Author.Tests.{ltb-true, ltb-false, lt-ltb}
 use Rattle.rules_unit.specs.declared.Parts.{Parts}
 use Rattle.rules_unit.specs.declared.Refusal.{Refusal}
-use Rattle.rules_unit.specs.declared.Checked.{Checked}
-use Rattle.rules_unit.specs.declared.Checked.TheVariants as checked
 use Rattle.rules_unit.specs.Codes.{Code}
 use Rattle.rules_unit.specs.Decode.{parts_of, code_of}
 use Rattle.rules_unit.specs.Checks.{check_of}
@@ -85,18 +84,18 @@ module _ (u : List ℕ) where
           says_means t (verdict_from (code_of u (parts_of u)) (parts_of u).n 0)
           (from_means (code_of u (parts_of u)) t.code (parts_of u).n 0 (omega arith) (λ j h. absurd (omega arith)))
 
-      by : (x : Checked) → check_of u ≡ x → FenceSays u (fence_by u x)
-      by (checked.Passed p) e =
+      by : (x : Result Parts Refusal) → check_of u ≡ x → FenceSays u (fence_by u x)
+      by (Ok p) e =
           let q = passed_parts u p e in
           subst (λ (p : Parts). FenceSays u (verdict_from (code_of u p) p.n 0)) (sym q) (passed (subst (SoundUnit u) q (passed_sound u p e)))
-      by (checked.Refused r) e = subst (Says u) e (check_says u)
+      by (Err r) e = subst (Says u) e (check_says u)
 
-  not_both : (r : Refusal) → SoundUnit u (parts_of u) → Says u (checked.Refused r) → ⊥
-  not_both r t h = let q = sound_passed u (parts_of u) t in let e = check_only u (checked.Refused r) h in let z : ◌≡◌ {A = ℕ} 0 1 = cc in omega arith
+  not_both : (r : Refusal) → SoundUnit u (parts_of u) → Says u (Err r) → ⊥
+  not_both r t h = let q = sound_passed u (parts_of u) t in let e = check_only u (Err r) h in let z : ◌≡◌ {A = ℕ} 0 1 = cc in omega arith
 
   one_answer : (v w : Verdict) → FenceSays u v → FenceSays u w → v ≡ w
   one_answer (verdict.Refused r) (verdict.Refused x) a b =
-      let e = check_only u (checked.Refused r) a in let f = check_only u (checked.Refused x) b in let q : r ≡ x = cc in ap verdict.Refused q
+      let e = check_only u (Err r) a in let f = check_only u (Err x) b in let q : r ≡ x = cc in ap verdict.Refused q
   one_answer (verdict.Refused r) verdict.Yes a b = absurd (not_both r b.0 a)
   one_answer (verdict.Refused r) (verdict.No j) a b = absurd (not_both r b.0 a)
   one_answer verdict.Yes (verdict.Refused x) a b = absurd (not_both x a.0 b)
@@ -112,7 +111,7 @@ module _ (u : List ℕ) where
 
   -- ---- the breach of a statement
 
-  pub breach_in_lem : (p : Parts) (i : ℕ) → check_of u ≡ checked.Passed p → i < p.n → breach_in u i ≡ breach_of (code_of u p) i
+  pub breach_in_lem : (p : Parts) (i : ℕ) → check_of u ≡ Ok p → i < p.n → breach_in u i ≡ breach_of (code_of u p) i
   unfolding breach_in
   breach_in_lem p i e h = rw (e, lt-ltb i p.n h)
 

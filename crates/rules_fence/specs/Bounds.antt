@@ -5,9 +5,8 @@
 --   boundedb form s       there are as many as the reference takes
 --   fixed_span c form f s  the bytes that the reference names by them
 -- Bounds that are written in the unit are the same in every run, so the span is fixed. Assumes nothing.
-use Rattle.std.specs.Prelude.{ℕ, Bool, true, false, cond, List, [], ◌∷◌, pos, neg_ℤ}
-use Rattle.rules.specs.declared.Num.{Num}
-use Rattle.rules.specs.declared.Num.TheVariants.{Value, Failed}
+use Rattle.rules.specs.declared.Fault.{Fault}
+use Rattle.std.specs.Prelude.{ℕ, Bool, true, false, cond, List, [], ◌∷◌, pos, neg_ℤ, Result, ℤ, Err, Ok, None, Option}
 use Rattle.rules_unit.specs.declared.Form.{Form}
 use Rattle.rules_unit.specs.declared.Form.TheVariants as form
 use Rattle.rules_unit.specs.declared.Op.{Op}
@@ -16,7 +15,6 @@ use Rattle.rules_unit.specs.declared.Item.{Item}
 use Rattle.rules_unit.specs.declared.Item.TheVariants as item
 use Rattle.rules_unit.specs.Codes.{Code}
 use Rattle.rules_run.specs.declared.Span.{Span}
-use Rattle.rules_run.specs.declared.Span.TheVariants.{Outside}
 use Rattle.rules_run.specs.Spans.{span_of}
 use Rattle.rules_run.specs.Evaluation.{literal_number}
 use Rattle.rules_fence.specs.declared.Seen.{Seen}
@@ -43,11 +41,11 @@ is_negate op.Xor = false
 -- ---- "a number literal, or one followed by negate, standing directly before"
 
 -- A literal is a bound, and the one before it stays one. No reference takes more than two.
-abbrev pub seen_number : Num → Seen → Seen
-seen_number (Failed e) s = seen.Nothing
-seen_number (Value v) seen.Nothing = seen.One v true
-seen_number (Value v) (seen.One y plain) = seen.Two y v true
-seen_number (Value v) (seen.Two x y plain) = seen.Two y v true
+abbrev pub seen_number : Result ℤ Fault → Seen → Seen
+seen_number (Err e) s = seen.Nothing
+seen_number (Ok v) seen.Nothing = seen.One v true
+seen_number (Ok v) (seen.One y plain) = seen.Two y v true
+seen_number (Ok v) (seen.Two x y plain) = seen.Two y v true
 
 -- Negate is a part of a bound where it follows the literal itself. A second negate is none.
 abbrev pub seen_negate : Seen → Seen
@@ -83,14 +81,14 @@ boundedb form.PosLength (seen.One y plain) = false
 boundedb form.PosLength (seen.Two x y plain) = true
 
 -- The span by the rule of document 01, of a strict field too: Outside where that gives 21, and where a bound is not written so.
-unfoldable pub fixed_span : Code → Form → ℕ → Seen → Span
+unfoldable pub fixed_span : Code → Form → ℕ → Seen → Option Span
 fixed_span c form.First f s = span_of c.size (c.field f) form.First (pos 0) (pos 0)
-fixed_span c form.Subscript f seen.Nothing = Outside
+fixed_span c form.Subscript f seen.Nothing = None
 fixed_span c form.Subscript f (seen.One y plain) = span_of c.size (c.field f) form.Subscript y (pos 0)
 fixed_span c form.Subscript f (seen.Two x y plain) = span_of c.size (c.field f) form.Subscript y (pos 0)
-fixed_span c form.StartEnd f seen.Nothing = Outside
-fixed_span c form.StartEnd f (seen.One y plain) = Outside
+fixed_span c form.StartEnd f seen.Nothing = None
+fixed_span c form.StartEnd f (seen.One y plain) = None
 fixed_span c form.StartEnd f (seen.Two x y plain) = span_of c.size (c.field f) form.StartEnd x y
-fixed_span c form.PosLength f seen.Nothing = Outside
-fixed_span c form.PosLength f (seen.One y plain) = Outside
+fixed_span c form.PosLength f seen.Nothing = None
+fixed_span c form.PosLength f (seen.One y plain) = None
 fixed_span c form.PosLength f (seen.Two x y plain) = span_of c.size (c.field f) form.PosLength x y

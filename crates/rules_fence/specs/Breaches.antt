@@ -6,22 +6,20 @@
 --   use_breach, breach_of c i      .. that a use breaks, and the statement i: its uses in order, references left to right
 --   fence_of u                    the check's answer; breach_in u i the breach of a statement of a unit in bytes
 -- Assumes nothing.
-use Rattle.std.specs.Prelude.{ℕ, zero, suc, ◌+◌, ◌-◌, ◌*◌, ◌/◌, Bool, true, false, cond, ◌||◌, List, [], ◌∷◌, ltb, leb, eqb}
+use Rattle.rules_unit.specs.declared.Refusal.{Refusal}
+use Rattle.rules_unit.specs.declared.Parts.{Parts}
+use Rattle.std.specs.Prelude.{ℕ, zero, suc, ◌+◌, ◌-◌, ◌*◌, ◌/◌, Bool, true, false, cond, ◌||◌, List, [], ◌∷◌, ltb, leb, eqb, Result, Err, Ok, None, Option, Some}
 use Rattle.rules.specs.Tests.{◌and◌}
 use Rattle.rules_unit.specs.declared.Field.{Field}
 use Rattle.rules_unit.specs.declared.Form.{Form}
 use Rattle.rules_unit.specs.declared.Item.{Item}
 use Rattle.rules_unit.specs.declared.Item.TheVariants as item
 use Rattle.rules_unit.specs.declared.Use.{Use}
-use Rattle.rules_unit.specs.declared.Use.TheVariants as use-of
-use Rattle.rules_unit.specs.declared.Checked.{Checked}
-use Rattle.rules_unit.specs.declared.Checked.TheVariants as checked
 use Rattle.rules_unit.specs.Codes.{Code, is_decimal, decimalb, offset_of, size_of, element_at, end_of}
 use Rattle.rules_unit.specs.Decode.{code_of}
 use Rattle.rules_unit.specs.Table.{uses_of}
 use Rattle.rules_unit.specs.Checks.{check_of}
 use Rattle.rules_run.specs.declared.Span.{Span}
-use Rattle.rules_run.specs.declared.Span.TheVariants.{At, Outside}
 use Rattle.rules_fence.specs.declared.Breach.{Breach}
 use Rattle.rules_fence.specs.declared.Breach.TheVariants as breach
 use Rattle.rules_fence.specs.declared.Verdict.{Verdict}
@@ -79,12 +77,12 @@ unfoldable pub alpha_breach : Code → Bool → ℕ → ℕ → Breach
 alpha_breach c dest a n = cond dest (cond (apart_from c a n c.fields 0) breach.None breach.OnDecimal) breach.None
 
 -- "the bounds are ones that 21 isn't given for, and the span lies inside the field's size x count bytes"
-abbrev pub span_breach : Code → Bool → ℕ → Span → Breach
-span_breach c dest f (At a n) =
-    cond (leb (offset_of c f) a)
-    (cond (leb (a + n) (end_of c f)) (cond (decimalb c f) (element_breach c dest f a n) (alpha_breach c dest a n)) breach.LeavesField)
+abbrev pub span_breach : Code → Bool → ℕ → Option Span → Breach
+span_breach c dest f (Some s) =
+    cond (leb (offset_of c f) s.start)
+    (cond (leb (s.start + s.len) (end_of c f)) (cond (decimalb c f) (element_breach c dest f s.start s.len) (alpha_breach c dest s.start s.len)) breach.LeavesField)
     breach.LeavesField
-span_breach c dest f Outside = breach.BoundsWrong
+span_breach c dest f None = breach.BoundsWrong
 
 -- ---- references, expressions, statements
 
@@ -105,11 +103,11 @@ unfoldable pub breach_from : Code → Bool → Seen → List Item → Breach
 breach_from c dest s [] = breach.None
 breach_from c dest s (i ∷ is) = let rest = breach_from c dest (seen_after c s i) is in first_of (item_breach c dest s i is) rest
 
-abbrev pub use_breach : Code → Use → Breach
-use_breach c use-of.Nothing = breach.None
-use_breach c (use-of.Of w at written) = breach_from c written seen.Nothing (c.items at)
+abbrev pub use_breach : Code → Option Use → Breach
+use_breach c None = breach.None
+use_breach c (Some u) = breach_from c u.written seen.Nothing (c.items u.at)
 
-unfoldable pub uses_breach : Code → List Use → Breach
+unfoldable pub uses_breach : Code → List (Option Use) → Breach
 uses_breach c [] = breach.None
 uses_breach c (x ∷ xs) = let rest = uses_breach c xs in first_of (use_breach c x) rest
 
@@ -124,17 +122,17 @@ verdict_from c zero i = verdict.Yes
 verdict_from c (suc k) i = let rest = verdict_from c k (i + 1) in cond (keepsb (breach_of c i)) rest (verdict.No i)
 
 -- "The check answers a refusal (1 to 5) with its place, yes, or no"
-abbrev pub fence_by : List ℕ → Checked → Verdict
-fence_by u (checked.Passed p) = verdict_from (code_of u p) p.n 0
-fence_by u (checked.Refused r) = verdict.Refused r
+abbrev pub fence_by : List ℕ → Result Parts Refusal → Verdict
+fence_by u (Ok p) = verdict_from (code_of u p) p.n 0
+fence_by u (Err r) = verdict.Refused r
 
 unfoldable pub fence_of : List ℕ → Verdict
 fence_of u = fence_by u (check_of u)
 
 -- The rule that the statement i breaks; none where the unit is refused or has no such statement.
-abbrev pub breach_by : List ℕ → ℕ → Checked → Breach
-breach_by u i (checked.Passed p) = cond (ltb i p.n) (breach_of (code_of u p) i) breach.None
-breach_by u i (checked.Refused r) = breach.None
+abbrev pub breach_by : List ℕ → ℕ → Result Parts Refusal → Breach
+breach_by u i (Ok p) = cond (ltb i p.n) (breach_of (code_of u p) i) breach.None
+breach_by u i (Err r) = breach.None
 
 unfoldable pub breach_in : List ℕ → ℕ → Breach
 breach_in u i = breach_by u i (check_of u)

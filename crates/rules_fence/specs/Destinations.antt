@@ -7,9 +7,8 @@
 --   BadText c d s         over the data d the statement s moves alpha text to a decimal place, and that text is no number
 -- The spans are those that the bounds written in the unit give. Of a unit without a yes a destination may depend on the run, and nothing is said here.
 -- Assumes nothing.
-use Rattle.std.specs.Prelude.{ℕ, ◌+◌, ◌<◌, ◌≤◌, ◌≡◌, true, List, [], ◌∷◌, ◌++◌, length, take, drop, get_or}
+use Rattle.std.specs.Prelude.{ℕ, ◌+◌, ◌<◌, ◌≤◌, ◌≡◌, true, List, [], ◌∷◌, ◌++◌, length, take, drop, get_or, Err, None, Option, Some}
 use Rattle.rules.specs.declared.Fault.TheVariants as fault
-use Rattle.rules.specs.declared.Num.TheVariants.{Failed}
 use Rattle.rules.specs.Values.{Valid}
 use Rattle.rules.specs.Moves.{alpha_of}
 use Rattle.rules_unit.specs.declared.Form.{Form}
@@ -20,19 +19,17 @@ use Rattle.rules_unit.specs.declared.Act.TheVariants as act
 use Rattle.rules_unit.specs.declared.Verb.TheVariants as verb
 use Rattle.rules_unit.specs.declared.Sort.TheVariants as sort
 use Rattle.rules_unit.specs.declared.Use.{Use}
-use Rattle.rules_unit.specs.declared.Use.TheVariants as use-of
 use Rattle.rules_unit.specs.Codes.{Code, decimalb, size_of, count_of, element_at}
 use Rattle.rules_unit.specs.Expressions.{alpha_sort, sort_at}
 use Rattle.rules_unit.specs.Table.{verb_of, uses_of, WritesA}
 use Rattle.rules_run.specs.declared.Span.{Span}
-use Rattle.rules_run.specs.declared.Span.TheVariants.{At, Outside}
 use Rattle.rules_run.specs.Evaluation.{worked_of, text_of}
 use Rattle.rules_fence.specs.Fence.{Names}
 
 -- ---- destinations
 
 -- "A *place* ends with a reference (02 to 05)": the span that it names.
-pub record PlaceNames (c : Code) (is : List Item) (span : Span) : Type 0 where
+pub record PlaceNames (c : Code) (is : List Item) (span : Option Span) : Type 0 where
   pub before : List Item
   pub h : Form
   pub f : ℕ
@@ -40,13 +37,13 @@ pub record PlaceNames (c : Code) (is : List Item) (span : Span) : Type 0 where
   pub names : Names c h f before span
 
 -- A use that is written names it; one that is read names no destination.
-abbrev pub Writes : Code → Use → Span → Type 0
-Writes c use-of.Nothing span = ⊥
-Writes c (use-of.Of w at written) span = (written ≡ true) × PlaceNames c (c.items at) span
+abbrev pub Writes : Code → Option Use → Option Span → Type 0
+Writes c None span = ⊥
+Writes c (Some u) span = (u.written ≡ true) × PlaceNames c (c.items u.at) span
 
-abbrev pub Covers : Span → ℕ → Type 0
-Covers (At a n) b = (a ≤ b) × (b < a + n)
-Covers Outside b = ⊥
+abbrev pub Covers : Option Span → ℕ → Type 0
+Covers (Some s) b = (s.start ≤ b) × (b < s.start + s.len)
+Covers None b = ⊥
 
 -- "A destination is the span named by place a of codes 1 to 6", and of 13 and 14: by the table, a use that is written. The byte b lies in that of the statement whose
 -- number is given, reachable or not.
@@ -55,8 +52,8 @@ pub record Destination (c : Code) (b : ℕ) : Type 0 where
   pub low : statement_number < c.statements
   pub use_number : ℕ
   pub used : use_number < length (uses_of c (c.statement statement_number))
-  pub span : Span
-  pub writes : Writes c (get_or (uses_of c (c.statement statement_number)) use_number use-of.Nothing) span
+  pub span : Option Span
+  pub writes : Writes c (get_or (uses_of c (c.statement statement_number)) use_number None) span
   pub covers : Covers span b
 
 -- The same by the codes, as document 01 has it.
@@ -64,7 +61,7 @@ pub record InPlaceA (c : Code) (b : ℕ) : Type 0 where
   pub statement_number : ℕ
   pub low : statement_number < c.statements
   pub coded : WritesA (c.statement statement_number).code
-  pub span : Span
+  pub span : Option Span
   pub names : PlaceNames c (c.items (c.statement statement_number).a) span
   pub covers : Covers span b
 
@@ -83,4 +80,4 @@ BadText c d s =
     (verb_of s.code ≡ verb.At act.Set)
     × (sort_at c s.a ≡ sort.Decimal)
     × (alpha_sort (sort_at c s.b) ≡ true)
-    × (alpha_of c.dialect.top (text_of c d (worked_of c d (c.items s.b))) ≡ Failed fault.BadDigit)
+    × (alpha_of c.dialect.top (text_of c d (worked_of c d (c.items s.b))) ≡ Err fault.BadDigit)

@@ -11,8 +11,7 @@
 --   Fenced c                     every statement
 --   Breaks c i                   the statement i is the first that breaks a rule
 -- Unreachable statements count too. Assumes nothing.
-use Rattle.std.specs.Prelude.{ℕ, ◌+◌, ◌<◌, ◌≤◌, ◌≡◌, Bool, true, false, List, [], ◌∷◌, ◌++◌, ◌⊎◌, ℤ, pos, neg_ℤ, length, get_or}
-use Rattle.rules.specs.declared.Num.TheVariants.{Value}
+use Rattle.std.specs.Prelude.{ℕ, ◌+◌, ◌<◌, ◌≤◌, ◌≡◌, Bool, true, false, List, [], ◌∷◌, ◌++◌, ◌⊎◌, ℤ, pos, neg_ℤ, length, get_or, Ok, None, Option, Some}
 use Rattle.rules_unit.specs.declared.Form.{Form}
 use Rattle.rules_unit.specs.declared.Form.TheVariants as form
 use Rattle.rules_unit.specs.declared.Op.TheVariants as op
@@ -20,11 +19,9 @@ use Rattle.rules_unit.specs.declared.Item.{Item}
 use Rattle.rules_unit.specs.declared.Item.TheVariants as item
 use Rattle.rules_unit.specs.declared.Statement.{Statement}
 use Rattle.rules_unit.specs.declared.Use.{Use}
-use Rattle.rules_unit.specs.declared.Use.TheVariants as use-of
 use Rattle.rules_unit.specs.Codes.{Code, decimalb, offset_of, size_of, count_of, element_at, end_of}
 use Rattle.rules_unit.specs.Table.{uses_of}
 use Rattle.rules_run.specs.declared.Span.{Span}
-use Rattle.rules_run.specs.declared.Span.TheVariants.{At, Outside}
 use Rattle.rules_run.specs.Spans.{span_of}
 use Rattle.rules_run.specs.Evaluation.{literal_number}
 
@@ -34,14 +31,14 @@ pub record Literal (c : Code) (is : List Item) (v : ℤ) : Type 0 where
   pub place : ℕ
   pub len : ℕ
   pub items : is ≡ item.Number place len ∷ []
-  pub value : literal_number c place len ≡ Value v
+  pub value : literal_number c place len ≡ Ok v
 
 pub record Negated (c : Code) (is : List Item) (v : ℤ) : Type 0 where
   pub place : ℕ
   pub len : ℕ
   pub magnitude : ℤ
   pub items : is ≡ item.Number place len ∷ (item.Operator op.Negate ∷ [])
-  pub value : literal_number c place len ≡ Value magnitude
+  pub value : literal_number c place len ≡ Ok magnitude
   pub sign : neg_ℤ magnitude ≡ v
 
 abbrev pub Bound : Code → List Item → ℤ → Type 0
@@ -70,7 +67,7 @@ Bounds c form.StartEnd before x y = TwoBounds c before x y
 Bounds c form.PosLength before x y = TwoBounds c before x y
 
 -- The span that a reference names by its bounds.
-pub record Names (c : Code) (h : Form) (f : ℕ) (before : List Item) (span : Span) : Type 0 where
+pub record Names (c : Code) (h : Form) (f : ℕ) (before : List Item) (span : Option Span) : Type 0 where
   pub x : ℤ
   pub y : ℤ
   pub bounds : Bounds c h before x y
@@ -95,9 +92,9 @@ pub record SpanFenced (c : Code) (dest : Bool) (f a n : ℕ) : Type 0 where
   pub apart : decimalb c f ≡ false → dest ≡ true → (g b : ℕ) → g < c.fields → decimalb c g ≡ true → a ≤ b → b < a + n → offset_of c g ≤ b → b < end_of c g → ⊥
 
 -- "the bounds are ones that 21 isn't given for": they name a span.
-abbrev pub SpanKept : Code → Bool → ℕ → Span → Type 0
-SpanKept c dest f (At a n) = SpanFenced c dest f a n
-SpanKept c dest f Outside = ⊥
+abbrev pub SpanKept : Code → Bool → ℕ → Option Span → Type 0
+SpanKept c dest f (Some s) = SpanFenced c dest f s.start s.len
+SpanKept c dest f None = ⊥
 
 -- ---- references, expressions and statements
 
@@ -119,12 +116,12 @@ pub record ExprFenced (c : Code) (dest : Bool) (is : List Item) : Type 0 where
       → RefFenced c (destb dest after) h f before
 
 -- "A destination is the span named by place a of codes 1 to 6", and of 13 and 14: the uses that are written.
-abbrev pub UseFenced : Code → Use → Type 0
-UseFenced c use-of.Nothing = Unit {0}
-UseFenced c (use-of.Of w at written) = ExprFenced c written (c.items at)
+abbrev pub UseFenced : Code → Option Use → Type 0
+UseFenced c None = Unit {0}
+UseFenced c (Some u) = ExprFenced c u.written (c.items u.at)
 
 pub record StatementFenced (c : Code) (s : Statement) : Type 0 where
-  pub each : (k : ℕ) → k < length (uses_of c s) → UseFenced c (get_or (uses_of c s) k use-of.Nothing)
+  pub each : (k : ℕ) → k < length (uses_of c s) → UseFenced c (get_or (uses_of c s) k None)
 
 pub record Fenced (c : Code) : Type 0 where
   pub all : (i : ℕ) → i < c.statements → StatementFenced c (c.statement i)

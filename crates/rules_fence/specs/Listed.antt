@@ -6,21 +6,19 @@
 --   row_of b                         what a host is told of one: eight numbers
 --   listed bs skip rows             how many there are, and whole rows of them from the one numbered skip on, as many as fit at the front of rows
 -- Assumes nothing.
-use Rattle.std.specs.Prelude.{ℕ, zero, suc, ◌+◌, Bool, true, false, cond, List, [], ◌∷◌, ◌++◌, ltb, leb, length, drop}
+use Rattle.rules_unit.specs.declared.Refusal.{Refusal}
+use Rattle.rules_unit.specs.declared.Parts.{Parts}
+use Rattle.std.specs.Prelude.{ℕ, zero, suc, ◌+◌, Bool, true, false, cond, List, [], ◌∷◌, ◌++◌, ltb, leb, length, drop, Result, Err, Ok, None, Option, Some}
 use Rattle.rules_unit.specs.declared.Form.{Form}
 use Rattle.rules_unit.specs.declared.Form.TheVariants as form
 use Rattle.rules_unit.specs.declared.Item.{Item}
 use Rattle.rules_unit.specs.declared.Item.TheVariants as item
 use Rattle.rules_unit.specs.declared.Use.{Use}
-use Rattle.rules_unit.specs.declared.Use.TheVariants as use-of
-use Rattle.rules_unit.specs.declared.Checked.{Checked}
-use Rattle.rules_unit.specs.declared.Checked.TheVariants as checked
 use Rattle.rules_unit.specs.Codes.{Code}
 use Rattle.rules_unit.specs.Decode.{width_of, code_of}
 use Rattle.rules_unit.specs.Table.{uses_of}
 use Rattle.rules_unit.specs.Checks.{check_of}
 use Rattle.rules_run.specs.declared.Span.{Span}
-use Rattle.rules_run.specs.declared.Span.TheVariants.{At, Outside}
 use Rattle.rules_fence.specs.declared.Broken.{Broken}
 use Rattle.rules_fence.specs.declared.Seen.{Seen}
 use Rattle.rules_fence.specs.declared.Seen.TheVariants as seen
@@ -51,11 +49,11 @@ broken_from c i dest s at [] = []
 broken_from c i dest s at (x ∷ xs) =
     let rest = broken_from c i dest (seen_after c s x) (at + width_of x) xs in item_broken c i dest s at x xs ++ rest
 
-abbrev pub use_broken : Code → ℕ → Use → List Broken
-use_broken c i use-of.Nothing = []
-use_broken c i (use-of.Of w at written) = broken_from c i written seen.Nothing at (c.items at)
+abbrev pub use_broken : Code → ℕ → Option Use → List Broken
+use_broken c i None = []
+use_broken c i (Some u) = broken_from c i u.written seen.Nothing u.at (c.items u.at)
 
-unfoldable pub uses_broken : Code → ℕ → List Use → List Broken
+unfoldable pub uses_broken : Code → ℕ → List (Option Use) → List Broken
 uses_broken c i [] = []
 uses_broken c i (x ∷ xs) = let rest = uses_broken c i xs in use_broken c i x ++ rest
 
@@ -69,16 +67,16 @@ statements_broken c (suc k) i = let rest = statements_broken c k (i + 1) in brok
 
 -- ---- the unit: of one that is refused there are none
 
-abbrev pub breaches_by : List ℕ → Checked → List Broken
-breaches_by u (checked.Passed p) = statements_broken (code_of u p) p.n 0
-breaches_by u (checked.Refused r) = []
+abbrev pub breaches_by : List ℕ → Result Parts Refusal → List Broken
+breaches_by u (Ok p) = statements_broken (code_of u p) p.n 0
+breaches_by u (Err r) = []
 
 unfoldable pub breaches_of : List ℕ → List Broken
 breaches_of u = breaches_by u (check_of u)
 
-abbrev pub broken_in_by : List ℕ → ℕ → Checked → List Broken
-broken_in_by u i (checked.Passed p) = cond (ltb i p.n) (broken_of (code_of u p) i) []
-broken_in_by u i (checked.Refused r) = []
+abbrev pub broken_in_by : List ℕ → ℕ → Result Parts Refusal → List Broken
+broken_in_by u i (Ok p) = cond (ltb i p.n) (broken_of (code_of u p) i) []
+broken_in_by u i (Err r) = []
 
 unfoldable pub broken_in : List ℕ → ℕ → List Broken
 broken_in u i = broken_in_by u i (check_of u)
@@ -92,13 +90,13 @@ form_number form.Subscript = 3
 form_number form.StartEnd = 4
 form_number form.PosLength = 5
 
-abbrev pub start_of : Span → ℕ
-start_of (At a n) = a
-start_of Outside = 0
+abbrev pub start_of : Option Span → ℕ
+start_of (Some s) = s.start
+start_of None = 0
 
-abbrev pub length_of : Span → ℕ
-length_of (At a n) = n
-length_of Outside = 0
+abbrev pub length_of : Option Span → ℕ
+length_of (Some s) = s.len
+length_of None = 0
 
 abbrev pub truth_of : Bool → ℕ
 truth_of true = 1

@@ -4,16 +4,15 @@
 --   ExprBreaks c dest is b              the first reference of the expression that breaks a rule breaks b
 --   UseBreaks, StatementBreaks          the first expression of a statement that breaks one does so
 -- Rules are named in 01's order: one is broken only where those before it are kept. Assumes nothing.
-use Rattle.std.specs.Prelude.{ℕ, ◌+◌, ◌<◌, ◌≤◌, ◌≡◌, Bool, true, false, List, ◌∷◌, ◌++◌, ℤ, length, get_or}
+use Rattle.rules_run.specs.Spans.{span_at}
+use Rattle.std.specs.Prelude.{ℕ, ◌+◌, ◌<◌, ◌≤◌, ◌≡◌, Bool, true, false, List, ◌∷◌, ◌++◌, ℤ, length, get_or, None, Option, Some}
 use Rattle.rules_unit.specs.declared.Form.{Form}
 use Rattle.rules_unit.specs.declared.Item.{Item}
 use Rattle.rules_unit.specs.declared.Item.TheVariants as item
 use Rattle.rules_unit.specs.declared.Statement.{Statement}
 use Rattle.rules_unit.specs.declared.Use.{Use}
-use Rattle.rules_unit.specs.declared.Use.TheVariants as use-of
 use Rattle.rules_unit.specs.Codes.{Code, decimalb, offset_of, size_of, element_at, end_of}
 use Rattle.rules_unit.specs.Table.{uses_of}
-use Rattle.rules_run.specs.declared.Span.TheVariants.{At, Outside}
 use Rattle.rules_fence.specs.declared.Breach.{Breach}
 use Rattle.rules_fence.specs.declared.Breach.TheVariants as breach
 use Rattle.rules_fence.specs.Fence.{Bounds, Names, InElement, destb, ExprFenced, UseFenced}
@@ -54,7 +53,7 @@ SpanBreaks c dest f a n breach.OnDecimal = Inside c f a n × (decimalb c f ≡ f
 pub record NamedBreaks (c : Code) (dest : Bool) (h : Form) (f : ℕ) (before : List Item) (b : Breach) : Type 0 where
   pub a : ℕ
   pub n : ℕ
-  pub names : Names c h f before (At a n)
+  pub names : Names c h f before (span_at a n)
   pub breaks : SpanBreaks c dest f a n b
 
 abbrev pub RefBreaks : Code → Bool → Form → ℕ → List Item → Breach → Type 0
@@ -62,7 +61,7 @@ RefBreaks c dest h f before breach.None = ⊥
 -- "Each bound of 03, 04 and 05 is a number literal, or one followed by negate, standing directly before": there are none such.
 RefBreaks c dest h f before breach.BoundNotLiteral = (x y : ℤ) → Bounds c h before x y → ⊥
 -- "the bounds are ones that 21 isn't given for": it is given.
-RefBreaks c dest h f before breach.BoundsWrong = Names c h f before Outside
+RefBreaks c dest h f before breach.BoundsWrong = Names c h f before None
 RefBreaks c dest h f before breach.LeavesField = NamedBreaks c dest h f before breach.LeavesField
 RefBreaks c dest h f before breach.OverElements = NamedBreaks c dest h f before breach.OverElements
 RefBreaks c dest h f before breach.StopsMidElement = NamedBreaks c dest h f before breach.StopsMidElement
@@ -80,16 +79,16 @@ pub record ExprBreaks (c : Code) (dest : Bool) (is : List Item) (b : Breach) : T
   pub earlier : ExprFenced c false before
   pub here : RefBreaks c (destb dest after) h f before b
 
-abbrev pub UseBreaks : Code → Use → Breach → Type 0
-UseBreaks c use-of.Nothing b = ⊥
-UseBreaks c (use-of.Of w at written) b = ExprBreaks c written (c.items at) b
+abbrev pub UseBreaks : Code → Option Use → Breach → Type 0
+UseBreaks c None b = ⊥
+UseBreaks c (Some u) b = ExprBreaks c u.written (c.items u.at) b
 
 -- "a is worked out before b": its expressions in this order.
-pub record UsesBreak (c : Code) (us : List Use) (b : Breach) : Type 0 where
+pub record UsesBreak (c : Code) (us : List (Option Use)) (b : Breach) : Type 0 where
   pub k : ℕ
   pub low : k < length us
-  pub earlier : (j : ℕ) → j < k → UseFenced c (get_or us j use-of.Nothing)
-  pub here : UseBreaks c (get_or us k use-of.Nothing) b
+  pub earlier : (j : ℕ) → j < k → UseFenced c (get_or us j None)
+  pub here : UseBreaks c (get_or us k None) b
 
 abbrev pub StatementBreaks : Code → Statement → Breach → Type 0
 StatementBreaks c s b = UsesBreak c (uses_of c s) b

@@ -9,17 +9,16 @@
 --   first_rule bs              the rule of the first of a list, None where it is empty
 --   Rising i bs               their statements rise, from i on
 -- Assumes nothing.
-use Rattle.std.specs.Prelude.{ℕ, ◌+◌, ◌<◌, ◌≤◌, ◌≡◌, Bool, List, [], ◌∷◌, ◌++◌, ◌⊎◌, ℤ, length, get_or}
+use Rattle.rules_run.specs.Spans.{span_at}
+use Rattle.std.specs.Prelude.{ℕ, ◌+◌, ◌<◌, ◌≤◌, ◌≡◌, Bool, List, [], ◌∷◌, ◌++◌, ◌⊎◌, ℤ, length, get_or, None, Option, Some}
 use Rattle.rules_unit.specs.declared.Form.{Form}
 use Rattle.rules_unit.specs.declared.Item.{Item}
 use Rattle.rules_unit.specs.declared.Item.TheVariants as item
 use Rattle.rules_unit.specs.declared.Use.{Use}
-use Rattle.rules_unit.specs.declared.Use.TheVariants as use-of
 use Rattle.rules_unit.specs.Codes.{Code}
 use Rattle.rules_unit.specs.Decode.{width_of}
 use Rattle.rules_unit.specs.Table.{uses_of}
 use Rattle.rules_run.specs.declared.Span.{Span}
-use Rattle.rules_run.specs.declared.Span.TheVariants.{At, Outside}
 use Rattle.rules_fence.specs.declared.Breach.{Breach}
 use Rattle.rules_fence.specs.declared.Breach.TheVariants as breach
 use Rattle.rules_fence.specs.declared.Broken.{Broken}
@@ -33,8 +32,8 @@ widths_of [] = 0
 widths_of (i ∷ is) = let rest = widths_of is in width_of i + rest
 
 -- Where 21 is given for its bounds, the span that they name is Outside too.
-abbrev pub Fixes : Code → Form → ℕ → List Item → Span → Type 0
-Fixes c h f before span = Names c h f before span ⊎ (((x y : ℤ) → Bounds c h before x y → ⊥) × (span ≡ Outside))
+abbrev pub Fixes : Code → Form → ℕ → List Item → Option Span → Type 0
+Fixes c h f before span = Names c h f before span ⊎ (((x y : ℤ) → Bounds c h before x y → ⊥) × (span ≡ None))
 
 -- "Of a place only the last reference names a destination": it is written. The rule is the first that the reference breaks by itself, whatever stands around it.
 pub record StandsIn (c : Code) (dest : Bool) (start : ℕ) (b : Broken) : Type 0 where
@@ -46,28 +45,28 @@ pub record StandsIn (c : Code) (dest : Bool) (start : ℕ) (b : Broken) : Type 0
   pub breaks : RefBreaks c b.written b.form b.field before b.rule
   pub fixes : Fixes c b.form b.field before b.span
 
-abbrev pub StandsAt : Code → Use → Broken → Type 0
-StandsAt c use-of.Nothing b = ⊥
-StandsAt c (use-of.Of w at written) b = StandsIn c written at b
+abbrev pub StandsAt : Code → Option Use → Broken → Type 0
+StandsAt c None b = ⊥
+StandsAt c (Some u) b = StandsIn c u.written u.at b
 
 pub record Stands (c : Code) (b : Broken) : Type 0 where
   pub low : b.statement < c.statements
   pub use_number : ℕ
   pub used : use_number < length (uses_of c (c.statement b.statement))
-  pub here : StandsAt c (get_or (uses_of c (c.statement b.statement)) use_number use-of.Nothing) b
+  pub here : StandsAt c (get_or (uses_of c (c.statement b.statement)) use_number None) b
 
 -- ---- the bytes told
 
-pub record SpanAt (c : Code) (dest : Bool) (f : ℕ) (span : Span) (r : Breach) : Type 0 where
+pub record SpanAt (c : Code) (dest : Bool) (f : ℕ) (span : Option Span) (r : Breach) : Type 0 where
   pub a : ℕ
   pub n : ℕ
-  pub is_span : span ≡ At a n
+  pub is_span : span ≡ span_at a n
   pub breaks : SpanBreaks c dest f a n r
 
-abbrev pub SpanTold : Code → Bool → ℕ → Span → Breach → Type 0
+abbrev pub SpanTold : Code → Bool → ℕ → Option Span → Breach → Type 0
 SpanTold c dest f span breach.None = ⊥
-SpanTold c dest f span breach.BoundNotLiteral = span ≡ Outside
-SpanTold c dest f span breach.BoundsWrong = span ≡ Outside
+SpanTold c dest f span breach.BoundNotLiteral = span ≡ None
+SpanTold c dest f span breach.BoundsWrong = span ≡ None
 SpanTold c dest f span breach.LeavesField = SpanAt c dest f span breach.LeavesField
 SpanTold c dest f span breach.OverElements = SpanAt c dest f span breach.OverElements
 SpanTold c dest f span breach.StopsMidElement = SpanAt c dest f span breach.StopsMidElement

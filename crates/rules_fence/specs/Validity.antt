@@ -5,10 +5,10 @@
 --   validity_of u d           what is answered of the data d for the unit u
 --   InvalidAt c d f k        the element k of the field f is a decimal's and not valid; FirstInvalid, and all before it are valid
 -- Assumes nothing.
-use Rattle.std.specs.Prelude.{ℕ, zero, suc, ◌+◌, ◌<◌, ◌≡◌, Bool, true, false, cond, List, eqb, length, take, drop}
+use Rattle.rules_unit.specs.declared.Refusal.{Refusal}
+use Rattle.rules_unit.specs.declared.Parts.{Parts}
+use Rattle.std.specs.Prelude.{ℕ, zero, suc, ◌+◌, ◌<◌, ◌≡◌, Bool, true, false, cond, List, eqb, length, take, drop, Result, Err, Ok}
 use Rattle.rules.specs.Values.{validb, Valid}
-use Rattle.rules_unit.specs.declared.Checked.{Checked}
-use Rattle.rules_unit.specs.declared.Checked.TheVariants as checked
 use Rattle.rules_unit.specs.Codes.{Code, decimalb, size_of, count_of, element_at}
 use Rattle.rules_unit.specs.Decode.{code_of}
 use Rattle.rules_unit.specs.Checks.{check_of}
@@ -47,9 +47,9 @@ fields_from c d (suc m) f = let rest = fields_from c d m (f + 1) in cond (allb (
 
 -- ---- the whole: what the check of the unit refuses, then 6, then the decimals
 
-abbrev pub validity_by : List ℕ → List ℕ → Checked → Validity
-validity_by u d (checked.Passed p) = cond (eqb (length d) p.d) (fields_from (code_of u p) d p.f 0) validity.WrongSize
-validity_by u d (checked.Refused r) = validity.Refused r
+abbrev pub validity_by : List ℕ → List ℕ → Result Parts Refusal → Validity
+validity_by u d (Ok p) = cond (eqb (length d) p.d) (fields_from (code_of u p) d p.f 0) validity.WrongSize
+validity_by u d (Err r) = validity.Refused r
 
 unfoldable pub validity_of : List ℕ → List ℕ → Validity
 validity_of u d = validity_by u d (check_of u)

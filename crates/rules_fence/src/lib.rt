@@ -38,7 +38,7 @@ pub enum Verdict {
 }
 
 // A reference that breaks a fence rule: the statement that it stands in, the first rule that it breaks, whether it names a destination, its field and its form, the
-// bytes that its bounds fix (Outside where they fix none), and its offset in the expressions.
+// bytes that its bounds fix, if they fix some, and its offset in the expressions.
 #[derive(Clone, Copy)]
 pub struct Broken {
     pub statement: u16,
@@ -46,7 +46,7 @@ pub struct Broken {
     pub written: bool,
     pub field: u16,
     pub form: Form,
-    pub span: Span,
+    pub span: Option<Span>,
     pub at: usize,
 }
 

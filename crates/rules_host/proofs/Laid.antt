@@ -1,11 +1,11 @@
--- What is put at the front of a slice, one number after the other.
+-- What is put at the front of a slice: all that fits at once, or one number after the other.
 -- Assumes nothing.
-use Prim.Native.Nat.{ℕ, zero, suc, ◌+◌, ◌<◌, ◌≤◌}
+use Prim.Native.Nat.{ℕ, zero, suc, ◌+◌, ◌<◌, ◌≤◌, min}
 use native.Mathlib.Numerals.{add-one}
 use native.Mathlib.Omega.{arith}
 use mathlib.Core.Path.{◌≡◌, refl, sym, ap, ◌∙◌}
-use mathlib.Core.List.{List, [], ◌∷◌}
-use lib.ListN.{length, get_or, take, set}
+use mathlib.Core.List.{List, [], ◌∷◌, ◌++◌}
+use lib.ListN.{length, get_or, take, drop, set}
 use lib.Seq.{take_all}
 use Rattle.rules_host.specs.Laid.{laid}
 
@@ -23,6 +23,20 @@ laid_same [] [] h = refl
 laid_same [] (y ∷ l) h = absurd (omega arith)
 laid_same (x ∷ xs) [] h = absurd (omega arith)
 laid_same (x ∷ xs) (y ∷ l) h = ap (λ (m : List ℕ). x ∷ m) (laid_same xs l (omega arith))
+
+-- As many values as fit stand before the rest of the slice.
+module _ {A : Type 0} where
+  front : (xs l : List A) (n : ℕ) → n ≡ min (length xs) (length l) → take n xs ++ drop n l ≡ laid xs l
+  unfolding laid
+  front [] l zero h = refl
+  front [] l (suc n) h = absurd (omega arith)
+  front (x ∷ xs) [] zero h = refl
+  front (x ∷ xs) [] (suc n) h = absurd (omega arith)
+  front (x ∷ xs) (y ∷ l) zero h = absurd (omega arith)
+  front (x ∷ xs) (y ∷ l) (suc n) h = ap (λ (m : List A). x ∷ m) (front xs l n (omega arith))
+
+  pub laid_front : (xs l ys : List A) (n : ℕ) → n ≡ min (length xs) (length l) → ys ≡ take n xs → ys ++ drop n l ≡ laid xs l
+  laid_front xs l ys n h e = ap (λ (m : List A). m ++ drop n l) e ∙ front xs l n h
 
 -- None is put yet.
 pub laid_none : (xs l : List ℕ) → l ≡ laid (take 0 xs) l

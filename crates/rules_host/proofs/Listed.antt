@@ -5,6 +5,7 @@
 --   handler_number_lem, error_number_lem, place_number    which number of a state stands where
 --   read_written                  a state and its numbers
 -- Assumes nothing.
+use Rattle.std.specs.Prelude.{Option, None, Some}
 use Prim.Native.Nat.{ℕ, zero, suc, ◌+◌, ◌-◌, ◌*◌, ◌/◌, ◌%◌, ◌^◌, ◌<◌, ◌≤◌}
 use native.Mathlib.Omega.{arith}
 use mathlib.Core.Path.{◌≡◌, refl, sym, ap, ◌∙◌}
@@ -17,9 +18,6 @@ use lib.Seq.{ext_get_or}
 use borrow.Author.Tests.{ltb-true, ltb-false, lt-ltb, le-ltb, le-leb, lt-leb, eqb-false, eq-eqb, ne_eqb}
 use Rattle.rules.specs.Values.{Val}
 use Rattle.rules_run.specs.declared.Caught.{Caught}
-use Rattle.rules_run.specs.declared.Caught.TheVariants as caught
-use Rattle.rules_run.specs.declared.Handler.{Handler}
-use Rattle.rules_run.specs.declared.Handler.TheVariants as handler
 use Rattle.rules_run.specs.declared.State.{State}
 use Rattle.rules_run.specs.States.{no_loop}
 use Rattle.rules_host.specs.Numbers.{listed, word, valueb, value_of, loop_number, handler_number, error_number, error_place, handled_number, number_at, numbers_of, HandlerFits, CaughtFits, Fits, goodb, good_from, pairb, stateb, return_at, loop_at, handler_of, caught_of, state_of}
@@ -147,13 +145,13 @@ module _ (s : State) (x : Fits s) where
   loop_good k (suc (suc zero)) h b = word_good (get_or s.loops k no_loop).step (x.steps k h)
   loop_good k (suc (suc (suc r))) h b = absurd (omega arith)
 
-  handler_small : (h : Handler) → HandlerFits h → handler_number h ≤ 65535
-  handler_small handler.None f = omega arith
-  handler_small (handler.At i) f = omega (arith, f)
+  handler_small : (h : Option ℕ) → HandlerFits h → handler_number h ≤ 65535
+  handler_small None f = omega arith
+  handler_small (Some i) f = omega (arith, f)
 
-  error_small : (e : Caught) → CaughtFits e → (error_number e ≤ 255) × (error_place e ≤ 65535)
-  error_small caught.None f = (omega arith, omega arith)
-  error_small (caught.Error n i) f = (f.1, f.2)
+  error_small : (e : Option Caught) → CaughtFits e → (error_number e ≤ 255) × (error_place e ≤ 65535)
+  error_small None f = (omega arith, omega arith)
+  error_small (Some e) f = (f.1, f.2)
 
   -- The handler and the last error.
   last_good : (k : ℕ) → k < 3 → goodb (101 + k) (number_at s (101 + k)) ≡ true
@@ -184,9 +182,9 @@ module _ (s : State) (x : Fits s) where
           let n : number_at s k ≡ loop_number (get_or s.loops j no_loop) r = ap (number_at s) (sym q) ∙ loop_number_lem s j r (omega arith) (omega arith) in
           rw (le-leb 53 k b, lt-ltb k 101 m, ne_eqb k 102 (λ z. omega arith), n) (loop_good j r (omega arith) (omega arith))
 
-  pair_good : (e : Caught) → CaughtFits e → pairb (error_number e) (error_place e) ≡ true
-  pair_good caught.None f = refl
-  pair_good (caught.Error n i) f = rw (ne_eqb n 0 (λ z. omega (arith, f.0)))
+  pair_good : (e : Option Caught) → CaughtFits e → pairb (error_number e) (error_place e) ≡ true
+  pair_good None f = refl
+  pair_good (Some e) f = rw (ne_eqb e.number 0 (λ z. omega (arith, f.0)))
 
   at_place : (k : ℕ) → k < 104 → get_or (numbers_of s) k 0 ≡ number_at s k
   at_place k h = get_d_listed 104 (number_at s) k 0 h
@@ -211,13 +209,13 @@ module _ (s : State) (x : Fits s) where
       let c : get_or (numbers_of s) (k * 3 + 55) 0 ≡ word (get_or s.loops k no_loop).step = at_place (k * 3 + 55) (omega arith) ∙ step_number s k h in
       rw (a, b, c, word_value (get_or s.loops k no_loop).limit (x.limits k h), word_value (get_or s.loops k no_loop).step (x.steps k h))
 
-  handler_back : (h : Handler) → HandlerFits h → handler_of (handler_number h) ≡ h
-  handler_back handler.None f = refl
-  handler_back (handler.At i) f = let e : i + 1 - 1 ≡ i = omega arith in rw (ne_eqb (i + 1) 0 (λ z. omega arith), e)
+  handler_back : (h : Option ℕ) → HandlerFits h → handler_of (handler_number h) ≡ h
+  handler_back None f = refl
+  handler_back (Some i) f = let e : i + 1 - 1 ≡ i = omega arith in rw (ne_eqb (i + 1) 0 (λ z. omega arith), e)
 
-  caught_back : (e : Caught) → CaughtFits e → caught_of (error_number e) (error_place e) ≡ e
-  caught_back caught.None f = refl
-  caught_back (caught.Error n i) f = rw (ne_eqb n 0 (λ z. omega (arith, f.0)))
+  caught_back : (e : Option Caught) → CaughtFits e → caught_of (error_number e) (error_place e) ≡ e
+  caught_back None f = refl
+  caught_back (Some e) f = rw (ne_eqb e.number 0 (λ z. omega (arith, f.0)))
 
   pub read_written : state_of (numbers_of s) ≡ s
   unfolding state_of

@@ -1,5 +1,6 @@
 -- A resume state over several calls: what is written is read back, what is no state is 7, and a run goes on from the state that it left.
 -- Assumes nothing.
+use Rattle.std.specs.Prelude.{Result, Err, Ok, Option, None, Some}
 use Prim.Native.Nat.{ℕ, ◌^◌, ◌<◌, ◌≤◌}
 use native.Mathlib.Omega.{arith}
 use mathlib.Core.Path.{◌≡◌, refl, sym, ap, subst, ◌∙◌}
@@ -9,6 +10,7 @@ use mathlib.Core.Logic.{◌↔◌, inl, inr}
 use lib.Dec.{ltb, eqb}
 use lib.ListN.{length, get_or, replicate, length-set}
 use borrow.Author.Tests.{le-leb, lt-leb, eqb-true, ltb-true, ltb-false}
+use Rattle.rules.specs.declared.Fault.{Fault}
 use Rattle.rules.specs.Stops.{Trappable}
 use Rattle.rules.specs.Tests.{◌and◌}
 use Rattle.rules.specs.Values.{Val}
@@ -17,25 +19,22 @@ use Rattle.rules.proofs.Walk.{cond_either}
 use Rattle.rules_unit.specs.declared.Parts.{Parts}
 use Rattle.rules_unit.specs.declared.Refusal.{Refusal}
 use Rattle.rules_unit.specs.declared.Refusal.TheVariants as refusal
-use Rattle.rules_unit.specs.declared.Checked.TheVariants as checked
 use Rattle.rules_unit.specs.Codes.{Code}
 use Rattle.rules_unit.specs.Decode.{code_of, decoded}
 use Rattle.rules_unit.specs.Checks.{refusal_number, refusal_place, check_of}
 use Rattle.rules_unit.proofs.Sound.{passed_sound}
 use Rattle.rules_run.specs.declared.Caught.{Caught}
-use Rattle.rules_run.specs.declared.Caught.TheVariants as caught
 use Rattle.rules_run.specs.declared.Flow.{Flow}
 use Rattle.rules_run.specs.declared.Flow.TheVariants as flow
-use Rattle.rules_run.specs.declared.Handler.{Handler}
-use Rattle.rules_run.specs.declared.Handler.TheVariants as handler
 use Rattle.rules_run.specs.declared.State.{State}
 use Rattle.rules_run.specs.declared.Stop.{Stop}
 use Rattle.rules_run.specs.declared.Stop.TheVariants as stop
+use Rattle.rules_run.specs.declared.Turn.{Turn}
 use Rattle.rules_run.specs.Turns.{turn_of}
 use Rattle.rules_run.specs.States.{no_loop, HandlerSound, CaughtSound, Sound, started, look_of}
 use Rattle.rules_run.specs.Stops.{stop_number}
 use Rattle.rules_run.specs.Answers.{RunNumber, Erred, StopNo, no_of, Given}
-use Rattle.rules_run.specs.Runs.{Moved, to, stuck, moved_by, Ran, run_from, run_of}
+use Rattle.rules_run.specs.Runs.{Moved, to, stuck, moved_by, led_by, Ran, run_from, run_of}
 use Rattle.rules_run.proofs.Calls.{beforeb, call_refused, call_wrong_size, call_unsound, every_call}
 use Rattle.rules_run.proofs.Steps.{every_run}
 use Rattle.rules_run.proofs.Answers.{call_exactly, does_exactly, refused_by_number, erred_by_number, given_exactly}
@@ -55,7 +54,7 @@ five_range n (inl h) = (omega (arith, h.0), omega (arith, h.1))
 five_range n (inr e) = (omega (arith, e), omega (arith, e))
 
 -- It fits the numbers.
-sound_fits : (u : List ℕ) (p : Parts) (s : State) → check_of u ≡ checked.Passed p → Sound (code_of u p) s → length s.returns ≡ 50 → Fits s
+sound_fits : (u : List ℕ) (p : Parts) (s : State) → check_of u ≡ Ok p → Sound (code_of u p) s → length s.returns ≡ 50 → Fits s
 sound_fits u p s e t l =
     record {
       at = omega (arith, t.place, most);
@@ -89,13 +88,13 @@ sound_fits u p s e t l =
     limits k h true f = record { small = omega (arith, (t.running k (ltb-true k s.opened f)).limit.small, top) }
     limits k h false f = rw (t.vacant k (ltb-false k s.opened f) h) (record { small = omega arith })
 
-    handled : (h : Handler) → HandlerSound p.n h → HandlerFits h
-    handled handler.None x = tt
-    handled (handler.At i) x = omega (arith, x, most)
+    handled : (h : Option ℕ) → HandlerSound p.n h → HandlerFits h
+    handled None x = tt
+    handled (Some i) x = omega (arith, x, most)
 
-    told : (z : Caught) → CaughtSound p.n z → CaughtFits z
-    told caught.None x = tt
-    told (caught.Error n i) x = let m = five_range n x.0 in (m.0, m.1, omega (arith, x.1, most))
+    told : (z : Option Caught) → CaughtSound p.n z → CaughtFits z
+    told None x = tt
+    told (Some e) x = let m = five_range e.number x.0 in (m.0, m.1, omega (arith, x.1, most))
 
     steps : (k : ℕ) → k < 16 → (b : Bool) → ltb k s.opened ≡ b → Val (10 ^ 18) (get_or s.loops k no_loop).step
     steps k h true f = record { small = omega (arith, (t.running k (ltb-true k s.opened f)).step.small, top) }
@@ -103,7 +102,7 @@ sound_fits u p s e t l =
 
 -- ---- what is no state
 
-pub none_unsound : (u : List ℕ) (p : Parts) → check_of u ≡ checked.Passed p → Sound (code_of u p) no_state → ⊥
+pub none_unsound : (u : List ℕ) (p : Parts) → check_of u ≡ Ok p → Sound (code_of u p) no_state → ⊥
 none_unsound u p e t = omega (arith, t.place, (passed_sound u p e).ranges.n_most)
 
 pub none_state : (w : List ℕ) → stateb w ≡ false → state_of w ≡ no_state
@@ -111,7 +110,7 @@ unfolding state_of
 none_state w e = rw e
 
 -- Where the state read is sound for a unit, its numbers are a state's.
-sound_state : (u w : List ℕ) (p : Parts) → check_of u ≡ checked.Passed p → Sound (code_of u p) (state_of w) → stateb w ≡ true
+sound_state : (u w : List ℕ) (p : Parts) → check_of u ≡ Ok p → Sound (code_of u p) (state_of w) → stateb w ≡ true
 sound_state u w p e t = by (stateb w) refl
   where
     by : (b : Bool) → stateb w ≡ b → stateb w ≡ true
@@ -143,12 +142,15 @@ moved_kept n s (flow.Enter limit step) = refl
 moved_kept n s (flow.Leave i) = refl
 moved_kept n s (flow.Arm i) = refl
 moved_kept n s flow.Disarm = refl
-moved_kept n s (flow.Bad e) = error_case (Kept (length s.returns)) s e (λ z. tt) (λ i q r. refl)
+
+led_kept : (n : ℕ) (s : State) (t : Result Turn Fault) → Kept (length s.returns) (led_by n s t)
+led_kept n s (Ok t) = moved_kept n s t.flow
+led_kept n s (Err e) = error_case (Kept (length s.returns)) s e (λ z. tt) (λ i q r. refl)
 
 run_kept : (c : Code) (m : ℕ) (s : State) (d : List ℕ) (k : ℕ) → length (run_from c m s d k).outcome.state.returns ≡ length s.returns
 run_kept c =
     every_run c (λ m s d k r. length r.outcome.state.returns ≡ length s.returns) (λ m s d k h. refl) (λ s d k h. refl) (λ m s d k f h q. refl)
-    (λ m s s' d k r h q x. x ∙ subst (Kept (length s.returns)) q (moved_kept c.statements s (turn_of c (look_of s) s.at d).flow))
+    (λ m s s' d k r h q x. x ∙ subst (Kept (length s.returns)) q (led_kept c.statements s (turn_of c (look_of s) s.at d)))
 
 -- ---- what a call leaves
 
@@ -170,11 +172,11 @@ before_refuses (stop.Failed f) b = absurd (false≢true b)
 before_refuses stop.Spent b = absurd (false≢true b)
 
 module _ (u d w : List ℕ) (m : ℕ) (a : List ℕ) where
-  pub left_refused : (r : Refusal) → check_of u ≡ checked.Refused r → handed_of u d w m a ≡ untouched (refusal_number r) (refusal_place r) d w a
+  pub left_refused : (r : Refusal) → check_of u ≡ Err r → handed_of u d w m a ≡ untouched (refusal_number r) (refusal_place r) d w a
   unfolding handed_of
   left_refused r e = rw (call_refused u d (state_of w) m r e, refusal_refuses r)
 
-  module _ (p : Parts) (e : check_of u ≡ checked.Passed p) where
+  module _ (p : Parts) (e : check_of u ≡ Ok p) where
     pub left_wrong_size : (length d ≡ p.d → ⊥) → handed_of u d w m a ≡ untouched 6 0 d w a
     unfolding handed_of refusedb
     left_wrong_size n = rw (call_wrong_size u d (state_of w) m p e n)

@@ -6,14 +6,15 @@
 --   untouched n place d w a              .. where it is refused by n: nothing is changed, and the count is 0
 --   HostReads u d w m a h                what a host reads of what is left
 -- Assumes nothing.
-use Rattle.std.specs.Prelude.{ℕ, ◌+◌, ◌-◌, ◌*◌, ◌≤◌, ◌≡◌, Bool, cond, List, [], ◌∷◌, ltb, leb}
+use Rattle.rules_unit.specs.declared.Field.{Field}
+use Rattle.rules_unit.specs.declared.Refusal.{Refusal}
+use Rattle.rules_unit.specs.declared.Parts.{Parts}
+use Rattle.std.specs.Prelude.{ℕ, ◌+◌, ◌-◌, ◌*◌, ◌≤◌, ◌≡◌, Bool, cond, List, [], ◌∷◌, ltb, leb, Result, Err, Ok, Option, None, Some}
 use Rattle.rules.specs.Tests.{◌and◌}
 use Rattle.rules_unit.specs.declared.Kind.{Kind}
 use Rattle.rules_unit.specs.declared.Kind.TheVariants as kind
 use Rattle.rules_unit.specs.declared.Rule.{Rule}
 use Rattle.rules_unit.specs.declared.Rule.TheVariants as rule
-use Rattle.rules_unit.specs.declared.Checked.{Checked}
-use Rattle.rules_unit.specs.declared.Checked.TheVariants as checked
 use Rattle.rules_unit.specs.declared.Stretch.{Stretch}
 use Rattle.rules_unit.specs.Codes.{rule_of}
 use Rattle.rules_unit.specs.Decode.{code_of}
@@ -26,8 +27,6 @@ use Rattle.rules_fence.specs.declared.Verdict.TheVariants as verdict
 use Rattle.rules_fence.specs.declared.Validity.{Validity}
 use Rattle.rules_fence.specs.declared.Validity.TheVariants as validity
 use Rattle.rules_fence.specs.Breaches.{breach_number, breach_in}
-use Rattle.rules_host.specs.declared.Entry.{Entry}
-use Rattle.rules_host.specs.declared.Entry.TheVariants as entry
 use Rattle.rules_host.specs.Laid.{laid}
 use Rattle.rules_host.specs.Numbers.{numbers_of, state_of}
 
@@ -42,9 +41,9 @@ abbrev pub told : ℕ → List ℕ → List ℕ → Told
 told n xs a = record { value = n; answer = laid xs a }
 
 -- The stop; in the answer the stop, the place and D.
-abbrev pub check_told : Checked → List ℕ → Told
-check_told (checked.Passed p) a = told 0 (0 ∷ 0 ∷ p.d ∷ []) a
-check_told (checked.Refused r) a = told (refusal_number r) (refusal_number r ∷ refusal_place r ∷ 0 ∷ []) a
+abbrev pub check_told : Result Parts Refusal → List ℕ → Told
+check_told (Ok p) a = told 0 (0 ∷ 0 ∷ p.d ∷ []) a
+check_told (Err r) a = told (refusal_number r) (refusal_number r ∷ refusal_place r ∷ 0 ∷ []) a
 
 -- 0 for yes, 1 for no, 2 for a unit refused; in the answer the statement and its breach, or the stop and the place.
 abbrev pub fence_told : List ℕ → Verdict → List ℕ → Told
@@ -59,15 +58,15 @@ literal_told s a = told s.len (s.at ∷ s.len ∷ []) a
 -- ---- parts, fields and valid data
 
 -- The stop; in the answer D, F, E, P, N and the most digits of a decimal.
-abbrev pub parts_told : Checked → List ℕ → Told
-parts_told (checked.Passed p) a = told 0 (p.d ∷ p.f ∷ p.e ∷ p.p ∷ p.n ∷ p.dialect.limit ∷ []) a
-parts_told (checked.Refused r) a = told (refusal_number r) (0 ∷ 0 ∷ 0 ∷ 0 ∷ 0 ∷ 0 ∷ []) a
+abbrev pub parts_told : Result Parts Refusal → List ℕ → Told
+parts_told (Ok p) a = told 0 (p.d ∷ p.f ∷ p.e ∷ p.p ∷ p.n ∷ p.dialect.limit ∷ []) a
+parts_told (Err r) a = told (refusal_number r) (0 ∷ 0 ∷ 0 ∷ 0 ∷ 0 ∷ 0 ∷ []) a
 
-abbrev pub entry_by : List ℕ → ℕ → Checked → Entry
-entry_by u i (checked.Passed p) = cond (ltb i p.f) (entry.Of ((code_of u p).field i)) entry.None
-entry_by u i (checked.Refused r) = entry.None
+abbrev pub entry_by : List ℕ → ℕ → Result Parts Refusal → Option Field
+entry_by u i (Ok p) = cond (ltb i p.f) (Some ((code_of u p).field i)) None
+entry_by u i (Err r) = None
 
-unfoldable pub entry_of : List ℕ → ℕ → Entry
+unfoldable pub entry_of : List ℕ → ℕ → Option Field
 entry_of u i = entry_by u i (check_of u)
 
 -- "kind (0 alpha, 1 decimal, 2 record)"; no entry of a unit that passes its check is of another.
@@ -82,14 +81,14 @@ strict_number rule.Loose = 0
 strict_number rule.Strict = 1
 
 -- 1 where there is such an entry; in the answer its kind, offset, size and count, and 1 where it is strict.
-abbrev pub field_told : Entry → List ℕ → Told
-field_told entry.None a = told 0 (0 ∷ 0 ∷ 0 ∷ 0 ∷ 0 ∷ []) a
-field_told (entry.Of f) a = told 1 (kind_number f.kind ∷ f.offset ∷ f.size ∷ f.count ∷ strict_number (rule_of f) ∷ []) a
+abbrev pub field_told : Option Field → List ℕ → Told
+field_told None a = told 0 (0 ∷ 0 ∷ 0 ∷ 0 ∷ 0 ∷ []) a
+field_told (Some f) a = told 1 (kind_number f.kind ∷ f.offset ∷ f.size ∷ f.count ∷ strict_number (rule_of f) ∷ []) a
 
 -- Where an element, from 1, starts in the data.
-abbrev pub start_in : Entry → ℕ → ℕ
-start_in entry.None k = 0
-start_in (entry.Of f) k = f.offset + (k - 1) * f.size
+abbrev pub start_in : Option Field → ℕ → ℕ
+start_in None k = 0
+start_in (Some f) k = f.offset + (k - 1) * f.size
 
 -- 0 where all are valid, 1 to 6, or 22; in the answer that, the field, the element from 1 and where it starts.
 abbrev pub invalid_told : List ℕ → Validity → List ℕ → Told

@@ -1,9 +1,9 @@
 -- What is put at the front of a lent slice.
---   laid xs l    l with as many of the numbers xs as fit at its front, and the rest as it was
+--   laid xs l    l with as many of the values xs as fit at its front, and the rest as it was
 -- Assumes nothing.
-use Rattle.std.specs.Prelude.{ℕ, List, [], ◌∷◌}
+use Rattle.std.specs.Prelude.{List, [], ◌∷◌}
 
-unfoldable pub laid : List ℕ → List ℕ → List ℕ
+unfoldable pub laid : {A : Type 0} → List A → List A → List A
 laid [] l = l
 laid (x ∷ xs) [] = []
 laid (x ∷ xs) (y ∷ l) = x ∷ laid xs l

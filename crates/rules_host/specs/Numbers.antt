@@ -11,16 +11,13 @@
 --   stateb w       the numbers w are those of a state: there are 104, each stands for something, and so do the last two together
 --   state_of w      the state that they stand for; where they stand for none, one that is sound for no unit
 -- Assumes nothing.
-use Rattle.std.specs.Prelude.{ℕ, zero, suc, ◌+◌, ◌-◌, ◌*◌, ◌/◌, ◌%◌, ◌^◌, ◌<◌, ◌≤◌, ◌≡◌, Bool, true, cond, ◌||◌, List, [], ◌∷◌, ltb, leb, eqb, ℤ, pos, negsuc, length, get_or, replicate}
+use Rattle.std.specs.Prelude.{ℕ, zero, suc, ◌+◌, ◌-◌, ◌*◌, ◌/◌, ◌%◌, ◌^◌, ◌<◌, ◌≤◌, ◌≡◌, Bool, true, cond, ◌||◌, List, [], ◌∷◌, ltb, leb, eqb, ℤ, pos, negsuc, length, get_or, replicate, Option, None, Some}
 use Rattle.rules.specs.Tests.{◌and◌}
 use Rattle.rules.specs.Values.{Val}
 use Rattle.rules_run.specs.declared.Caught.{Caught}
-use Rattle.rules_run.specs.declared.Caught.TheVariants as caught
-use Rattle.rules_run.specs.declared.Handler.{Handler}
-use Rattle.rules_run.specs.declared.Handler.TheVariants as handler
 use Rattle.rules_run.specs.declared.Loop.{Loop}
 use Rattle.rules_run.specs.declared.State.{State}
-use Rattle.rules_run.specs.States.{no_loop}
+use Rattle.rules_run.specs.States.{no_loop, error_at}
 
 unfoldable pub listed : {A : Type 0} → ℕ → (ℕ → A) → List A
 listed zero f = []
@@ -47,17 +44,17 @@ abbrev pub loop_number : Loop → ℕ → ℕ
 loop_number l r = cond (eqb r 0) l.entry (cond (eqb r 1) (word l.limit) (word l.step))
 
 -- The handler, and the last error.
-abbrev pub handler_number : Handler → ℕ
-handler_number handler.None = 0
-handler_number (handler.At i) = i + 1
+abbrev pub handler_number : Option ℕ → ℕ
+handler_number None = 0
+handler_number (Some i) = i + 1
 
-abbrev pub error_number : Caught → ℕ
-error_number caught.None = 0
-error_number (caught.Error n i) = n
+abbrev pub error_number : Option Caught → ℕ
+error_number None = 0
+error_number (Some e) = e.number
 
-abbrev pub error_place : Caught → ℕ
-error_place caught.None = 0
-error_place (caught.Error n i) = i
+abbrev pub error_place : Option Caught → ℕ
+error_place None = 0
+error_place (Some e) = e.statement
 
 abbrev pub handled_number : State → ℕ → ℕ
 handled_number s k = cond (eqb k 101) (handler_number s.trap.handler) (cond (eqb k 102) (error_number s.trap.caught) (error_place s.trap.caught))
@@ -74,13 +71,13 @@ number_at s k =
 abbrev pub numbers_of : State → List ℕ
 numbers_of s = listed 104 (number_at s)
 
-abbrev pub HandlerFits : Handler → Type 0
-HandlerFits handler.None = Unit {0}
-HandlerFits (handler.At i) = i < 65535
+abbrev pub HandlerFits : Option ℕ → Type 0
+HandlerFits None = Unit {0}
+HandlerFits (Some i) = i < 65535
 
-abbrev pub CaughtFits : Caught → Type 0
-CaughtFits caught.None = Unit {0}
-CaughtFits (caught.Error n i) = (0 < n) × (n ≤ 255) × (i ≤ 65535)
+abbrev pub CaughtFits : Option Caught → Type 0
+CaughtFits None = Unit {0}
+CaughtFits (Some e) = (0 < e.number) × (e.number ≤ 255) × (e.statement ≤ 65535)
 
 pub record Fits (s : State) : Type 0 where
   pub at : s.at ≤ 65535
@@ -119,7 +116,7 @@ stateb w = eqb (length w) 104 and good_from 0 w and pairb (get_or w 102 0) (get_
 -- Sound for no unit: N is at most 2,048.
 abbrev pub no_state : State
 no_state =
-    record { at = 65535; depth = 0; returns = replicate 50 0; opened = 0; loops = replicate 16 no_loop; trap = record { handler = handler.None; caught = caught.None } }
+    record { at = 65535; depth = 0; returns = replicate 50 0; opened = 0; loops = replicate 16 no_loop; trap = record { handler = None; caught = None } }
 
 abbrev pub return_at : List ℕ → ℕ → ℕ
 return_at w i = get_or w (i + 2) 0
@@ -127,11 +124,11 @@ return_at w i = get_or w (i + 2) 0
 abbrev pub loop_at : List ℕ → ℕ → Loop
 loop_at w k = record { entry = get_or w (k * 3 + 53) 0; limit = value_of (get_or w (k * 3 + 54) 0); step = value_of (get_or w (k * 3 + 55) 0) }
 
-abbrev pub handler_of : ℕ → Handler
-handler_of x = cond (eqb x 0) handler.None (handler.At (x - 1))
+abbrev pub handler_of : ℕ → Option ℕ
+handler_of x = cond (eqb x 0) None (Some (x - 1))
 
-abbrev pub caught_of : ℕ → ℕ → Caught
-caught_of n i = cond (eqb n 0) caught.None (caught.Error n i)
+abbrev pub caught_of : ℕ → ℕ → Option Caught
+caught_of n i = cond (eqb n 0) None (error_at n i)
 
 unfoldable pub state_of : List ℕ → State
 state_of w =

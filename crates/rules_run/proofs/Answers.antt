@@ -3,6 +3,9 @@
 --   call_exactly, does_exactly    a call is refused or run, and is exactly what is said of it
 --   given_exactly           a number is given, and a place named, exactly as the table says
 -- Assumes nothing.
+use Rattle.std.specs.Prelude.{Result, Err, Ok}
+use Rattle.rules_unit.specs.declared.Refusal.{Refusal}
+use Rattle.rules_unit.specs.declared.Parts.{Parts}
 use Prim.Native.Nat.{ℕ, zero, suc, ◌+◌, ◌<◌, ◌≤◌}
 use native.Mathlib.Nat.{add-zero, zero-add, suc-add}
 use native.Mathlib.Omega.{arith}
@@ -16,8 +19,6 @@ use borrow.Author.Tests.{eqb-true, eqb-false}
 use Rattle.rules.specs.declared.Fault.{Fault}
 use Rattle.rules.specs.declared.Fault.TheVariants as fault
 use Rattle.rules_unit.specs.declared.Refusal.TheVariants as refusal
-use Rattle.rules_unit.specs.declared.Checked.{Checked}
-use Rattle.rules_unit.specs.declared.Checked.TheVariants as checked
 use Rattle.rules_unit.specs.Codes.{Code}
 use Rattle.rules_unit.specs.Decode.{parts_of, decoded}
 use Rattle.rules_unit.specs.Checks.{check_of}
@@ -119,7 +120,7 @@ module _ (c : Code) where
 module _ (u d : List ℕ) (s : State) (m : ℕ) where
   refuses_call : (e : Stop) → Refuses u d s e → run_of u d s m ≡ refused e s d
   refuses_call stop.End h = absurd h
-  refuses_call (stop.Refused x) h = call_refused u d s m x (check_only u (checked.Refused x) h)
+  refuses_call (stop.Refused x) h = call_refused u d s m x (check_only u (Err x) h)
   refuses_call stop.WrongSize h = call_wrong_size u d s m (parts_of u) (sound_passed u (parts_of u) h.0) h.1
   refuses_call stop.Unsound h = call_unsound u d s m (parts_of u) (sound_passed u (parts_of u) h.0) h.1 h.2
   refuses_call (stop.Failed f) h = absurd h
@@ -143,11 +144,11 @@ module _ (u d : List ℕ) (s : State) (m : ℕ) where
           let h : Refuses u d s stop.WrongSize = (x, eqb-false (length d) (parts_of u).d f) in
           rw (refuses_call stop.WrongSize h) (before stop.WrongSize h)
 
-      by : (x : Checked) → check_of u ≡ x → P (run_of u d s m)
-      by (checked.Passed p) e =
+      by : (x : Result Parts Refusal) → check_of u ≡ x → P (run_of u d s m)
+      by (Ok p) e =
           let x = passed_sound u p e in
           tested (subst (SoundUnit u) x.parts x) (eqb (length d) (parts_of u).d) (soundb (decoded u) s) refl refl
-      by (checked.Refused r) e =
+      by (Err r) e =
           let h : Refuses u d s (stop.Refused r) = subst (Says u) e (check_says u) in
           rw (refuses_call (stop.Refused r) h) (before (stop.Refused r) h)
 

@@ -4,6 +4,8 @@
 --   place_room                a decimal place that is found in a sound unit has some characters, and no more than the limit's
 --   worked_within             what an expression comes to lies where the rules say; place_within, of a place that is found
 -- Assumes nothing.
+use Rattle.rules.specs.declared.Fault.{Fault}
+use Rattle.std.specs.Prelude.{Err, Result, Ok, None, Option, Some}
 use mathlib.Core.Path.{◌≡◌, refl, subst}
 use mathlib.Core.Bool.{Bool, true, false}
 use mathlib.Core.List.{List, [], ◌∷◌}
@@ -15,7 +17,6 @@ use lib.ListN.{length}
 use borrow.Author.Tests.{leb-true, ltb-true, ltb-false}
 use Rattle.rules.specs.declared.Fault.TheVariants as fault
 use Rattle.rules.specs.Values.{Val, Limit, Top}
-use Rattle.rules.specs.declared.Num.TheVariants.{Failed}
 use Rattle.rules.proofs.Signed.{pow_le18}
 use Rattle.rules.proofs.Range.{InRange}
 use Rattle.rules.proofs.Walk.{cond_case}
@@ -29,10 +30,9 @@ use Rattle.rules_unit.specs.Decode.{SoundDialect}
 use Rattle.rules_unit.specs.Expressions.{op_takes, takes, textb}
 use Rattle.rules_unit.specs.Sound.{SoundCode}
 use Rattle.rules_run.specs.declared.Span.{Span}
-use Rattle.rules_run.specs.declared.Span.TheVariants.{At, Outside}
 use Rattle.rules_run.specs.declared.Worked.{Worked}
 use Rattle.rules_run.specs.declared.Worked.TheVariants as worked
-use Rattle.rules_run.specs.Spans.{span_by}
+use Rattle.rules_run.specs.Spans.{span_by, span_at}
 use Rattle.rules_run.specs.Evaluation.{apply, Held, go, halt, step_by, left, on_held, as_place, place_by, place, text_by, last_of, worked_from, worked_of, number_of, read_at, Within}
 use Rattle.rules_run.proofs.Located.{found_inside, span_some}
 use Rattle.rules_run.proofs.Strict.{found_loose}
@@ -45,25 +45,25 @@ Sized c = (f : ℕ) → f < c.fields → 1 ≤ (c.field f).size
 
 -- A number in the range, a place inside the data's size bytes (a decimal one of no more than the limit's characters, and each of some, where the fields'
 -- elements have some), text inside the literals.
-abbrev pub Bounded : ℕ → Code → ℕ → Worked → Type 0
-Bounded bound c size (worked.Number v) = Val bound v
-Bounded bound c size (worked.Place decimal a n) = (a + n ≤ size) × (decimal ≡ true → n ≤ c.dialect.limit) × (Sized c → 1 ≤ n)
-Bounded bound c size (worked.Text p l) = p + l ≤ length c.literals
-Bounded bound c size (worked.Failed e) = Unit {0}
+abbrev pub Bounded : ℕ → Code → ℕ → Result Worked Fault → Type 0
+Bounded bound c size (Ok (worked.Number v)) = Val bound v
+Bounded bound c size (Ok (worked.Place decimal a n)) = (a + n ≤ size) × (decimal ≡ true → n ≤ c.dialect.limit) × (Sized c → 1 ≤ n)
+Bounded bound c size (Ok (worked.Text p l)) = p + l ≤ length c.literals
+Bounded bound c size (Err e) = Unit {0}
 
 module _ (c : Code) (d : List ℕ) (bound : ℕ) (truths : 1 < bound) (sums : c.dialect.top ≤ bound) (digits : 10 ^ c.dialect.limit ≤ bound) where
-  found_bounded : (f : ℕ) (s : Span) → ((a n : ℕ) → s ≡ At a n → (a + n ≤ length d) × (Sized c → 1 ≤ n)) → Bounded bound c (length d) (as_place c f s)
-  found_bounded f (At a n) h =
-      cond_case (Bounded bound c (length d)) (decimalb c f) _ (worked.Place false a n)
-      (λ _. cond_case (Bounded bound c (length d)) (ltb c.dialect.limit n) (worked.Failed fault.TooLong) (worked.Place true a n) (λ _. tt)
-      (λ e. ((h a n refl).0, λ _. ltb-false c.dialect.limit n e, (h a n refl).1)))
-      (λ _. ((h a n refl).0, λ e. let z : ◌≡◌ {A = ℕ} 0 1 = cc in absurd (omega arith), (h a n refl).1))
-  found_bounded f Outside h = tt
+  found_bounded : (f : ℕ) (s : Option Span) → ((a n : ℕ) → s ≡ span_at a n → (a + n ≤ length d) × (Sized c → 1 ≤ n)) → Bounded bound c (length d) (as_place c f s)
+  found_bounded f (Some s) h =
+      cond_case (Bounded bound c (length d)) (decimalb c f) _ (Ok (worked.Place false s.start s.len))
+      (λ _. cond_case (Bounded bound c (length d)) (ltb c.dialect.limit s.len) (Err fault.TooLong) (Ok (worked.Place true s.start s.len)) (λ _. tt)
+      (λ e. ((h s.start s.len refl).0, λ _. ltb-false c.dialect.limit s.len e, (h s.start s.len refl).1)))
+      (λ _. ((h s.start s.len refl).0, λ e. let z : ◌≡◌ {A = ℕ} 0 1 = cc in absurd (omega arith), (h s.start s.len refl).1))
+  found_bounded f None h = tt
 
   by_bounded : (h : Form) (f : ℕ) (x y : ℤ) → Bounded bound c (length d) (place_by c d h f x y)
   unfolding place_by
   by_bounded h f x y =
-      cond_case (Bounded bound c (length d)) (ltb f c.fields) (as_place c f (span_by (rule_of (c.field f)) (length d) (c.field f) h x y)) (worked.Failed fault.Malformed)
+      cond_case (Bounded bound c (length d)) (ltb f c.fields) (as_place c f (span_by (rule_of (c.field f)) (length d) (c.field f) h x y)) (Err fault.Malformed)
       (λ l. found_bounded f (span_by (rule_of (c.field f)) (length d) (c.field f) h x y)
       (λ a n e.
       let loose = found_loose (length d) (c.field f) (rule_of (c.field f)) h x y e in
@@ -92,7 +92,7 @@ module _ (c : Code) (d : List ℕ) (bound : ℕ) (truths : 1 < bound) (sums : c.
 
   text_bounded : (p l : ℕ) (st : List ℤ) → Bounded bound c (length d) (text_by c p l st)
   text_bounded p l [] =
-      cond_case (Bounded bound c (length d)) (textb c p l) (worked.Text p l) (worked.Failed fault.Malformed) (λ e. text_inside p l e) (λ _. tt)
+      cond_case (Bounded bound c (length d)) (textb c p l) (Ok (worked.Text p l)) (Err fault.Malformed) (λ e. text_inside p l e) (λ _. tt)
   text_bounded p l (x ∷ st) = tt
 
   left_bounded : (st : List ℤ) → Vals bound st → Bounded bound c (length d) (left st)
@@ -100,13 +100,13 @@ module _ (c : Code) (d : List ℕ) (bound : ℕ) (truths : 1 < bound) (sums : c.
   left_bounded (v ∷ []) vs = vs.0
   left_bounded (v ∷ (w ∷ st)) vs = tt
 
-  held_bounded : (h : Held) (k : List ℤ → Worked) → ((st : List ℤ) → Vals bound st → Bounded bound c (length d) (k st)) → HeldIn bound h
+  held_bounded : (h : Held) (k : List ℤ → Result Worked Fault) → ((st : List ℤ) → Vals bound st → Bounded bound c (length d) (k st)) → HeldIn bound h
       → Bounded bound c (length d) (on_held h k)
   held_bounded (go st) k f vs = f st vs
   held_bounded (halt e) k f vs = tt
 
   -- An item that takes k values, and what is done with the values held after it.
-  step_bounded : (k : ℕ) (i : Item) (st : List ℤ) (next : List ℤ → Worked) → ((st' : List ℤ) → Vals bound st' → Bounded bound c (length d) (next st'))
+  step_bounded : (k : ℕ) (i : Item) (st : List ℤ) (next : List ℤ → Result Worked Fault) → ((st' : List ℤ) → Vals bound st' → Bounded bound c (length d) (next st'))
       → Vals bound st → Bounded bound c (length d) (on_held (step_by k (apply c d i) st) next)
   step_bounded k i st next f vs =
       held_bounded (step_by k (apply c d i) st) next f
@@ -132,19 +132,19 @@ module _ (c : Code) (d : List ℕ) (bound : ℕ) (truths : 1 < bound) (sums : c.
   worked_bounded (i ∷ is) = from_bounded i is [] tt
 
   -- A decimal place is read, and what is read is in the range.
-  pub number_bounded : (size : ℕ) (w : Worked) → Bounded bound c size w → InRange bound (number_of c d w)
-  number_bounded size (worked.Number v) h = h
-  number_bounded size (worked.Place decimal a n) h =
-      cond_case (InRange bound) decimal (read_at c d a n) (Failed fault.Malformed) (λ _. read_range c d bound truths sums digits a n) (λ _. tt)
-  number_bounded size (worked.Text p l) h = tt
-  number_bounded size (worked.Failed e) h = tt
+  pub number_bounded : (size : ℕ) (w : Result Worked Fault) → Bounded bound c size w → InRange bound (number_of c d w)
+  number_bounded size (Ok (worked.Number v)) h = h
+  number_bounded size (Ok (worked.Place decimal a n)) h =
+      cond_case (InRange bound) decimal (read_at c d a n) (Err fault.Malformed) (λ _. read_range c d bound truths sums digits a n) (λ _. tt)
+  number_bounded size (Ok (worked.Text p l)) h = tt
+  number_bounded size (Err e) h = tt
 
 -- Eighteen digits are the most that any dialect has.
-within_of : (c : Code) (size : ℕ) (w : Worked) → Bounded (10 ^ 18) c size w → Within c size w
-within_of c size (worked.Number v) h = h
-within_of c size (worked.Place decimal a n) h = (h.0, h.1)
-within_of c size (worked.Text p l) h = h
-within_of c size (worked.Failed e) h = h
+within_of : (c : Code) (size : ℕ) (w : Result Worked Fault) → Bounded (10 ^ 18) c size w → Within c size w
+within_of c size (Ok (worked.Number v)) h = h
+within_of c size (Ok (worked.Place decimal a n)) h = (h.0, h.1)
+within_of c size (Ok (worked.Text p l)) h = h
+within_of c size (Err e) h = h
 
 worked_eighteen : (c : Code) (d : List ℕ) → Limit c.dialect.limit → Top c.dialect.top → (is : List Item) → Bounded (10 ^ 18) c (length d) (worked_of c d is)
 worked_eighteen c d limit bound = worked_bounded c d (10 ^ 18) (omega arith) bound.most (pow_le18 (omega (arith, limit.most)))
@@ -153,11 +153,11 @@ pub worked_within : (c : Code) (d : List ℕ) → Limit c.dialect.limit → Top 
 worked_within c d limit bound is = within_of c (length d) (worked_of c d is) (worked_eighteen c d limit bound is)
 
 -- A place that is found lies inside the data.
-pub place_within : (c : Code) (size : ℕ) (w : Worked) (decimal : Bool) (a n : ℕ) → Within c size w → w ≡ worked.Place decimal a n → a + n ≤ size
+pub place_within : (c : Code) (size : ℕ) (w : Result Worked Fault) (decimal : Bool) (a n : ℕ) → Within c size w → w ≡ Ok (worked.Place decimal a n) → a + n ≤ size
 place_within c size w decimal a n within e = (subst (Within c size) e within).0
 
 -- In a sound unit a decimal place that is found has room for a number.
-pub place_room : (c : Code) → SoundCode c → SoundDialect c.dialect → (d : List ℕ) (is : List Item) (a n : ℕ) → worked_of c d is ≡ worked.Place true a n
+pub place_room : (c : Code) → SoundCode c → SoundDialect c.dialect → (d : List ℕ) (is : List Item) (a n : ℕ) → worked_of c d is ≡ Ok (worked.Place true a n)
     → (a + n ≤ length d) × (1 ≤ n) × (n ≤ c.dialect.limit)
 place_room c u dialect d is a n e =
     let b = subst (Bounded (10 ^ 18) c (length d)) e (worked_eighteen c d dialect.limit dialect.bound is) in

@@ -3,6 +3,7 @@
 --   MayFail c l d v s e    e is a fault that the statement s, whose verb is v, may give over the data d, where it sees l of the state
 --   MayGo c l i d v s f    f is where it may lead from i
 -- Assumes nothing.
+use Rattle.std.specs.Prelude.{Result, Err, Ok}
 use Prim.Native.Nat.{ℕ, zero, suc, ◌+◌, ◌<◌, ◌≤◌}
 use native.Mathlib.Omega.{arith}
 use mathlib.Core.Path.{◌≡◌, refl}
@@ -15,8 +16,6 @@ use lib.IntN.{ℤ, pos, negsuc, nat_abs, ◌+ℤ◌}
 use lib.ListN.{take, drop}
 use Rattle.rules.specs.declared.Fault.{Fault}
 use Rattle.rules.specs.declared.Fault.TheVariants as fault
-use Rattle.rules.specs.declared.Num.{Num}
-use Rattle.rules.specs.declared.Num.TheVariants.{Value, Failed}
 use Rattle.rules.specs.Arithmetic.{add_of}
 use Rattle.rules.specs.Moves.{alpha_of}
 use Rattle.rules.proofs.Walk.{cond_case, cond_either}
@@ -39,7 +38,7 @@ use Rattle.rules_run.specs.declared.Flow.TheVariants as flow
 use Rattle.rules_run.specs.declared.Turn.{Turn}
 use Rattle.rules_run.specs.declared.Look.{Look}
 use Rattle.rules_run.specs.Evaluation.{read_at, worked_of, number_of, value_at}
-use Rattle.rules_run.specs.Turns.{turn, failed, stores, goes, move_number, move_num, move_worked, on_place, counted, count_at, case_at, edit_num, edit_by, edit_at, on_number, if_zero, choose, on_value, testb, fitsb, controls, enter_flow, enter_by, enter_at, enters, Entry, entry_of, pass_flow, pass_at, on_loop, repeats, exits, act_at, turn_by}
+use Rattle.rules_run.specs.Turns.{turn, stores, goes, move_number, move_num, move_worked, on_place, counted, count_at, case_at, edit_num, edit_by, edit_at, on_number, if_zero, choose, on_value, testb, fitsb, controls, enter_flow, enter_by, enter_at, enters, Entry, entry_of, pass_flow, pass_at, on_loop, repeats, exits, act_at, turn_by}
 use Rattle.rules_run.proofs.Faults.{passes, kept_passes}
 use Rattle.rules_run.proofs.Working.{workb, Works, read_works, alpha_works, counted_works, worked_works, number_works}
 
@@ -90,7 +89,6 @@ MayGo c l i d v s (flow.Enter limit step) = (v ≡ verb.For) × (l.opened < 16) 
 MayGo c l i d v s (flow.Leave t) = ActsOnLoop v × (0 < l.opened) × (t ≡ (entry_of c l).c + 1)
 MayGo c l i d v s (flow.Arm t) = (v ≡ verb.OnError) × (t ≡ s.c)
 MayGo c l i d v s flow.Disarm = v ≡ verb.OffError
-MayGo c l i d v s (flow.Bad e) = ⊥
 
 choose_may : (c : Code) (l : Look) (i : ℕ) (d : List ℕ) (s : Statement) (v : ℤ) → MayGo c l i d verb.Computed s (choose i s.a v)
 choose_may c l i d s (pos zero) = inl (inr (inl (refl, omega arith)))
@@ -99,46 +97,46 @@ choose_may c l i d s (pos (suc v)) =
     (λ e. inl (inr (inl (refl, omega (arith, leb-true (suc v) s.a e))))) (λ e. inl (inr (inl (refl, omega arith))))
 choose_may c l i d s (negsuc v) = inl (inr (inl (refl, omega arith)))
 
-module _ (P : Turn → Type 0) (fails : (e : Fault) → workb e ≡ true → P (failed e)) (puts : (w : Write) → P (stores w)) where
+module _ (P : Result Turn Fault → Type 0) (fails : (e : Fault) → workb e ≡ true → P (Err e)) (puts : (w : Write) → P (stores w)) where
   by_number : (decimal : Bool) (a n : ℕ) (v : ℤ) → P (move_number decimal a n v)
   by_number decimal a n v = cond_either P decimal _ _ (puts (write.Number a n v)) (puts (write.Show a n v))
 
-  by_num : (decimal : Bool) (a n : ℕ) (r : Num) → passes workb r ≡ true → P (move_num decimal a n r)
-  by_num decimal a n (Value v) m = by_number decimal a n v
-  by_num decimal a n (Failed e) m = fails e m
+  by_num : (decimal : Bool) (a n : ℕ) (r : Result ℤ Fault) → passes workb r ≡ true → P (move_num decimal a n r)
+  by_num decimal a n (Ok v) m = by_number decimal a n v
+  by_num decimal a n (Err e) m = fails e m
 
-  by_jump : (r : Num) (k : ℤ → Flow) → passes workb r ≡ true → ((v : ℤ) → P (goes (k v))) → P (on_number r k)
-  by_jump (Value v) k m h = h v
-  by_jump (Failed e) k m h = fails e m
+  by_jump : (r : Result ℤ Fault) (k : ℤ → Flow) → passes workb r ≡ true → ((v : ℤ) → P (goes (k v))) → P (on_number r k)
+  by_jump (Ok v) k m h = h v
+  by_jump (Err e) k m h = fails e m
 
-  by_place : (w : Worked) (k : Bool → ℕ → ℕ → Turn) → Works w → ((decimal : Bool) (a n : ℕ) → P (k decimal a n)) → P (on_place w k)
-  by_place (worked.Number v) k m h = fails fault.Malformed refl
-  by_place (worked.Place decimal a n) k m h = h decimal a n
-  by_place (worked.Text p l) k m h = fails fault.Malformed refl
-  by_place (worked.Failed e) k m h = fails e m
+  by_place : (w : Result Worked Fault) (k : Bool → ℕ → ℕ → Result Turn Fault) → Works w → ((decimal : Bool) (a n : ℕ) → P (k decimal a n)) → P (on_place w k)
+  by_place (Ok (worked.Number v)) k m h = fails fault.Malformed refl
+  by_place (Ok (worked.Place decimal a n)) k m h = h decimal a n
+  by_place (Ok (worked.Text p l)) k m h = fails fault.Malformed refl
+  by_place (Err e) k m h = fails e m
 
-  by_edit_num : (r : Num) (k : ℤ → Write) → passes workb r ≡ true → P (edit_num r k)
-  by_edit_num (Value v) k m = puts (k v)
-  by_edit_num (Failed e) k m = fails e m
+  by_edit_num : (r : Result ℤ Fault) (k : ℤ → Write) → passes workb r ≡ true → P (edit_num r k)
+  by_edit_num (Ok v) k m = puts (k v)
+  by_edit_num (Err e) k m = fails e m
 
-  by_mask : (a n : ℕ) (w : Worked) → Works w → (r : Num) → passes workb r ≡ true → P (edit_by a n w r)
-  by_mask a n (worked.Number v) m r h = fails fault.Malformed refl
-  by_mask a n (worked.Place decimal from k) m r h = cond_either P decimal _ _ (fails fault.Malformed refl) (by_edit_num r (λ v. write.Edit a n from k v) h)
-  by_mask a n (worked.Text p l) m r h = by_edit_num r (λ v. write.EditLiteral a n p l v) h
-  by_mask a n (worked.Failed e) m r h = fails e m
+  by_mask : (a n : ℕ) (w : Result Worked Fault) → Works w → (r : Result ℤ Fault) → passes workb r ≡ true → P (edit_by a n w r)
+  by_mask a n (Ok (worked.Number v)) m r h = fails fault.Malformed refl
+  by_mask a n (Ok (worked.Place decimal from k)) m r h = cond_either P decimal _ _ (fails fault.Malformed refl) (by_edit_num r (λ v. write.Edit a n from k v) h)
+  by_mask a n (Ok (worked.Text p l)) m r h = by_edit_num r (λ v. write.EditLiteral a n p l v) h
+  by_mask a n (Err e) m r h = fails e m
 
-  by_edit : (decimal : Bool) (a n : ℕ) (w : Worked) → Works w → (r : Num) → passes workb r ≡ true → P (edit_at decimal a n w r)
+  by_edit : (decimal : Bool) (a n : ℕ) (w : Result Worked Fault) → Works w → (r : Result ℤ Fault) → passes workb r ≡ true → P (edit_at decimal a n w r)
   by_edit decimal a n w m r h = cond_either P decimal _ _ (fails fault.Malformed refl) (by_mask a n w m r h)
 
   module _ (c : Code) (d : List ℕ) where
-    by_worked : (decimal : Bool) (a n : ℕ) (w : Worked) → Works w → P (move_worked c d decimal a n w)
-    by_worked decimal a n (worked.Number v) m = by_number decimal a n v
-    by_worked decimal a n (worked.Place number b l) m =
+    by_worked : (decimal : Bool) (a n : ℕ) (w : Result Worked Fault) → Works w → P (move_worked c d decimal a n w)
+    by_worked decimal a n (Ok (worked.Number v)) m = by_number decimal a n v
+    by_worked decimal a n (Ok (worked.Place number b l)) m =
         cond_either P number _ _ (by_num decimal a n (read_at c d b l) (read_works c d b l))
         (cond_either P decimal _ _ (by_num true a n (alpha_of c.dialect.top (take l (drop b d))) (alpha_works c d (take l (drop b d)))) (puts (write.Move a n b l)))
-    by_worked decimal a n (worked.Text p l) m =
+    by_worked decimal a n (Ok (worked.Text p l)) m =
         cond_either P decimal _ _ (by_num true a n (alpha_of c.dialect.top (take l (drop p c.literals))) (alpha_works c d (take l (drop p c.literals)))) (puts (write.Literal a n p l))
-    by_worked decimal a n (worked.Failed e) m = fails e m
+    by_worked decimal a n (Err e) m = fails e m
 
     by_count : (up decimal : Bool) (a n : ℕ) → P (count_at c d up decimal a n)
     by_count up decimal a n =
@@ -166,26 +164,26 @@ module _ (P : Turn → Type 0) (fails : (e : Fault) → workb e ≡ true → P (
 
 -- ---- the statements of a loop
 
-module _ (P : Turn → Type 0) (c : Code) (l : Look) (i : ℕ) (d : List ℕ) (v : Verb) (s : Statement) (fails : (e : Fault) → MayFail c l d v s e → P (failed e))
-    (on : (w : Write) (f : Flow) → MayGo c l i d v s f → P (turn w f)) where
-  works : (e : Fault) → workb e ≡ true → P (failed e)
+module _ (P : Result Turn Fault → Type 0) (c : Code) (l : Look) (i : ℕ) (d : List ℕ) (v : Verb) (s : Statement) (fails : (e : Fault) → MayFail c l d v s e → P (Err e))
+    (on : (w : Write) (f : Flow) → MayGo c l i d v s f → P (Ok (turn w f))) where
+  works : (e : Fault) → workb e ≡ true → P (Err e)
   works e m = fails e (work_may c l d v s e m)
 
-  by_value : (r : Num) (k : ℤ → Turn) → passes workb r ≡ true → ((z : ℤ) → r ≡ Value z → P (k z)) → P (on_value r k)
-  by_value (Value z) k m h = h z refl
-  by_value (Failed e) k m h = works e m
+  by_value : (r : Result ℤ Fault) (k : ℤ → Result Turn Fault) → passes workb r ≡ true → ((z : ℤ) → r ≡ Ok z → P (k z)) → P (on_value r k)
+  by_value (Ok z) k m h = h z refl
+  by_value (Err e) k m h = works e m
 
-  at_place : (w : Worked) (k : Bool → ℕ → ℕ → Turn) → Works w → ((decimal : Bool) (a n : ℕ) → w ≡ worked.Place decimal a n → P (k decimal a n)) → P (on_place w k)
-  at_place (worked.Number z) k m h = works fault.Malformed refl
-  at_place (worked.Place decimal a n) k m h = h decimal a n refl
-  at_place (worked.Text p q) k m h = works fault.Malformed refl
-  at_place (worked.Failed e) k m h = works e m
+  at_place : (w : Result Worked Fault) (k : Bool → ℕ → ℕ → Result Turn Fault) → Works w → ((decimal : Bool) (a n : ℕ) → w ≡ Ok (worked.Place decimal a n) → P (k decimal a n)) → P (on_place w k)
+  at_place (Ok (worked.Number z)) k m h = works fault.Malformed refl
+  at_place (Ok (worked.Place decimal a n)) k m h = h decimal a n refl
+  at_place (Ok (worked.Text p q)) k m h = works fault.Malformed refl
+  at_place (Err e) k m h = works e m
 
-  at_value : (e : ℕ) (k : ℤ → Turn) → ((z : ℤ) → value_at c d e ≡ Value z → P (k z)) → P (on_value (value_at c d e) k)
+  at_value : (e : ℕ) (k : ℤ → Result Turn Fault) → ((z : ℤ) → value_at c d e ≡ Ok z → P (k z)) → P (on_value (value_at c d e) k)
   at_value e k h = by_value (value_at c d e) k (number_works c d (worked_of c d (c.items e)) (worked_works c d (c.items e))) h
 
   by_control : (a n : ℕ) (z : ℤ) (f : Flow) → MayGo c l i d v s f → P (controls a n z f)
-  by_control a n z f m = cond_either P (fitsb n z) (turn (write.Number a n z) f) (failed fault.TooLong) (on (write.Number a n z) f m) (works fault.TooLong refl)
+  by_control a n z f m = cond_either P (fitsb n z) (Ok (turn (write.Number a n z) f)) (Err fault.TooLong) (on (write.Number a n z) f m) (works fault.TooLong refl)
 
   module _ (q : v ≡ verb.For) where
     behind : MayGo c l i d v s (flow.Goto (s.c + 1))
@@ -193,12 +191,12 @@ module _ (P : Turn → Type 0) (c : Code) (l : Look) (i : ℕ) (d : List ℕ) (v
 
     by_entry : l.opened < 16 → (e : Entry c d s) → P (enter_by s.c e.a e.n e.start e.limit e.step)
     by_entry o e =
-        cond_case P (eqb (nat_abs e.step) 0) (failed fault.ZeroStep) _ (λ z. fails fault.ZeroStep (q, o, e, eqb-true (nat_abs e.step) 0 z))
+        cond_case P (eqb (nat_abs e.step) 0) (Err fault.ZeroStep) _ (λ z. fails fault.ZeroStep (q, o, e, eqb-true (nat_abs e.step) 0 z))
         (λ z. by_control e.a e.n e.start (enter_flow s.c e.start e.limit e.step)
         (cond_either (MayGo c l i d v s) (testb e.start e.limit e.step) (flow.Enter e.limit e.step) (flow.Goto (s.c + 1))
         (q, o, omega (arith, eqb-false (nat_abs e.step) 0 z), e, refl, refl) behind))
 
-    by_enter : l.opened < 16 → (decimal : Bool) (a n : ℕ) → worked_of c d (c.items s.a) ≡ worked.Place decimal a n → P (enter_at c d s decimal a n)
+    by_enter : l.opened < 16 → (decimal : Bool) (a n : ℕ) → worked_of c d (c.items s.a) ≡ Ok (worked.Place decimal a n) → P (enter_at c d s decimal a n)
     by_enter o true a n f =
         at_value s.b _
         (λ start x. at_value (next_at c s.b) _
@@ -209,14 +207,14 @@ module _ (P : Turn → Type 0) (c : Code) (l : Look) (i : ℕ) (d : List ℕ) (v
     enters_case : P (enters c l d s)
     unfolding enters
     enters_case =
-        cond_case P (ltb l.opened 16) _ (failed fault.LoopsFull)
+        cond_case P (ltb l.opened 16) _ (Err fault.LoopsFull)
         (λ e. at_place (worked_of c d (c.items s.a)) (enter_at c d s) (worked_works c d (c.items s.a)) (by_enter (ltb-true l.opened 16 e)))
         (λ e. fails fault.LoopsFull (q, ltb-false l.opened 16 e))
 
   module _ (q : ActsOnLoop v) where
-    on_loop_lem : (t : Turn) → (0 < l.opened → P t) → P (on_loop l t)
+    on_loop_lem : (t : Result Turn Fault) → (0 < l.opened → P t) → P (on_loop l t)
     on_loop_lem t h =
-        cond_case P (eqb l.opened 0) (failed fault.NoLoop) t (λ e. fails fault.NoLoop (q, eqb-true l.opened 0 e)) (λ e. h (omega (arith, eqb-false l.opened 0 e)))
+        cond_case P (eqb l.opened 0) (Err fault.NoLoop) t (λ e. fails fault.NoLoop (q, eqb-true l.opened 0 e)) (λ e. h (omega (arith, eqb-false l.opened 0 e)))
 
     by_pass : 0 < l.opened → (decimal : Bool) (a n : ℕ) → P (pass_at c l d decimal a n)
     by_pass o true a n =
@@ -239,8 +237,8 @@ module _ (P : Turn → Type 0) (c : Code) (l : Look) (i : ℕ) (d : List ℕ) (v
 
 -- ---- every statement
 
-module _ (P : Turn → Type 0) (c : Code) (l : Look) (i : ℕ) (d : List ℕ) where
-  pub turn_case : (v : Verb) (s : Statement) → ((e : Fault) → MayFail c l d v s e → P (failed e)) → ((w : Write) (f : Flow) → MayGo c l i d v s f → P (turn w f))
+module _ (P : Result Turn Fault → Type 0) (c : Code) (l : Look) (i : ℕ) (d : List ℕ) where
+  pub turn_case : (v : Verb) (s : Statement) → ((e : Fault) → MayFail c l d v s e → P (Err e)) → ((w : Write) (f : Flow) → MayGo c l i d v s f → P (Ok (turn w f)))
       → P (turn_by c l i d v s)
   unfolding turn_by
   turn_case (verb.At x) s fails on = act_case P (works P c l i d (verb.At x) s fails on) (λ w. on w flow.Next tt) c d l i x s

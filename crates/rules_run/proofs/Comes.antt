@@ -2,6 +2,8 @@
 -- coded unit").
 --   Comes k w       w is what an expression of the sort k may come to
 -- Assumes nothing.
+use Rattle.std.specs.Prelude.{Result, Err, Ok, None, Option, Some}
+use Rattle.rules.specs.declared.Fault.{Fault}
 use Prim.Native.Nat.{ℕ}
 use native.Mathlib.Omega.{arith}
 use mathlib.Core.Path.{◌≡◌, refl}
@@ -21,7 +23,6 @@ use Rattle.rules_unit.specs.Codes.{Code, rule_of, decimalb}
 use Rattle.rules_unit.specs.Expressions.{op_takes, form_takes, takes, itemb, place_sort, sort_of}
 use Rattle.rules_unit.proofs.Items.{op_two}
 use Rattle.rules_run.specs.declared.Span.{Span}
-use Rattle.rules_run.specs.declared.Span.TheVariants.{At, Outside}
 use Rattle.rules_run.specs.declared.Worked.{Worked}
 use Rattle.rules_run.specs.declared.Worked.TheVariants as worked
 use Rattle.rules_run.specs.Spans.{span_by}
@@ -29,11 +30,11 @@ use Rattle.rules_run.specs.Evaluation.{apply, left, as_place, place_by, place, l
 use Rattle.rules_run.proofs.Faults.{calc_passes}
 use Rattle.rules_run.proofs.Formed.{formedb, literal_formed, step_formed}
 
-abbrev pub Comes : Sort → Worked → Type 0
-Comes k (worked.Number v) = k ≡ sort.Number
-Comes k (worked.Place decimal a n) = k ≡ place_sort decimal
-Comes k (worked.Text p l) = k ≡ sort.Text
-Comes k (worked.Failed e) = formedb e ≡ true
+abbrev pub Comes : Sort → Result Worked Fault → Type 0
+Comes k (Ok (worked.Number v)) = k ≡ sort.Number
+Comes k (Ok (worked.Place decimal a n)) = k ≡ place_sort decimal
+Comes k (Ok (worked.Text p l)) = k ≡ sort.Text
+Comes k (Err e) = formedb e ≡ true
 
 left_comes : (st : List ℤ) → length st ≡ 1 → Comes sort.Number (left st)
 left_comes [] h = absurd (omega arith)
@@ -41,14 +42,14 @@ left_comes (v ∷ []) h = refl
 left_comes (v ∷ (x ∷ st)) h = absurd (omega arith)
 
 module _ (c : Code) (d : List ℕ) where
-  span_comes : (f : ℕ) (s : Span) → Comes (place_sort (decimalb c f)) (as_place c f s)
-  span_comes f (At a n) = by (decimalb c f) (ltb c.dialect.limit n)
+  span_comes : (f : ℕ) (s : Option Span) → Comes (place_sort (decimalb c f)) (as_place c f s)
+  span_comes f (Some s) = by (decimalb c f) (ltb c.dialect.limit s.len)
     where
-      by : (t u : Bool) → Comes (place_sort t) (cond t (cond u (worked.Failed fault.TooLong) (worked.Place true a n)) (worked.Place false a n))
+      by : (t u : Bool) → Comes (place_sort t) (cond t (cond u (Err fault.TooLong) (Ok (worked.Place true s.start s.len))) (Ok (worked.Place false s.start s.len)))
       by true true = refl
       by true false = refl
       by false u = refl
-  span_comes f Outside = refl
+  span_comes f None = refl
 
   by_comes : (h : Form) (f : ℕ) (x y : ℤ) → ltb f c.fields ≡ true → Comes (place_sort (decimalb c f)) (place_by c d h f x y)
   unfolding place_by

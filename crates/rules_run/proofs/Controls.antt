@@ -2,6 +2,7 @@
 --   test_up, test_down    the test with a positive and with a negative step
 --   place_holds           a value that fits reads as itself, in a sound unit
 -- Assumes nothing.
+use Rattle.std.specs.Prelude.{Ok}
 use Prim.Native.Nat.{ℕ, suc, ◌+◌, ◌-◌, ◌%◌, ◌^◌, ◌<◌, ◌≤◌}
 use native.Mathlib.Nat.{mod-eq_of_lt}
 use native.Mathlib.Omega.{arith}
@@ -14,7 +15,6 @@ use lib.IntN.{ℤ, pos, negsuc, nat_abs, ◌+ℤ◌}
 use lib.ListN.{length, take, drop}
 use lib.Signed.{le_z}
 use borrow.Author.Tests.{ltb-true, lt-ltb, le-ltb, leb-true, le-leb}
-use Rattle.rules.specs.declared.Num.TheVariants.{Value}
 use Rattle.rules.specs.Values.{Letters, signed, is_neg, read_of}
 use Rattle.rules.specs.Moves.{written}
 use Rattle.rules.proofs.Decimals.{length_written, read_written}
@@ -66,18 +66,18 @@ fits_whole n v h = ap (signed (is_neg v)) (mod-eq_of_lt h) ∙ signed_abs v
 
 -- A place of n characters at a, which lie inside the data, and a value that fits it.
 control_holds : (c : Code) → Letters c.dialect.sign → (d : List ℕ) (a n : ℕ) (v : ℤ) → a + n ≤ length d → 1 ≤ n → n ≤ c.dialect.limit → nat_abs v < 10 ^ n
-    → read_at c (stored d a (written c.dialect.sign n v)) a n ≡ Value v
+    → read_at c (stored d a (written c.dialect.sign n v)) a n ≡ Ok v
 control_holds c letters d a n v h o l f =
     let new : List ℕ = written c.dialect.sign n v in
     let e : length new ≡ n = length_written c.dialect.sign n v in
     ap (λ (k : ℕ). read_of c.dialect.limit c.dialect.sign (take k (drop a (stored d a new)))) (sym e)
     ∙ ap (read_of c.dialect.limit c.dialect.sign) (stored_back d a new (omega arith))
     ∙ read_written letters c.dialect.limit n v o l
-    ∙ ap Value (fits_whole n v f)
+    ∙ ap Ok (fits_whole n v f)
 
 -- Of a decimal place that is found in a sound unit nothing more is asked.
-pub place_holds : (c : Code) → SoundCode c → SoundDialect c.dialect → (d : List ℕ) (is : List Item) (a n : ℕ) → worked_of c d is ≡ worked.Place true a n
-    → (v : ℤ) → nat_abs v < 10 ^ n → read_at c (stored d a (written c.dialect.sign n v)) a n ≡ Value v
+pub place_holds : (c : Code) → SoundCode c → SoundDialect c.dialect → (d : List ℕ) (is : List Item) (a n : ℕ) → worked_of c d is ≡ Ok (worked.Place true a n)
+    → (v : ℤ) → nat_abs v < 10 ^ n → read_at c (stored d a (written c.dialect.sign n v)) a n ≡ Ok v
 place_holds c unit dialect d is a n e v fits =
     let room = place_room c unit dialect d is a n e in
     control_holds c dialect.letters d a n v room.0 room.1 room.2 fits

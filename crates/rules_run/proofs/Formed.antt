@@ -2,6 +2,7 @@
 -- what it makes, comes to a number or to a fault that is not Malformed.
 --   formedb e       e is another fault than Malformed
 -- Assumes nothing.
+use Rattle.std.specs.Prelude.{Result, Err, Ok, None, Option, Some}
 use Prim.Native.Nat.{ℕ, zero, suc, ◌+◌, ◌-◌, ◌<◌, ◌≤◌}
 use native.Mathlib.Omega.{arith}
 use mathlib.Core.Path.{◌≡◌, refl}
@@ -12,16 +13,12 @@ use lib.ListN.{length, take, drop}
 use borrow.Author.Tests.{lt-ltb}
 use Rattle.rules.specs.declared.Fault.{Fault}
 use Rattle.rules.specs.declared.Fault.TheVariants as fault
-use Rattle.rules.specs.declared.Num.{Num}
-use Rattle.rules.specs.declared.Num.TheVariants.{Value, Failed}
 use Rattle.rules_unit.specs.declared.Item.{Item}
 use Rattle.rules_unit.specs.declared.Item.TheVariants as item
 use Rattle.rules_unit.specs.Codes.{Code, rule_of, decimalb}
 use Rattle.rules_unit.specs.Expressions.{numberb, itemb, place_sort, sort_of, goes_on}
 use Rattle.rules_run.specs.declared.Span.{Span}
-use Rattle.rules_run.specs.declared.Span.TheVariants.{At, Outside}
 use Rattle.rules_run.specs.declared.Worked.{Worked}
-use Rattle.rules_run.specs.declared.Worked.TheVariants as worked
 use Rattle.rules_run.specs.Spans.{span_by}
 use Rattle.rules_run.specs.Evaluation.{literal_number, read_span, reference, apply, push, room, step_by, on_held}
 use Rattle.rules_run.proofs.Faults.{passes, calc_passes, read_passes}
@@ -46,16 +43,16 @@ module _ (c : Code) where
   unfolding literal_number
   literal_formed p l o = rw o
 
-  span_formed : (d : List ℕ) (s : Span) → passes formedb (read_span c d s) ≡ true
-  span_formed d (At a n) = read_passes formedb refl refl c.dialect.limit c.dialect.sign (take n (drop a d))
-  span_formed d Outside = refl
+  span_formed : (d : List ℕ) (s : Option Span) → passes formedb (read_span c d s) ≡ true
+  span_formed d (Some s) = read_passes formedb refl refl c.dialect.limit c.dialect.sign (take s.len (drop s.start d))
+  span_formed d None = refl
 
   pub item_formed : (d : List ℕ) (i : Item) (x y : ℤ) → itemb c i ≡ true → goes_on (sort_of c i) ≡ true → passes formedb (apply c d i x y) ≡ true
   unfolding reference
   item_formed d (item.Number p l) x y o g = literal_formed p l o
   item_formed d (item.Reference h f) x y o g = rw o (by (decimalb c f) g)
     where
-      by : (t : Bool) → goes_on (place_sort t) ≡ true → passes formedb (cond t (read_span c d (span_by (rule_of (c.field f)) (length d) (c.field f) h x y)) (Failed fault.Malformed)) ≡ true
+      by : (t : Bool) → goes_on (place_sort t) ≡ true → passes formedb (cond t (read_span c d (span_by (rule_of (c.field f)) (length d) (c.field f) h x y)) (Err fault.Malformed)) ≡ true
       by true g = span_formed d (span_by (rule_of (c.field f)) (length d) (c.field f) h x y)
       by false g = absurd (false≢true g)
   item_formed d (item.Text p l) x y o g = absurd (false≢true g)
@@ -65,16 +62,16 @@ module _ (c : Code) where
 
 -- ---- one step, with any property that the faults have
 
-module _ (P : Worked → Type 0) (w : (e : Fault) → formedb e ≡ true → P (worked.Failed e)) where
-  room_formed : (st : List ℤ) (g : Num) (k : List ℤ → Worked) → length st < 16 → passes formedb g ≡ true → ((v : ℤ) → P (k (v ∷ st)))
+module _ (P : Result Worked Fault → Type 0) (w : (e : Fault) → formedb e ≡ true → P (Err e)) where
+  room_formed : (st : List ℤ) (g : Result ℤ Fault) (k : List ℤ → Result Worked Fault) → length st < 16 → passes formedb g ≡ true → ((v : ℤ) → P (k (v ∷ st)))
       → P (on_held (room st g) k)
   room_formed st g k h m f = rw (lt-ltb (length st) 16 h) (by g m)
     where
-      by : (g : Num) → passes formedb g ≡ true → P (on_held (push g st) k)
-      by (Value v) m = f v
-      by (Failed e) m = w e m
+      by : (g : Result ℤ Fault) → passes formedb g ≡ true → P (on_held (push g st) k)
+      by (Ok v) m = f v
+      by (Err e) m = w e m
 
-  pub step_formed : (n : ℕ) (f : ℤ → ℤ → Num) (st : List ℤ) (k : List ℤ → Worked) → n ≤ 2 → n ≤ length st → length st - n < 16
+  pub step_formed : (n : ℕ) (f : ℤ → ℤ → Result ℤ Fault) (st : List ℤ) (k : List ℤ → Result Worked Fault) → n ≤ 2 → n ≤ length st → length st - n < 16
       → ((x y : ℤ) → passes formedb (f x y) ≡ true) → ((st' : List ℤ) → length st' ≡ length st - n + 1 → P (k st')) → P (on_held (step_by n f st) k)
   unfolding step_by
   step_formed zero f st k t h g m c = room_formed st (f (pos 0) (pos 0)) k (omega arith) (m (pos 0) (pos 0)) (λ v. c (v ∷ st) (omega arith))

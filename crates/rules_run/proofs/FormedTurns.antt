@@ -1,7 +1,9 @@
 -- A statement of a sound unit never answers Malformed, whatever the data are, where what it sees of the state is sound (document 01, "The coded unit"; request 4
 -- of document 02, "FOR loops").
 -- Assumes nothing.
-use Prim.Native.Nat.{ℕ, ◌+◌, ◌<◌}
+use Rattle.std.specs.Prelude.{Result, Err, Ok, None}
+use Rattle.rules.specs.declared.Fault.{Fault}
+use Prim.Native.Nat.{ℕ, ◌<◌}
 use native.Mathlib.Omega.{arith}
 use mathlib.Core.Path.{◌≡◌, refl, sym, ap, ◌∙◌, subst}
 use mathlib.Core.Bool.{Bool, true, false, false≢true}
@@ -11,8 +13,6 @@ use lib.IntN.{ℤ, nat_abs, ◌+ℤ◌}
 use lib.ListN.{get_or}
 use borrow.Author.Tests.{eqb-false}
 use Rattle.rules.specs.declared.Fault.TheVariants as fault
-use Rattle.rules.specs.declared.Num.{Num}
-use Rattle.rules.specs.declared.Num.TheVariants.{Value, Failed}
 use Rattle.rules.specs.Arithmetic.{add_of}
 use Rattle.rules.proofs.Walk.{cond_either, cond_case}
 use Rattle.rules_unit.specs.declared.Statement.{Statement}
@@ -20,7 +20,6 @@ use Rattle.rules_unit.specs.declared.Act.{Act}
 use Rattle.rules_unit.specs.declared.Act.TheVariants as act
 use Rattle.rules_unit.specs.declared.Verb.{Verb}
 use Rattle.rules_unit.specs.declared.Verb.TheVariants as verb
-use Rattle.rules_unit.specs.declared.Use.TheVariants as use-of
 use Rattle.rules_unit.specs.Table.{verb_of, row_of, uses_by}
 use Rattle.rules_unit.specs.declared.Sort.TheVariants as sort
 use Rattle.rules_unit.specs.declared.Want.{Want}
@@ -36,17 +35,16 @@ use Rattle.rules_run.specs.declared.Worked.TheVariants as worked
 use Rattle.rules_run.specs.declared.Write.{Write}
 use Rattle.rules_run.specs.declared.Write.TheVariants as write
 use Rattle.rules_run.specs.declared.Flow.{Flow}
-use Rattle.rules_run.specs.declared.Flow.TheVariants as flow
 use Rattle.rules_run.specs.declared.Turn.{Turn}
 use Rattle.rules_run.specs.declared.Look.{Look}
 use Rattle.rules_run.specs.States.{LookSound}
 use Rattle.rules_run.specs.Evaluation.{read_at, worked_of, number_of, value_at}
-use Rattle.rules_run.specs.Turns.{turn, failed, on_place, clear_at, counted, count_at, case_at, edit_num, edit_by, edit_at, if_zero, choose, on_value, testb, fitsb, controls, enter_flow, enter_at, enters, entry_of, pass_flow, pass_at, on_loop, repeats, exits, act_at, turn_by, turn_of}
+use Rattle.rules_run.specs.Turns.{turn, on_place, clear_at, counted, count_at, case_at, edit_num, edit_by, edit_at, if_zero, choose, on_value, fitsb, controls, enter_flow, enter_at, enters, entry_of, pass_flow, pass_at, on_loop, repeats, exits, act_at, turn_by, turn_of}
 use Rattle.rules_run.proofs.Faults.{passes, kept_passes}
 use Rattle.rules_run.proofs.Formed.{formedb}
 use Rattle.rules_run.proofs.Comes.{Comes}
 use Rattle.rules_run.proofs.Sorted.{sort_comes}
-use Rattle.rules_run.proofs.FormedMoves.{formed_flow, Formed, formed_failed, formed_stores, formed_num, formed_on, flow_cond, formed_choose, read_formed, formed_worked, counted_formed}
+use Rattle.rules_run.proofs.FormedMoves.{Formed, formed_failed, formed_stores, formed_num, formed_on, read_formed, formed_worked, counted_formed}
 
 module _ (c : Code) (d : List ℕ) where
   formed_count : (up decimal : Bool) (a n : ℕ) → suits want.DecimalPlace (place_sort decimal) ≡ true → Formed (count_at c d up decimal a n)
@@ -58,42 +56,42 @@ module _ (c : Code) (d : List ℕ) where
   formed_case up false a n q = formed_stores (write.Case a n up)
 
   -- A place of the sort that is wanted is found, where a number and a literal are not wanted.
-  formed_place : (w : Want) (e : ℕ) (k : Bool → ℕ → ℕ → Turn) → suits w sort.Number ≡ false → suits w sort.Text ≡ false → suits w (sort_at c e) ≡ true
+  formed_place : (w : Want) (e : ℕ) (k : Bool → ℕ → ℕ → Result Turn Fault) → suits w sort.Number ≡ false → suits w sort.Text ≡ false → suits w (sort_at c e) ≡ true
       → ((decimal : Bool) (a n : ℕ) → suits w (place_sort decimal) ≡ true → Formed (k decimal a n)) → Formed (on_place (worked_of c d (c.items e)) k)
   formed_place w e k x y q h = by (worked_of c d (c.items e)) (sort_comes c d e (suits_right w (sort_at c e) q))
     where
-      by : (o : Worked) → Comes (sort_at c e) o → Formed (on_place o k)
-      by (worked.Number v) m = absurd (false≢true (sym x ∙ ap (suits w) (sym m) ∙ q))
-      by (worked.Place decimal a n) m = h decimal a n (ap (suits w) (sym m) ∙ q)
-      by (worked.Text p l) m = absurd (false≢true (sym y ∙ ap (suits w) (sym m) ∙ q))
-      by (worked.Failed f) m = formed_failed f m
+      by : (o : Result Worked Fault) → Comes (sort_at c e) o → Formed (on_place o k)
+      by (Ok (worked.Number v)) m = absurd (false≢true (sym x ∙ ap (suits w) (sym m) ∙ q))
+      by (Ok (worked.Place decimal a n)) m = h decimal a n (ap (suits w) (sym m) ∙ q)
+      by (Ok (worked.Text p l)) m = absurd (false≢true (sym y ∙ ap (suits w) (sym m) ∙ q))
+      by (Err f) m = formed_failed f m
 
   number_formed : (e : ℕ) → suits want.Number (sort_at c e) ≡ true → passes formedb (number_of c d (worked_of c d (c.items e))) ≡ true
   number_formed e q = by (worked_of c d (c.items e)) (sort_comes c d e (suits_right want.Number (sort_at c e) q))
     where
-      by : (o : Worked) → Comes (sort_at c e) o → passes formedb (number_of c d o) ≡ true
-      by (worked.Number v) m = refl
-      by (worked.Place true a n) m = read_formed c d a n
-      by (worked.Place false a n) m = absurd (false≢true (ap (suits want.Number) (sym m) ∙ q))
-      by (worked.Text p l) m = absurd (false≢true (ap (suits want.Number) (sym m) ∙ q))
-      by (worked.Failed f) m = m
+      by : (o : Result Worked Fault) → Comes (sort_at c e) o → passes formedb (number_of c d o) ≡ true
+      by (Ok (worked.Number v)) m = refl
+      by (Ok (worked.Place true a n)) m = read_formed c d a n
+      by (Ok (worked.Place false a n)) m = absurd (false≢true (ap (suits want.Number) (sym m) ∙ q))
+      by (Ok (worked.Text p l)) m = absurd (false≢true (ap (suits want.Number) (sym m) ∙ q))
+      by (Err f) m = m
 
-  formed_edit_num : (r : Num) (k : ℤ → Write) → passes formedb r ≡ true → Formed (edit_num r k)
-  formed_edit_num (Value v) k h = formed_stores (k v)
-  formed_edit_num (Failed e) k h = formed_failed e h
+  formed_edit_num : (r : Result ℤ Fault) (k : ℤ → Write) → passes formedb r ≡ true → Formed (edit_num r k)
+  formed_edit_num (Ok v) k h = formed_stores (k v)
+  formed_edit_num (Err e) k h = formed_failed e h
 
   -- A mask of the sort that is wanted is found.
-  formed_mask : (a n e : ℕ) → suits want.AlphaSource (sort_at c e) ≡ true → (r : Num) → passes formedb r ≡ true → Formed (edit_by a n (worked_of c d (c.items e)) r)
+  formed_mask : (a n e : ℕ) → suits want.AlphaSource (sort_at c e) ≡ true → (r : Result ℤ Fault) → passes formedb r ≡ true → Formed (edit_by a n (worked_of c d (c.items e)) r)
   formed_mask a n e q r h = by (worked_of c d (c.items e)) (sort_comes c d e (suits_right want.AlphaSource (sort_at c e) q))
     where
-      by : (o : Worked) → Comes (sort_at c e) o → Formed (edit_by a n o r)
-      by (worked.Number v) m = absurd (false≢true (ap (suits want.AlphaSource) (sym m) ∙ q))
-      by (worked.Place true from k) m = absurd (false≢true (ap (suits want.AlphaSource) (sym m) ∙ q))
-      by (worked.Place false from k) m = formed_edit_num r (λ v. write.Edit a n from k v) h
-      by (worked.Text p l) m = formed_edit_num r (λ v. write.EditLiteral a n p l v) h
-      by (worked.Failed f) m = formed_failed f m
+      by : (o : Result Worked Fault) → Comes (sort_at c e) o → Formed (edit_by a n o r)
+      by (Ok (worked.Number v)) m = absurd (false≢true (ap (suits want.AlphaSource) (sym m) ∙ q))
+      by (Ok (worked.Place true from k)) m = absurd (false≢true (ap (suits want.AlphaSource) (sym m) ∙ q))
+      by (Ok (worked.Place false from k)) m = formed_edit_num r (λ v. write.Edit a n from k v) h
+      by (Ok (worked.Text p l)) m = formed_edit_num r (λ v. write.EditLiteral a n p l v) h
+      by (Err f) m = formed_failed f m
 
-  formed_edit : (decimal : Bool) (a n : ℕ) → suits want.AlphaPlace (place_sort decimal) ≡ true → (m : ℕ) → suits want.AlphaSource (sort_at c m) ≡ true → (r : Num) → passes formedb r ≡ true
+  formed_edit : (decimal : Bool) (a n : ℕ) → suits want.AlphaPlace (place_sort decimal) ≡ true → (m : ℕ) → suits want.AlphaSource (sort_at c m) ≡ true → (r : Result ℤ Fault) → passes formedb r ≡ true
       → Formed (edit_at decimal a n (worked_of c d (c.items m)) r)
   formed_edit true a n q m y r h = absurd (false≢true q)
   formed_edit false a n q m y r h = formed_mask a n m y r h
@@ -111,38 +109,38 @@ module _ (c : Code) (d : List ℕ) where
 
   -- ---- the statements of a loop
 
-  formed_value : (r : Num) (k : ℤ → Turn) → passes formedb r ≡ true → ((v : ℤ) → Formed (k v)) → Formed (on_value r k)
-  formed_value (Value v) k m h = h v
-  formed_value (Failed e) k m h = formed_failed e m
+  formed_value : (r : Result ℤ Fault) (k : ℤ → Result Turn Fault) → passes formedb r ≡ true → ((v : ℤ) → Formed (k v)) → Formed (on_value r k)
+  formed_value (Ok v) k m h = h v
+  formed_value (Err e) k m h = formed_failed e m
 
-  formed_controls : (a n : ℕ) (v : ℤ) (f : Flow) → formed_flow f ≡ true → Formed (controls a n v f)
-  formed_controls a n v f h = cond_either Formed (fitsb n v) (turn (write.Number a n v) f) (failed fault.TooLong) (record { formed = h }) (formed_failed fault.TooLong refl)
+  formed_controls : (a n : ℕ) (v : ℤ) (f : Flow) → Formed (controls a n v f)
+  formed_controls a n v f = cond_either Formed (fitsb n v) (Ok (turn (write.Number a n v) f)) (Err fault.TooLong) (record { formed = refl }) (formed_failed fault.TooLong refl)
 
   formed_enter : (s : Statement) → Used c (row_of verb.For) s → (decimal : Bool) (a n : ℕ) → suits want.DecimalPlace (place_sort decimal) ≡ true → Formed (enter_at c d s decimal a n)
   formed_enter s u true a n q =
       formed_value (value_at c d s.b) _ (number_formed s.b (u 1 (omega arith)))
       (λ v. formed_value (value_at c d (next_at c s.b)) _ (number_formed (next_at c s.b) (u 3 (omega arith)))
       (λ limit. formed_value (value_at c d (next_at c (next_at c s.b))) _ (number_formed (next_at c (next_at c s.b)) (u 4 (omega arith)))
-      (λ step. cond_either Formed (eqb (nat_abs step) 0) (failed fault.ZeroStep) _ (formed_failed fault.ZeroStep refl)
-      (formed_controls a n v (enter_flow s.c v limit step) (flow_cond (testb v limit step) (flow.Enter limit step) (flow.Goto (s.c + 1)) refl refl)))))
+      (λ step. cond_either Formed (eqb (nat_abs step) 0) (Err fault.ZeroStep) _ (formed_failed fault.ZeroStep refl)
+      (formed_controls a n v (enter_flow s.c v limit step)))))
   formed_enter s u false a n q = absurd (false≢true q)
 
   formed_enters : (l : Look) (s : Statement) → Used c (row_of verb.For) s → Formed (enters c l d s)
   unfolding enters
   formed_enters l s u =
-      cond_either Formed (ltb l.opened 16) _ (failed fault.LoopsFull) (formed_place want.DecimalPlace s.a (enter_at c d s) refl refl (u 0 (omega arith)) (formed_enter s u))
+      cond_either Formed (ltb l.opened 16) _ (Err fault.LoopsFull) (formed_place want.DecimalPlace s.a (enter_at c d s) refl refl (u 0 (omega arith)) (formed_enter s u))
       (formed_failed fault.LoopsFull refl)
 
   formed_pass : (l : Look) (decimal : Bool) (a n : ℕ) → suits want.DecimalPlace (place_sort decimal) ≡ true → Formed (pass_at c l d decimal a n)
   formed_pass l true a n q =
       formed_value (read_at c d a n) _ (read_formed c d a n)
       (λ x. formed_value (add_of c.dialect.top x l.last.step) _ (kept_passes formedb refl c.dialect.top (x +ℤ l.last.step))
-      (λ v. formed_controls a n v (pass_flow c l v) (flow_cond (testb v l.last.limit l.last.step) (flow.Goto (l.last.entry + 1)) (flow.Leave ((entry_of c l).c + 1)) refl refl)))
+      (λ v. formed_controls a n v (pass_flow c l v)))
   formed_pass l false a n q = absurd (false≢true q)
 
-  formed_loop : (l : Look) (t : Turn) → (0 < l.opened → Formed t) → Formed (on_loop l t)
+  formed_loop : (l : Look) (t : Result Turn Fault) → (0 < l.opened → Formed t) → Formed (on_loop l t)
   formed_loop l t f =
-      cond_case Formed (eqb l.opened 0) (failed fault.NoLoop) t (λ e. formed_failed fault.NoLoop refl) (λ e. f (omega (arith, eqb-false l.opened 0 e)))
+      cond_case Formed (eqb l.opened 0) (Err fault.NoLoop) t (λ e. formed_failed fault.NoLoop refl) (λ e. f (omega (arith, eqb-false l.opened 0 e)))
 
   -- The control place of the loop opened last is of the sort that is wanted.
   abbrev Controlled : Look → Type 0
@@ -161,19 +159,19 @@ module _ (c : Code) (d : List ℕ) where
   for_controlled u l k h =
       let e = l.last.entry in
       let used = uses_good c e (u.statements e (k.last h).low).uses in
-      subst (λ (v : Verb). useb c (get_or (uses_by c (row_of v) (entry_of c l)) 0 use-of.Nothing) ≡ true) (verb_for (entry_of c l).code (k.last h).enters) (used 0 (omega arith))
+      subst (λ (v : Verb). useb c (get_or (uses_by c (row_of v) (entry_of c l)) 0 None) ≡ true) (verb_for (entry_of c l).code (k.last h).enters) (used 0 (omega arith))
 
   formed_by : (l : Look) → Controlled l → (i : ℕ) (v : Verb) (s : Statement) → RowSound c i (row_of v) s → Used c (row_of v) s → Formed (turn_by c l i d v s)
   unfolding turn_by
   formed_by l o i (verb.At x) s f u = formed_act x s u
   formed_by l o i verb.Goto s f u = record { formed = refl }
   formed_by l o i verb.IfZero s f u =
-      formed_on (number_of c d (worked_of c d (c.items s.b))) (if_zero s.c) (number_formed s.b (u 1 (omega arith))) (λ v. flow_cond (eqb (nat_abs v) 0) (flow.Goto s.c) flow.Next refl refl)
+      formed_on (number_of c d (worked_of c d (c.items s.b))) (if_zero s.c) (number_formed s.b (u 1 (omega arith)))
   formed_by l o i verb.Call s f u = record { formed = refl }
   formed_by l o i verb.Return s f u = record { formed = refl }
   formed_by l o i verb.Stop s f u = record { formed = refl }
   formed_by l o i verb.Computed s f u =
-      formed_on (number_of c d (worked_of c d (c.items s.b))) (choose i s.a) (number_formed s.b (u 1 (omega arith))) (formed_choose i s.a)
+      formed_on (number_of c d (worked_of c d (c.items s.b))) (choose i s.a) (number_formed s.b (u 1 (omega arith)))
   formed_by l o i verb.For s f u = formed_enters l s u
   formed_by l o i verb.LoopEnd s f u = formed_repeats l o
   formed_by l o i verb.ExitLoop s f u = formed_exits l
@@ -182,7 +180,7 @@ module _ (c : Code) (d : List ℕ) where
   formed_by l o i verb.OffError s f u = record { formed = refl }
   formed_by l o i verb.Bad s f u = absurd f.of_a
 
-  pub turn_formed : SoundCode c → (l : Look) → LookSound c l → (i : ℕ) → i < c.statements → formed_flow (turn_of c l i d).flow ≡ true
+  pub turn_formed : SoundCode c → (l : Look) → LookSound c l → (i : ℕ) → i < c.statements → passes formedb (turn_of c l i d) ≡ true
   unfolding turn_of
   turn_formed u l k i h =
       let s = u.statements i h in

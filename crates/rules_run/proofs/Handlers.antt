@@ -1,6 +1,7 @@
 -- Handlers (request 6 of document 02, "ONERROR and OFFERROR"): which errors that are given are trapped and which stop the run, what either leaves, and what
 -- sets the handler and the last error.
 -- Assumes nothing.
+use Rattle.std.specs.Prelude.{None, Some, Result, Err, Ok}
 use Prim.Native.Nat.{ℕ, zero, suc, ◌≤◌}
 use native.Mathlib.Omega.{arith}
 use mathlib.Core.Path.{◌≡◌, refl, sym, ap, ◌∙◌, subst}
@@ -18,14 +19,13 @@ use Rattle.rules_unit.specs.Codes.{Code}
 use Rattle.rules_unit.specs.Decode.{decoded}
 use Rattle.rules_unit.specs.Table.{verb_of, WritesA, Repeats}
 use Rattle.rules_unit.proofs.Table.{code_of_lem}
-use Rattle.rules_run.specs.declared.Caught.TheVariants as caught
 use Rattle.rules_run.specs.declared.Flow.{Flow}
 use Rattle.rules_run.specs.declared.Flow.TheVariants as flow
-use Rattle.rules_run.specs.declared.Handler.TheVariants as handler
 use Rattle.rules_run.specs.declared.State.{State}
-use Rattle.rules_run.specs.States.{called, returned, armed, caught_by, unhandled, look_of}
-use Rattle.rules_run.specs.Turns.{applied, turn_by, turn_of}
-use Rattle.rules_run.specs.Runs.{Moved, to, stuck, trap_by, on_error, moved_by, next_of, data_after, Ran}
+use Rattle.rules_run.specs.declared.Turn.{Turn}
+use Rattle.rules_run.specs.States.{called, returned, armed, caught_by, unhandled, look_of, error_at}
+use Rattle.rules_run.specs.Turns.{turn_by, turn_of}
+use Rattle.rules_run.specs.Runs.{Moved, to, stuck, trap_by, on_error, moved_by, led_by, next_of, data_after, Ran}
 use Rattle.rules_run.specs.Answers.{Reaches, GivesHere, Gives, Does, Erred}
 use Rattle.rules_run.proofs.Cases.{MayGo, turn_case}
 use Rattle.rules_run.proofs.Jumps.{jumps_keep_data}
@@ -73,13 +73,13 @@ module _ (n : ℕ) (s : State) where
   moved_given (flow.Leave i) e q = absurd (not_stuck q)
   moved_given (flow.Arm i) e q = absurd (not_stuck q)
   moved_given flow.Disarm e q = absurd (not_stuck q)
-  moved_given (flow.Bad x) e q = ap (on_error s) (one_error (sym (error_stops s x) ∙ q))
+
+  led_given : (t : Result Turn Fault) (e : Fault) → led_by n (unhandled s) t ≡ stuck e → led_by n s t ≡ on_error s e
+  led_given (Ok t) e q = moved_given t.flow e q
+  led_given (Err x) e q = ap (on_error s) (one_error (sym (error_stops s x) ∙ q))
 
   -- Where it stops with a handler, it stops without one, and the handler would not have trapped it.
-  abbrev Stops : Flow → Fault → Type 0
-  Stops f e = (moved_by n (unhandled s) f ≡ stuck e) × (Trappable (fault_number e) → s.trap.handler ≡ handler.None)
-
-  moved_stuck : (f : Flow) (e : Fault) → moved_by n s f ≡ stuck e → Stops f e
+  moved_stuck : (f : Flow) (e : Fault) → moved_by n s f ≡ stuck e → (moved_by n (unhandled s) f ≡ stuck e) × (Trappable (fault_number e) → s.trap.handler ≡ None)
   unfolding moved_by
   moved_stuck flow.Next e q = absurd (not_stuck q)
   moved_stuck (flow.Goto i) e q = absurd (not_stuck q)
@@ -89,7 +89,7 @@ module _ (n : ℕ) (s : State) where
       never q z = not_24 (subst (λ (x : Fault). Trappable (fault_number x)) (sym (one_error q)) z)
 
       by : (b : Bool) → cond b (to (called s i)) (stuck fault.CallsFull) ≡ stuck e
-          → (cond b (to (called (unhandled s) i)) (stuck fault.CallsFull) ≡ stuck e) × (Trappable (fault_number e) → s.trap.handler ≡ handler.None)
+          → (cond b (to (called (unhandled s) i)) (stuck fault.CallsFull) ≡ stuck e) × (Trappable (fault_number e) → s.trap.handler ≡ None)
       by true q = absurd (not_stuck q)
       by false q = (q, λ z. absurd (never q z))
   moved_stuck flow.Return e q = by (eqb s.depth 0) q
@@ -98,7 +98,7 @@ module _ (n : ℕ) (s : State) where
       never q z = not_25 (subst (λ (x : Fault). Trappable (fault_number x)) (sym (one_error q)) z)
 
       by : (b : Bool) → cond b (stuck fault.NoCall) (to (returned s)) ≡ stuck e
-          → (cond b (stuck fault.NoCall) (to (returned (unhandled s))) ≡ stuck e) × (Trappable (fault_number e) → s.trap.handler ≡ handler.None)
+          → (cond b (stuck fault.NoCall) (to (returned (unhandled s))) ≡ stuck e) × (Trappable (fault_number e) → s.trap.handler ≡ None)
       by true q = (q, λ z. absurd (never q z))
       by false q = absurd (not_stuck q)
   moved_stuck flow.Stop e q = absurd (not_stuck q)
@@ -106,53 +106,63 @@ module _ (n : ℕ) (s : State) where
   moved_stuck (flow.Leave i) e q = absurd (not_stuck q)
   moved_stuck (flow.Arm i) e q = absurd (not_stuck q)
   moved_stuck flow.Disarm e q = absurd (not_stuck q)
-  moved_stuck (flow.Bad x) e q =
-      error_case (λ m. m ≡ stuck e → (on_error (unhandled s) x ≡ stuck e) × (Trappable (fault_number e) → s.trap.handler ≡ handler.None)) s x
-      (λ h p. (error_stops s x ∙ p, subst (λ (y : Fault). Trappable (fault_number y) → s.trap.handler ≡ handler.None) (one_error p) h)) (λ i h r p. absurd (not_stuck p)) q
 
-  -- The last error is as it was, or it is the one that was given and trapped here.
-  abbrev Tells : State → Flow → Type 0
-  Tells t f = (t.trap.caught ≡ s.trap.caught) ⊎ ((e : Fault) × (moved_by n (unhandled s) f ≡ stuck e) × (t.trap.caught ≡ caught.Error (fault_number e) s.at))
+  led_stuck : (t : Result Turn Fault) (e : Fault) → led_by n s t ≡ stuck e → (led_by n (unhandled s) t ≡ stuck e) × (Trappable (fault_number e) → s.trap.handler ≡ None)
+  led_stuck (Ok t) e q = moved_stuck t.flow e q
+  led_stuck (Err x) e q =
+      error_case (λ m. m ≡ stuck e → (on_error (unhandled s) x ≡ stuck e) × (Trappable (fault_number e) → s.trap.handler ≡ None)) s x
+      (λ h p. (error_stops s x ∙ p, subst (λ (y : Fault). Trappable (fault_number y) → s.trap.handler ≡ None) (one_error p) h)) (λ i h r p. absurd (not_stuck p)) q
 
-  moved_tells : (t : State) (f : Flow) → moved_by n s f ≡ to t → Tells t f
+  -- A flow leaves the last error as it was.
+  moved_tells : (t : State) (f : Flow) → moved_by n s f ≡ to t → t.trap.caught ≡ s.trap.caught
   unfolding moved_by
-  moved_tells t flow.Next q = inl (ap (λ (x : State). x.trap.caught) (same_state q))
-  moved_tells t (flow.Goto i) q = inl (ap (λ (x : State). x.trap.caught) (same_state q))
-  moved_tells t (flow.Call i) q = inl (by (ltb s.depth 50) q)
+  moved_tells t flow.Next q = ap (λ (x : State). x.trap.caught) (same_state q)
+  moved_tells t (flow.Goto i) q = ap (λ (x : State). x.trap.caught) (same_state q)
+  moved_tells t (flow.Call i) q = by (ltb s.depth 50) q
     where
       by : (b : Bool) → cond b (to (called s i)) (stuck fault.CallsFull) ≡ to t → t.trap.caught ≡ s.trap.caught
       by true q = ap (λ (x : State). x.trap.caught) (same_state q)
       by false q = absurd (not_stuck (sym q))
-  moved_tells t flow.Return q = inl (by (eqb s.depth 0) q)
+  moved_tells t flow.Return q = by (eqb s.depth 0) q
     where
       by : (b : Bool) → cond b (stuck fault.NoCall) (to (returned s)) ≡ to t → t.trap.caught ≡ s.trap.caught
       by true q = absurd (not_stuck (sym q))
       by false q = ap (λ (x : State). x.trap.caught) (same_state q)
-  moved_tells t flow.Stop q = inl (ap (λ (x : State). x.trap.caught) (same_state q))
-  moved_tells t (flow.Enter limit step) q = inl (ap (λ (x : State). x.trap.caught) (same_state q))
-  moved_tells t (flow.Leave i) q = inl (ap (λ (x : State). x.trap.caught) (same_state q))
-  moved_tells t (flow.Arm i) q = inl (ap (λ (x : State). x.trap.caught) (same_state q))
-  moved_tells t flow.Disarm q = inl (ap (λ (x : State). x.trap.caught) (same_state q))
-  moved_tells t (flow.Bad x) q =
-      error_case (λ m. m ≡ to t → Tells t (flow.Bad x)) s x (λ h p. absurd (not_stuck (sym p)))
+  moved_tells t flow.Stop q = ap (λ (x : State). x.trap.caught) (same_state q)
+  moved_tells t (flow.Enter limit step) q = ap (λ (x : State). x.trap.caught) (same_state q)
+  moved_tells t (flow.Leave i) q = ap (λ (x : State). x.trap.caught) (same_state q)
+  moved_tells t (flow.Arm i) q = ap (λ (x : State). x.trap.caught) (same_state q)
+  moved_tells t flow.Disarm q = ap (λ (x : State). x.trap.caught) (same_state q)
+
+  -- The last error is as it was, or it is the one that was given and trapped here.
+  abbrev Tells : State → Result Turn Fault → Type 0
+  Tells t r = (t.trap.caught ≡ s.trap.caught) ⊎ ((e : Fault) × (led_by n (unhandled s) r ≡ stuck e) × (t.trap.caught ≡ error_at (fault_number e) s.at))
+
+  led_tells : (t : State) (r : Result Turn Fault) → led_by n s r ≡ to t → Tells t r
+  led_tells t (Ok r) q = inl (moved_tells t r.flow q)
+  led_tells t (Err x) q =
+      error_case (λ m. m ≡ to t → Tells t (Err x)) s x (λ h p. absurd (not_stuck (sym p)))
       (λ i h r p. inr (x, error_stops s x, ap (λ (y : State). y.trap.caught) (same_state p))) q
 
-  -- An error is given by the statement itself, or by the open calls.
-  moved_why : (f : Flow) (e : Fault) → moved_by n s f ≡ stuck e → (f ≡ flow.Bad e) ⊎ ((e ≡ fault.CallsFull) ⊎ (e ≡ fault.NoCall))
+  -- An error is given by the open calls, or by the statement itself.
+  moved_why : (f : Flow) (e : Fault) → moved_by n s f ≡ stuck e → (e ≡ fault.CallsFull) ⊎ (e ≡ fault.NoCall)
   unfolding moved_by
   moved_why flow.Next e q = absurd (not_stuck q)
   moved_why (flow.Goto i) e q = absurd (not_stuck q)
   moved_why (flow.Call i) e q =
-      inr (inl (cond_either (λ m. m ≡ stuck e → e ≡ fault.CallsFull) (ltb s.depth 50) (to (called s i)) (stuck fault.CallsFull) (λ p. absurd (not_stuck p)) (λ p. sym (one_error p)) q))
+      inl (cond_either (λ m. m ≡ stuck e → e ≡ fault.CallsFull) (ltb s.depth 50) (to (called s i)) (stuck fault.CallsFull) (λ p. absurd (not_stuck p)) (λ p. sym (one_error p)) q)
   moved_why flow.Return e q =
-      inr (inr (cond_either (λ m. m ≡ stuck e → e ≡ fault.NoCall) (eqb s.depth 0) (stuck fault.NoCall) (to (returned s)) (λ p. sym (one_error p)) (λ p. absurd (not_stuck p)) q))
+      inr (cond_either (λ m. m ≡ stuck e → e ≡ fault.NoCall) (eqb s.depth 0) (stuck fault.NoCall) (to (returned s)) (λ p. sym (one_error p)) (λ p. absurd (not_stuck p)) q)
   moved_why flow.Stop e q = absurd (not_stuck q)
   moved_why (flow.Enter limit step) e q = absurd (not_stuck q)
   moved_why (flow.Leave i) e q = absurd (not_stuck q)
   moved_why (flow.Arm i) e q = absurd (not_stuck q)
   moved_why flow.Disarm e q = absurd (not_stuck q)
-  moved_why (flow.Bad x) e q =
-      inl (error_case (λ m. m ≡ stuck e → flow.Bad x ≡ flow.Bad e) s x (λ h p. ap flow.Bad (one_error p)) (λ i h r p. absurd (not_stuck p)) q)
+
+  led_why : (t : Result Turn Fault) (e : Fault) → led_by n s t ≡ stuck e → (t ≡ Err e) ⊎ ((e ≡ fault.CallsFull) ⊎ (e ≡ fault.NoCall))
+  led_why (Ok t) e q = inr (moved_why t.flow e q)
+  led_why (Err x) e q =
+      inl (error_case (λ m. m ≡ stuck e → ◌≡◌ {A = Result Turn Fault} (Err x) (Err e)) s x (λ h p. ap Err (one_error p)) (λ i h r p. absurd (not_stuck p)) q)
 
 module _ (c : Code) (s : State) (d : List ℕ) where
   abbrev code : ℕ
@@ -161,29 +171,28 @@ module _ (c : Code) (s : State) (d : List ℕ) where
   -- ---- an error that is given
 
   pub given_leads : (e : Fault) → GivesHere c s d e → next_of c s d ≡ on_error s e
-  given_leads e = moved_given c.statements s (turn_of c (look_of s) s.at d).flow e
+  given_leads e = led_given c.statements s (turn_of c (look_of s) s.at d) e
 
-  pub stops_exactly : (e : Fault) → (next_of c s d ≡ stuck e) ↔ GivesHere c s d e × (Trappable (fault_number e) → s.trap.handler ≡ handler.None)
+  pub stops_exactly : (e : Fault) → (next_of c s d ≡ stuck e) ↔ GivesHere c s d e × (Trappable (fault_number e) → s.trap.handler ≡ None)
   stops_exactly e = (
-    moved_stuck c.statements s (turn_of c (look_of s) s.at d).flow e,
+    led_stuck c.statements s (turn_of c (look_of s) s.at d) e,
     λ h. given_leads e h.0 ∙ error_case (λ m. m ≡ stuck e) s e (λ z. refl) (λ i q r. absurd (none_not i (sym (h.1 r) ∙ q))),
   )
     where
-      none_not : (i : ℕ) → handler.None ≡ handler.At i → ⊥
+      none_not : (i : ℕ) → None ≡ Some i → ⊥
       none_not i q = let z : ◌≡◌ {A = ℕ} 0 1 = cc in omega arith
 
   pub traps_exactly : (e : Fault) → GivesHere c s d e → (t : State)
-      → (next_of c s d ≡ to t) ↔ Trappable (fault_number e) × (i : ℕ) × (s.trap.handler ≡ handler.At i) × (t ≡ caught_by s (fault_number e) i)
+      → (next_of c s d ≡ to t) ↔ Trappable (fault_number e) × (i : ℕ) × (s.trap.handler ≡ Some i) × (t ≡ caught_by s (fault_number e) i)
   traps_exactly e g t = (
-    λ q. error_case (λ m. m ≡ to t → Trappable (fault_number e) × (i : ℕ) × (s.trap.handler ≡ handler.At i) × (t ≡ caught_by s (fault_number e) i)) s e
+    λ q. error_case (λ m. m ≡ to t → Trappable (fault_number e) × (i : ℕ) × (s.trap.handler ≡ Some i) × (t ≡ caught_by s (fault_number e) i)) s e
         (λ h p. absurd (not_stuck (sym p))) (λ i h r p. (r, i, h, same_state p)) (sym (given_leads e g) ∙ q),
     λ h. given_leads e g ∙ rw (trapped_of (fault_number e) h.0) (ap (trap_by s e) h.2 ∙ ap to (sym h.3)),
   )
 
   -- "leaves the data as that statement found it"
   pub given_keeps_data : (e : Fault) → GivesHere c s d e → data_after c s d ≡ d
-  unfolding applied
-  given_keeps_data e g = by (moved_why c.statements (unhandled s) (turn_of c (look_of s) s.at d).flow e g)
+  given_keeps_data e g = by (led_why c.statements (unhandled s) (turn_of c (look_of s) s.at d) e g)
     where
       no_store : (k : ℕ) → 7 ≤ k → k ≤ 12 → code ≡ k → WritesA code → ⊥
       no_store k l m q (inl h) = omega (arith, h.1)
@@ -197,18 +206,18 @@ module _ (c : Code) (s : State) (d : List ℕ) where
       jump : (k : ℕ) → 7 ≤ k → k ≤ 12 → code ≡ k → data_after c s d ≡ d
       jump k l m q = jumps_keep_data c s d (no_store k l m q) (no_pass k m q)
 
-      by : ((turn_of c (look_of s) s.at d).flow ≡ flow.Bad e) ⊎ ((e ≡ fault.CallsFull) ⊎ (e ≡ fault.NoCall)) → data_after c s d ≡ d
-      by (inl q) = ap (applied c d) (error_stores_nothing c (look_of s) s.at d e q)
+      by : (turn_of c (look_of s) s.at d ≡ Err e) ⊎ ((e ≡ fault.CallsFull) ⊎ (e ≡ fault.NoCall)) → data_after c s d ≡ d
+      by (inl q) = error_stores_nothing c (look_of s) s.at d e q
       by (inr (inl q)) = jump 9 (omega arith) (omega arith) ((full_exactly c (unhandled s) d).0 (g ∙ ap stuck q)).0
       by (inr (inr q)) = jump 10 (omega arith) (omega arith) ((none_exactly c (unhandled s) d).0 (g ∙ ap stuck q)).0
 
   -- ---- the handler
 
-  pub on_error_arms : code ≡ 18 → next_of c s d ≡ to (armed s (handler.At (c.statement s.at).c))
+  pub on_error_arms : code ≡ 18 → next_of c s d ≡ to (armed s (Some (c.statement s.at).c))
   unfolding turn_of turn_by verb_of moved_by
   on_error_arms e = rw e
 
-  pub off_error_disarms : code ≡ 19 → next_of c s d ≡ to (armed s handler.None)
+  pub off_error_disarms : code ≡ 19 → next_of c s d ≡ to (armed s None)
   unfolding turn_of turn_by verb_of moved_by
   off_error_disarms e = rw e
 
@@ -228,12 +237,11 @@ module _ (c : Code) (s : State) (d : List ℕ) where
     may_keep (flow.Leave t) m = refl
     may_keep (flow.Arm t) m = absurd (x (code_of_lem code verb.OnError (omega arith) m.0))
     may_keep flow.Disarm m = absurd (y (code_of_lem code verb.OffError (omega arith) m))
-    may_keep (flow.Bad e) m = absurd m
 
     others_keep : MovedKeeps (next_of c s d)
     unfolding turn_of moved_by
     others_keep =
-        turn_case (λ t. MovedKeeps (moved_by c.statements s t.flow)) c (look_of s) s.at d (verb_of code) (c.statement s.at)
+        turn_case (λ t. MovedKeeps (led_by c.statements s t)) c (look_of s) s.at d (verb_of code) (c.statement s.at)
         (λ e m. error_case MovedKeeps s e (λ z. tt) (λ i q r. refl)) (λ w f m. may_keep f m)
 
     -- A statement that is completed, and is neither ONERROR nor OFFERROR, keeps the handler.
@@ -242,27 +250,27 @@ module _ (c : Code) (s : State) (d : List ℕ) where
 
   -- ---- the last error
 
-  pub step_tells : (t : State) → next_of c s d ≡ to t → (t.trap.caught ≡ s.trap.caught) ⊎ ((e : Fault) × GivesHere c s d e × (t.trap.caught ≡ caught.Error (fault_number e) s.at))
-  step_tells t = moved_tells c.statements s t (turn_of c (look_of s) s.at d).flow
+  pub step_tells : (t : State) → next_of c s d ≡ to t → (t.trap.caught ≡ s.trap.caught) ⊎ ((e : Fault) × GivesHere c s d e × (t.trap.caught ≡ error_at (fault_number e) s.at))
+  step_tells t = led_tells c.statements s t (turn_of c (look_of s) s.at d)
 
   pub completed_keeps : ((e : Fault) → GivesHere c s d e → ⊥) → (t : State) → next_of c s d ≡ to t → t.trap.caught ≡ s.trap.caught
   completed_keeps h t q = by (step_tells t q)
     where
-      by : (t.trap.caught ≡ s.trap.caught) ⊎ ((e : Fault) × GivesHere c s d e × (t.trap.caught ≡ caught.Error (fault_number e) s.at)) → t.trap.caught ≡ s.trap.caught
+      by : (t.trap.caught ≡ s.trap.caught) ⊎ ((e : Fault) × GivesHere c s d e × (t.trap.caught ≡ error_at (fault_number e) s.at)) → t.trap.caught ≡ s.trap.caught
       by (inl e) = e
       by (inr (e, g, p)) = absurd (h e g)
 
 -- ---- in a run
 
 abbrev pub TellsGiven : Code → ℕ → State → List ℕ → State → Type 0
-TellsGiven c m s d t = (t.trap.caught ≡ s.trap.caught) ⊎ ((e : Fault) × (g : Gives c m s d e) × (t.trap.caught ≡ caught.Error (fault_number e) g.at.at))
+TellsGiven c m s d t = (t.trap.caught ≡ s.trap.caught) ⊎ ((e : Fault) × (g : Gives c m s d e) × (t.trap.caught ≡ error_at (fault_number e) g.at.at))
 
 -- The last error is as it was, or it was given by one of the statements completed.
 pub reached_tells : (c : Code) (k : ℕ) (s : State) (d : List ℕ) (t : State) (x : List ℕ) → Reaches c k s d t x → TellsGiven c k s d t
 reached_tells c zero s d t x (p, q) = inl (ap (λ (y : State). y.trap.caught) (sym p))
 reached_tells c (suc k) s d t x (l, (y, (q, r))) = by (reached_tells c k y (data_after c s d) t x r)
   where
-    here : t.trap.caught ≡ y.trap.caught → (y.trap.caught ≡ s.trap.caught) ⊎ ((e : Fault) × GivesHere c s d e × (y.trap.caught ≡ caught.Error (fault_number e) s.at)) → TellsGiven c (suc k) s d t
+    here : t.trap.caught ≡ y.trap.caught → (y.trap.caught ≡ s.trap.caught) ⊎ ((e : Fault) × GivesHere c s d e × (y.trap.caught ≡ error_at (fault_number e) s.at)) → TellsGiven c (suc k) s d t
     here p (inl w) = inl (p ∙ w)
     here p (inr (e, g, w)) = inr (e, record { done = 0; fewer = omega arith; at = s; seen = d; reached = (refl, refl); low = l; here = g }, p ∙ w)
 

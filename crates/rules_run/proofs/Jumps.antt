@@ -1,6 +1,7 @@
 -- Where statements lead, by their codes (document 01, "The coded unit"): GOTO, the test for zero and the computed GOTO; the codes that write their place a go
 -- on at the next statement, but for FOR, and the others leave the data, but for those that go on with a loop.
 -- Assumes nothing.
+use Rattle.std.specs.Prelude.{Result, Err, Ok}
 use Prim.Native.Nat.{ℕ, zero, suc, ◌+◌, ◌≤◌}
 use native.Mathlib.Omega.{arith}
 use mathlib.Core.Path.{◌≡◌, refl, sym, subst}
@@ -12,8 +13,6 @@ use lib.IntN.{ℤ, pos, negsuc, nat_abs}
 use borrow.Author.Tests.{leb-true, le-leb, eq-eqb, ne_eqb}
 use Rattle.rules.specs.declared.Fault.{Fault}
 use Rattle.rules.specs.declared.Fault.TheVariants as fault
-use Rattle.rules.specs.declared.Num.{Num}
-use Rattle.rules.specs.declared.Num.TheVariants.{Value, Failed}
 use Rattle.rules.proofs.Walk.{cond_either}
 use Rattle.rules_unit.specs.declared.Act.{Act}
 use Rattle.rules_unit.specs.declared.Act.TheVariants as act
@@ -26,10 +25,11 @@ use Rattle.rules_run.specs.declared.Flow.{Flow}
 use Rattle.rules_run.specs.declared.Flow.TheVariants as flow
 use Rattle.rules_run.specs.declared.Write.TheVariants as write
 use Rattle.rules_run.specs.declared.State.{State}
+use Rattle.rules_run.specs.declared.Turn.{Turn}
 use Rattle.rules_run.specs.States.{gone, unhandled, look_of}
 use Rattle.rules_run.specs.Evaluation.{worked_of, number_of}
-use Rattle.rules_run.specs.Turns.{applied, failed, on_number, if_zero, choose, exits, turn_by, turn_of}
-use Rattle.rules_run.specs.Runs.{to, stuck, moved_by, next_of, data_after}
+use Rattle.rules_run.specs.Turns.{applied, on_number, if_zero, choose, exits, turn_by, turn_of}
+use Rattle.rules_run.specs.Runs.{to, stuck, moved_by, led_by, next_of, data_by, data_after}
 use Rattle.rules_run.specs.Answers.{GivesHere}
 use Rattle.rules_run.proofs.Cases.{act_case}
 use Rattle.rules_run.proofs.Traps.{error_stops}
@@ -52,7 +52,7 @@ module _ (c : Code) (s : State) (d : List ℕ) where
   unfolding turn_of turn_by verb_of moved_by
   goto_goes e = rw e
 
-  module _ (v : ℤ) (q : number_of c d (worked_of c d (c.items (c.statement s.at).b)) ≡ Value v) where
+  module _ (v : ℤ) (q : number_of c d (worked_of c d (c.items (c.statement s.at).b)) ≡ Ok v) where
     pub zero_goes : (c.statement s.at).code ≡ 8 → nat_abs v ≡ 0 → next_of c s d ≡ to (gone s (c.statement s.at).c)
     unfolding turn_of turn_by verb_of moved_by
     zero_goes e h = rw (e, q, eq-eqb (nat_abs v) 0 h)
@@ -82,21 +82,27 @@ Onward (flow.Enter limit step) = ⊥
 Onward (flow.Leave i) = ⊥
 Onward (flow.Arm i) = ⊥
 Onward flow.Disarm = ⊥
-Onward (flow.Bad e) = Unit {0}
+
+onward_to : (n : ℕ) (s t : State) (f : Flow) → Onward f → moved_by n s f ≡ to t → t ≡ gone s (s.at + 1)
+unfolding moved_by
+onward_to n s t flow.Next h e = cc
+onward_to n s t (flow.Goto i) h e = absurd h
+onward_to n s t (flow.Call i) h e = absurd h
+onward_to n s t flow.Return h e = absurd h
+onward_to n s t flow.Stop h e = absurd h
+onward_to n s t (flow.Enter limit step) h e = absurd h
+onward_to n s t (flow.Leave i) h e = absurd h
+onward_to n s t (flow.Arm i) h e = absurd h
+onward_to n s t flow.Disarm h e = absurd h
+
+abbrev TurnOnward : Result Turn Fault → Type 0
+TurnOnward (Ok t) = Onward t.flow
+TurnOnward (Err e) = Unit {0}
 
 -- Where no error is given.
-onward_to : (n : ℕ) (s t : State) (f : Flow) → Onward f → ((x : Fault) → moved_by n (unhandled s) f ≡ stuck x → ⊥) → moved_by n s f ≡ to t → t ≡ gone s (s.at + 1)
-unfolding moved_by
-onward_to n s t flow.Next h g e = cc
-onward_to n s t (flow.Goto i) h g e = absurd h
-onward_to n s t (flow.Call i) h g e = absurd h
-onward_to n s t flow.Return h g e = absurd h
-onward_to n s t flow.Stop h g e = absurd h
-onward_to n s t (flow.Enter limit step) h g e = absurd h
-onward_to n s t (flow.Leave i) h g e = absurd h
-onward_to n s t (flow.Arm i) h g e = absurd h
-onward_to n s t flow.Disarm h g e = absurd h
-onward_to n s t (flow.Bad x) h g e = absurd (g x (error_stops s x))
+led_onward : (n : ℕ) (s t : State) (r : Result Turn Fault) → TurnOnward r → ((x : Fault) → led_by n (unhandled s) r ≡ stuck x → ⊥) → led_by n s r ≡ to t → t ≡ gone s (s.at + 1)
+led_onward n s t (Ok r) h g e = onward_to n s t r.flow h e
+led_onward n s t (Err x) h g e = absurd (g x (error_stops s x))
 
 -- The verb of a code from 1 to 6.
 low_verb : (code : ℕ) → 1 ≤ code → code ≤ 6 → (x : Act) × (verb_of code ≡ verb.At x)
@@ -134,9 +140,14 @@ stores_some code (inl h) = writes_some code h
 stores_some code (inr (inl e)) = omega (arith, e)
 stores_some code (inr (inr e)) = omega (arith, e)
 
-number_nothing : (r : Num) (k : ℤ → Flow) → (on_number r k).write ≡ write.Nothing
-number_nothing (Value v) k = refl
-number_nothing (Failed e) k = refl
+-- A turn that stores nothing.
+abbrev Still : Result Turn Fault → Type 0
+Still (Ok t) = t.write ≡ write.Nothing
+Still (Err e) = Unit {0}
+
+number_nothing : (r : Result ℤ Fault) (k : ℤ → Flow) → Still (on_number r k)
+number_nothing (Ok v) k = refl
+number_nothing (Err e) k = tt
 
 module _ (c : Code) (s : State) (d : List ℕ) where
   pub stores_next : WritesA (c.statement s.at).code → ((c.statement s.at).code ≡ 14 → ⊥) → ((x : Fault) → GivesHere c s d x → ⊥) → (t : State) → next_of c s d ≡ to t
@@ -144,12 +155,12 @@ module _ (c : Code) (s : State) (d : List ℕ) where
   unfolding turn_of
   stores_next a n g t e =
       let x = store_verb (c.statement s.at).code a n in
-      onward_to c.statements s t (turn_of c (look_of s) s.at d).flow
-      (subst (λ (v : Verb). Onward (turn_by c (look_of s) s.at d v (c.statement s.at)).flow) (sym x.1)
-      (act_case (λ u. Onward u.flow) (λ f w. tt) (λ w. tt) c d (look_of s) s.at x.0 (c.statement s.at))) g e
+      led_onward c.statements s t (turn_of c (look_of s) s.at d)
+      (subst (λ (v : Verb). TurnOnward (turn_by c (look_of s) s.at d v (c.statement s.at))) (sym x.1)
+      (act_case TurnOnward (λ f w. tt) (λ w. tt) c d (look_of s) s.at x.0 (c.statement s.at))) g e
 
   -- What is stored by a statement of another code: nothing.
-  nothing_by : (v : Verb) → ((turn_by c (look_of s) s.at d v (c.statement s.at)).write ≡ write.Nothing) ⊎ Stores (code_back v)
+  nothing_by : (v : Verb) → Still (turn_by c (look_of s) s.at d v (c.statement s.at)) ⊎ Stores (code_back v)
   unfolding turn_by exits
   nothing_by (verb.At x) = inr (inl (back_store x))
   nothing_by verb.Goto = inl refl
@@ -160,24 +171,29 @@ module _ (c : Code) (s : State) (d : List ℕ) where
   nothing_by verb.Computed = inl (number_nothing (number_of c d (worked_of c d (c.items (c.statement s.at).b))) (choose s.at (c.statement s.at).a))
   nothing_by verb.For = inr (inl (inr (inr refl)))
   nothing_by verb.LoopEnd = inr (inr (inl refl))
-  nothing_by verb.ExitLoop = inl (cond_either (λ t. t.write ≡ write.Nothing) (eqb s.opened 0) (failed fault.NoLoop) _ refl refl)
+  nothing_by verb.ExitLoop = inl (cond_either Still (eqb s.opened 0) (Err fault.NoLoop) _ tt refl)
   nothing_by verb.NextLoop = inr (inr (inr refl))
   nothing_by verb.OnError = inl refl
   nothing_by verb.OffError = inl refl
-  nothing_by verb.Bad = inl refl
+  nothing_by verb.Bad = inl tt
+
+  still_keeps : (t : Result Turn Fault) → Still t → data_by c d t ≡ d
+  unfolding applied
+  still_keeps (Ok t) e = rw e
+  still_keeps (Err x) e = refl
 
   pub jumps_keep_data : (WritesA (c.statement s.at).code → ⊥) → (Repeats (c.statement s.at).code → ⊥) → data_after c s d ≡ d
-  unfolding turn_of applied
+  unfolding turn_of
   jumps_keep_data x y = by (nothing_by (verb_of (c.statement s.at).code))
     where
       none : (code : ℕ) → Stores code → (WritesA code → ⊥) → (Repeats code → ⊥) → ⊥
       none code (inl h) x y = x h
       none code (inr h) x y = y h
 
-      by : ((turn_by c (look_of s) s.at d (verb_of (c.statement s.at).code) (c.statement s.at)).write ≡ write.Nothing)
+      by : Still (turn_by c (look_of s) s.at d (verb_of (c.statement s.at).code) (c.statement s.at))
           ⊎ Stores (code_back (verb_of (c.statement s.at).code))
           → data_after c s d ≡ d
-      by (inl e) = rw e
+      by (inl e) = still_keeps (turn_by c (look_of s) s.at d (verb_of (c.statement s.at).code) (c.statement s.at)) e
       by (inr h) =
           let code = (c.statement s.at).code in
           absurd (none code (subst Stores (sym (code_of_lem code (verb_of code) (stores_some (code_back (verb_of code)) h) refl)) h) x y)

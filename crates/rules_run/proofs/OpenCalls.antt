@@ -21,7 +21,7 @@ use Rattle.rules_run.specs.declared.Flow.TheVariants as flow
 use Rattle.rules_run.specs.declared.State.{State}
 use Rattle.rules_run.specs.States.{look_of}
 use Rattle.rules_run.specs.Turns.{turn_by, turn_of}
-use Rattle.rules_run.specs.Runs.{Moved, to, stuck, moved_by, next_of}
+use Rattle.rules_run.specs.Runs.{Moved, to, stuck, moved_by, led_by, next_of}
 use Rattle.rules_run.proofs.Cases.{MayFail, MayGo, turn_case}
 use Rattle.rules_run.proofs.Traps.{error_case}
 
@@ -36,52 +36,27 @@ module _ (c : Code) (s : State) (d : List ℕ) where
   Fails e = MayFail c (look_of s) d (verb_of code) (c.statement s.at) e
 
   -- It neither opens nor closes a call, and gives neither 24 nor 25.
-  abbrev Keeps : Flow → Type 0
-  Keeps flow.Next = Unit {0}
-  Keeps (flow.Goto i) = Unit {0}
-  Keeps (flow.Call i) = ⊥
-  Keeps flow.Return = ⊥
-  Keeps flow.Stop = Unit {0}
-  Keeps (flow.Enter limit step) = Unit {0}
-  Keeps (flow.Leave i) = Unit {0}
-  Keeps (flow.Arm i) = Unit {0}
-  Keeps flow.Disarm = Unit {0}
-  Keeps (flow.Bad e) = Fails e
-
   abbrev MovedKeeps : Moved → Type 0
   MovedKeeps (to t) = (t.depth ≡ s.depth) × (t.returns ≡ s.returns)
   MovedKeeps (stuck f) = Fails f
 
-  moved_keeps : (f : Flow) → Keeps f → MovedKeeps (moved_by c.statements s f)
+  may_keeps : (code ≡ 9 → ⊥) → (code ≡ 10 → ⊥) → (f : Flow) → MayGo c (look_of s) s.at d (verb_of code) (c.statement s.at) f → MovedKeeps (moved_by c.statements s f)
   unfolding moved_by
-  moved_keeps flow.Next h = (refl, refl)
-  moved_keeps (flow.Goto i) h = (refl, refl)
-  moved_keeps (flow.Call i) h = absurd h
-  moved_keeps flow.Return h = absurd h
-  moved_keeps flow.Stop h = (refl, refl)
-  moved_keeps (flow.Enter limit step) h = (refl, refl)
-  moved_keeps (flow.Leave i) h = (refl, refl)
-  moved_keeps (flow.Arm i) h = (refl, refl)
-  moved_keeps flow.Disarm h = (refl, refl)
-  moved_keeps (flow.Bad e) h = error_case MovedKeeps s e (λ z. h) (λ i q r. (refl, refl))
-
-  may_keeps : (code ≡ 9 → ⊥) → (code ≡ 10 → ⊥) → (f : Flow) → MayGo c (look_of s) s.at d (verb_of code) (c.statement s.at) f → Keeps f
-  may_keeps x y flow.Next h = tt
-  may_keeps x y (flow.Goto j) h = tt
-  may_keeps x y (flow.Call j) h = x (code_of_lem code verb.Call (omega arith) h.0)
-  may_keeps x y flow.Return h = y (code_of_lem code verb.Return (omega arith) h)
-  may_keeps x y flow.Stop h = tt
-  may_keeps x y (flow.Enter limit step) h = tt
-  may_keeps x y (flow.Leave j) h = tt
-  may_keeps x y (flow.Arm j) h = tt
-  may_keeps x y flow.Disarm h = tt
-  may_keeps x y (flow.Bad e) h = absurd h
+  may_keeps x y flow.Next h = (refl, refl)
+  may_keeps x y (flow.Goto j) h = (refl, refl)
+  may_keeps x y (flow.Call j) h = absurd (x (code_of_lem code verb.Call (omega arith) h.0))
+  may_keeps x y flow.Return h = absurd (y (code_of_lem code verb.Return (omega arith) h))
+  may_keeps x y flow.Stop h = (refl, refl)
+  may_keeps x y (flow.Enter limit step) h = (refl, refl)
+  may_keeps x y (flow.Leave j) h = (refl, refl)
+  may_keeps x y (flow.Arm j) h = (refl, refl)
+  may_keeps x y flow.Disarm h = (refl, refl)
 
   other_keeps : (code ≡ 9 → ⊥) → (code ≡ 10 → ⊥) → MovedKeeps (next_of c s d)
   unfolding turn_of
   other_keeps x y =
-      moved_keeps (turn_of c (look_of s) s.at d).flow
-      (turn_case (λ t. Keeps t.flow) c (look_of s) s.at d (verb_of code) (c.statement s.at) (λ e m. m) (λ w f m. may_keeps x y f m))
+      turn_case (λ t. MovedKeeps (led_by c.statements s t)) c (look_of s) s.at d (verb_of code) (c.statement s.at)
+      (λ e m. error_case MovedKeeps s e (λ z. m) (λ i q r. (refl, refl))) (λ w f m. may_keeps x y f m)
 
   -- ---- CALL, RETURN and STOP
 

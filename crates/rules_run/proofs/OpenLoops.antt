@@ -1,6 +1,7 @@
 -- The open loops (request 4 of document 02, "FOR loops"): what FOR, a loop end, EXITLOOP and NEXTLOOP do to them and to the data, and that no other
 -- statement does anything to them; 27, 28 and 29 are given exactly where the request says.
 -- Assumes nothing.
+use Rattle.std.specs.Prelude.{Err, Ok, Result}
 use Prim.Native.Nat.{ℕ, ◌+◌, ◌-◌, ◌^◌, ◌<◌, ◌≤◌}
 use native.Mathlib.Omega.{arith}
 use mathlib.Core.Path.{◌≡◌, refl, ap, ◌∙◌, subst}
@@ -13,7 +14,6 @@ use lib.ListN.{get_or, set}
 use borrow.Author.Tests.{lt-ltb, le-ltb, eq-eqb, ne_eqb}
 use Rattle.rules.specs.declared.Fault.{Fault}
 use Rattle.rules.specs.declared.Fault.TheVariants as fault
-use Rattle.rules.specs.declared.Num.TheVariants.{Value, Failed}
 use Rattle.rules.specs.Stops.{fault_number}
 use Rattle.rules.specs.Arithmetic.{add_of}
 use Rattle.rules.specs.Moves.{written}
@@ -33,8 +33,8 @@ use Rattle.rules_run.specs.declared.Worked.TheVariants as worked
 use Rattle.rules_run.specs.declared.Write.TheVariants as write
 use Rattle.rules_run.specs.Evaluation.{read_at, worked_of, value_at}
 use Rattle.rules_run.specs.States.{no_loop, gone, called, returned, look_of}
-use Rattle.rules_run.specs.Turns.{stored, applied, turn, failed, goes, testb, enter_flow, enter_by, enters, Entry, entry_of, pass_flow, repeats, Pass, exits, turn_by, turn_of}
-use Rattle.rules_run.specs.Runs.{Moved, to, stuck, moved_by, next_of, data_after}
+use Rattle.rules_run.specs.Turns.{stored, applied, turn, goes, testb, enter_flow, enter_by, enters, Entry, entry_of, pass_flow, repeats, Pass, exits, turn_by, turn_of}
+use Rattle.rules_run.specs.Runs.{Moved, to, stuck, moved_by, led_by, next_of, data_after}
 use Rattle.rules_run.specs.Answers.{GivesHere}
 use Rattle.rules_run.proofs.Cases.{ActsOnLoop, MayFail, MayGo, turn_case}
 use Rattle.rules_run.proofs.Traps.{error_case, fails_here}
@@ -47,26 +47,26 @@ last_loop s k e =
 
 -- The first that fails is reported.
 module _ (c : Code) (l : Look) (d : List ℕ) (o : l.opened ≡ 0 → ⊥) (f : Fault) where
-  repeats_place_fails : worked_of c d (c.items (entry_of c l).a) ≡ worked.Failed f → repeats c l d ≡ failed f
+  repeats_place_fails : worked_of c d (c.items (entry_of c l).a) ≡ Err f → repeats c l d ≡ Err f
   unfolding repeats
   repeats_place_fails e = rw (ne_eqb l.opened 0 o, e)
 
-  module _ (a n : ℕ) (found : worked_of c d (c.items (entry_of c l).a) ≡ worked.Place true a n) where
-    repeats_read_fails : read_at c d a n ≡ Failed f → repeats c l d ≡ failed f
+  module _ (a n : ℕ) (found : worked_of c d (c.items (entry_of c l).a) ≡ Ok (worked.Place true a n)) where
+    repeats_read_fails : read_at c d a n ≡ Err f → repeats c l d ≡ Err f
     unfolding repeats
     repeats_read_fails e = rw (ne_eqb l.opened 0 o, found, e)
 
-    repeats_sum_fails : (x : ℤ) → read_at c d a n ≡ Value x → add_of c.dialect.top x l.last.step ≡ Failed f → repeats c l d ≡ failed f
+    repeats_sum_fails : (x : ℤ) → read_at c d a n ≡ Ok x → add_of c.dialect.top x l.last.step ≡ Err f → repeats c l d ≡ Err f
     unfolding repeats
     repeats_sum_fails x r e = rw (ne_eqb l.opened 0 o, found, r, e)
 
 -- A pass of the loop opened last, which l shows.
 module _ (c : Code) (l : Look) (d : List ℕ) (o : l.opened ≡ 0 → ⊥) (p : Pass c l d) where
-  repeats_long : 10 ^ p.n ≤ nat_abs p.v → repeats c l d ≡ failed fault.TooLong
+  repeats_long : 10 ^ p.n ≤ nat_abs p.v → repeats c l d ≡ Err fault.TooLong
   unfolding repeats
   repeats_long h = rw (ne_eqb l.opened 0 o, p.found, p.reads, p.adds, le-ltb (nat_abs p.v) (10 ^ p.n) h)
 
-  repeats_fits : nat_abs p.v < 10 ^ p.n → repeats c l d ≡ turn (write.Number p.a p.n p.v) (pass_flow c l p.v)
+  repeats_fits : nat_abs p.v < 10 ^ p.n → repeats c l d ≡ Ok (turn (write.Number p.a p.n p.v) (pass_flow c l p.v))
   unfolding repeats
   repeats_fits h = rw (ne_eqb l.opened 0 o, p.found, p.reads, p.adds, lt-ltb (nat_abs p.v) (10 ^ p.n) h)
 
@@ -74,11 +74,11 @@ exits_open : (c : Code) (l : Look) → (l.opened ≡ 0 → ⊥) → exits c l �
 unfolding exits
 exits_open c l o = rw (ne_eqb l.opened 0 o)
 
-pub repeats_none : (c : Code) (l : Look) (d : List ℕ) → l.opened ≡ 0 → repeats c l d ≡ failed fault.NoLoop
+pub repeats_none : (c : Code) (l : Look) (d : List ℕ) → l.opened ≡ 0 → repeats c l d ≡ Err fault.NoLoop
 unfolding repeats
 repeats_none c l d e = rw (eq-eqb l.opened 0 e)
 
-pub exits_none : (c : Code) (l : Look) → l.opened ≡ 0 → exits c l ≡ failed fault.NoLoop
+pub exits_none : (c : Code) (l : Look) → l.opened ≡ 0 → exits c l ≡ Err fault.NoLoop
 unfolding exits
 exits_none c l e = rw (eq-eqb l.opened 0 e)
 
@@ -94,21 +94,21 @@ module _ (c : Code) (s : State) (d : List ℕ) where
 
   -- "On entry the control place is found, then start, limit and step are worked out once, in that order.": the first that fails is reported.
   module _ (q : here.code ≡ 14) (o : s.opened < 16) (f : Fault) where
-    pub for_place_fails : worked_of c d (c.items here.a) ≡ worked.Failed f → GivesHere c s d f
+    pub for_place_fails : worked_of c d (c.items here.a) ≡ Err f → GivesHere c s d f
     unfolding turn_of turn_by verb_of enters
     for_place_fails e = fails_here c s d f (rw (q, lt-ltb s.opened 16 o, e))
 
-    module _ (a n : ℕ) (found : worked_of c d (c.items here.a) ≡ worked.Place true a n) where
-      pub for_start_fails : value_at c d here.b ≡ Failed f → GivesHere c s d f
+    module _ (a n : ℕ) (found : worked_of c d (c.items here.a) ≡ Ok (worked.Place true a n)) where
+      pub for_start_fails : value_at c d here.b ≡ Err f → GivesHere c s d f
       unfolding turn_of turn_by verb_of enters
       for_start_fails e = fails_here c s d f (rw (q, lt-ltb s.opened 16 o, found, e))
 
-      pub for_limit_fails : (start : ℤ) → value_at c d here.b ≡ Value start → value_at c d (next_at c here.b) ≡ Failed f → GivesHere c s d f
+      pub for_limit_fails : (start : ℤ) → value_at c d here.b ≡ Ok start → value_at c d (next_at c here.b) ≡ Err f → GivesHere c s d f
       unfolding turn_of turn_by verb_of enters
       for_limit_fails start x e = fails_here c s d f (rw (q, lt-ltb s.opened 16 o, found, x, e))
 
-      pub for_step_fails : (start limit : ℤ) → value_at c d here.b ≡ Value start → value_at c d (next_at c here.b) ≡ Value limit
-          → value_at c d (next_at c (next_at c here.b)) ≡ Failed f
+      pub for_step_fails : (start limit : ℤ) → value_at c d here.b ≡ Ok start → value_at c d (next_at c here.b) ≡ Ok limit
+          → value_at c d (next_at c (next_at c here.b)) ≡ Err f
           → GivesHere c s d f
       unfolding turn_of turn_by verb_of enters
       for_step_fails start limit x y e = fails_here c s d f (rw (q, lt-ltb s.opened 16 o, found, x, y, e))
@@ -128,7 +128,7 @@ module _ (c : Code) (s : State) (d : List ℕ) where
       for_long h = fails_here c s d fault.TooLong (rw (for_turn, ne_eqb (nat_abs e.step) 0 moves, le-ltb (nat_abs e.start) (10 ^ e.n) h))
 
       module _ (fits : nat_abs e.start < 10 ^ e.n) where
-        for_fits : turn_of c (look_of s) s.at d ≡ turn (write.Number e.a e.n e.start) (enter_flow here.c e.start e.limit e.step)
+        for_fits : turn_of c (look_of s) s.at d ≡ Ok (turn (write.Number e.a e.n e.start) (enter_flow here.c e.start e.limit e.step))
         for_fits = rw (for_turn, ne_eqb (nat_abs e.step) 0 moves, lt-ltb (nat_abs e.start) (10 ^ e.n) fits)
 
         pub for_stores : data_after c s d ≡ stored d e.a (written c.dialect.sign e.n e.start)
@@ -148,8 +148,8 @@ module _ (c : Code) (s : State) (d : List ℕ) where
   -- ---- loop end, NEXTLOOP, EXITLOOP
 
   -- Where the statement leads, by its turn.
-  leads : (t : Turn) → turn_of c (look_of s) s.at d ≡ t → next_of c s d ≡ moved_by c.statements s t.flow
-  leads t e = ap (λ (x : Turn). moved_by c.statements s x.flow) e
+  leads : (t : Result Turn Fault) → turn_of c (look_of s) s.at d ≡ t → next_of c s d ≡ led_by c.statements s t
+  leads t e = ap (led_by c.statements s) e
 
   repeats_turn : Repeats here.code → turn_of c (look_of s) s.at d ≡ repeats c (look_of s) d
   unfolding turn_of turn_by verb_of
@@ -162,14 +162,14 @@ module _ (c : Code) (s : State) (d : List ℕ) where
 
   -- The place is found, then read, then the step is added: the first that fails is reported.
   module _ (q : Repeats here.code) (o : s.opened ≡ 0 → ⊥) (f : Fault) where
-    pub pass_place_fails : worked_of c d (c.items (entry_of c (look_of s)).a) ≡ worked.Failed f → GivesHere c s d f
+    pub pass_place_fails : worked_of c d (c.items (entry_of c (look_of s)).a) ≡ Err f → GivesHere c s d f
     pass_place_fails e = fails_here c s d f (repeats_turn q ∙ repeats_place_fails c (look_of s) d o f e)
 
-    module _ (a n : ℕ) (found : worked_of c d (c.items (entry_of c (look_of s)).a) ≡ worked.Place true a n) where
-      pub pass_read_fails : read_at c d a n ≡ Failed f → GivesHere c s d f
+    module _ (a n : ℕ) (found : worked_of c d (c.items (entry_of c (look_of s)).a) ≡ Ok (worked.Place true a n)) where
+      pub pass_read_fails : read_at c d a n ≡ Err f → GivesHere c s d f
       pass_read_fails e = fails_here c s d f (repeats_turn q ∙ repeats_read_fails c (look_of s) d o f a n found e)
 
-      pub pass_sum_fails : (x : ℤ) → read_at c d a n ≡ Value x → add_of c.dialect.top x (look_of s).last.step ≡ Failed f → GivesHere c s d f
+      pub pass_sum_fails : (x : ℤ) → read_at c d a n ≡ Ok x → add_of c.dialect.top x (look_of s).last.step ≡ Err f → GivesHere c s d f
       pass_sum_fails x r e = fails_here c s d f (repeats_turn q ∙ repeats_sum_fails c (look_of s) d o f a n found x r e)
 
   module _ (q : Repeats here.code) (o : s.opened ≡ 0 → ⊥) (p : Pass c (look_of s) d) where
@@ -177,7 +177,7 @@ module _ (c : Code) (s : State) (d : List ℕ) where
     pass_long h = fails_here c s d fault.TooLong (repeats_turn q ∙ repeats_long c (look_of s) d o p h)
 
     module _ (fits : nat_abs p.v < 10 ^ p.n) where
-      pass_turn : turn_of c (look_of s) s.at d ≡ turn (write.Number p.a p.n p.v) (pass_flow c (look_of s) p.v)
+      pass_turn : turn_of c (look_of s) s.at d ≡ Ok (turn (write.Number p.a p.n p.v) (pass_flow c (look_of s) p.v))
       pass_turn = repeats_turn q ∙ repeats_fits c (look_of s) d o p fits
 
       pub pass_stores : data_after c s d ≡ stored d p.a (written c.dialect.sign p.n p.v)
@@ -202,9 +202,9 @@ module _ (c : Code) (s : State) (d : List ℕ) where
 
   pub loop_none : OnLoop here.code → s.opened ≡ 0 → next_of c s d ≡ stuck fault.NoLoop
   unfolding moved_by
-  loop_none (inl q) e = leads (failed fault.NoLoop) (repeats_turn (inl q) ∙ repeats_none c (look_of s) d e)
-  loop_none (inr (inl q)) e = leads (failed fault.NoLoop) (exits_turn q ∙ exits_none c (look_of s) e)
-  loop_none (inr (inr q)) e = leads (failed fault.NoLoop) (repeats_turn (inr q) ∙ repeats_none c (look_of s) d e)
+  loop_none (inl q) e = leads (Err fault.NoLoop) (repeats_turn (inl q) ∙ repeats_none c (look_of s) d e)
+  loop_none (inr (inl q)) e = leads (Err fault.NoLoop) (exits_turn q ∙ exits_none c (look_of s) e)
+  loop_none (inr (inr q)) e = leads (Err fault.NoLoop) (repeats_turn (inr q) ∙ repeats_none c (look_of s) d e)
 
   -- ---- 27, 28 and 29
 
@@ -216,10 +216,7 @@ module _ (c : Code) (s : State) (d : List ℕ) where
   MovedFails (to t) = Unit {0}
   MovedFails (stuck f) = (fault_number f ≡ 24) ⊎ ((fault_number f ≡ 25) ⊎ Fails f)
 
-  abbrev FlowFails : Flow → Type 0
-  FlowFails f = MovedFails (moved_by c.statements s f)
-
-  may_fail : (f : Flow) → MayGo c (look_of s) s.at d (verb_of here.code) here f → FlowFails f
+  may_fail : (f : Flow) → MayGo c (look_of s) s.at d (verb_of here.code) here f → MovedFails (moved_by c.statements s f)
   unfolding moved_by
   may_fail flow.Next m = tt
   may_fail (flow.Goto t) m = tt
@@ -230,12 +227,11 @@ module _ (c : Code) (s : State) (d : List ℕ) where
   may_fail (flow.Leave t) m = tt
   may_fail (flow.Arm t) m = tt
   may_fail flow.Disarm m = tt
-  may_fail (flow.Bad e) m = absurd m
 
   next_fails : MovedFails (next_of c s d)
   unfolding turn_of moved_by
   next_fails =
-      turn_case (λ t. FlowFails t.flow) c (look_of s) s.at d (verb_of here.code) here (λ e m. error_case MovedFails s e (λ z. inr (inr m)) (λ i q r. tt)) (λ w f m. may_fail f m)
+      turn_case (λ t. MovedFails (led_by c.statements s t)) c (look_of s) s.at d (verb_of here.code) here (λ e m. error_case MovedFails s e (λ z. inr (inr m)) (λ i q r. tt)) (λ w f m. may_fail f m)
 
   why : (f : Fault) → (fault_number f ≡ 24 → ⊥) → (fault_number f ≡ 25 → ⊥) → next_of c s d ≡ stuck f → Fails f
   why f x y e = by (subst MovedFails e next_fails)
@@ -290,12 +286,11 @@ module _ (c : Code) (s : State) (d : List ℕ) where
     may_keep (flow.Leave t) m = absurd (y (on_code m.0))
     may_keep (flow.Arm t) m = (refl, refl)
     may_keep flow.Disarm m = (refl, refl)
-    may_keep (flow.Bad e) m = absurd m
 
     others_keep : MovedKeeps (next_of c s d)
     unfolding turn_of moved_by
     others_keep =
-        turn_case (λ t. MovedKeeps (moved_by c.statements s t.flow)) c (look_of s) s.at d (verb_of here.code) here (λ e m. error_case MovedKeeps s e (λ z. tt) (λ i q r. (refl, refl))) (λ w f m. may_keep f m)
+        turn_case (λ t. MovedKeeps (led_by c.statements s t)) c (look_of s) s.at d (verb_of here.code) here (λ e m. error_case MovedKeeps s e (λ z. tt) (λ i q r. (refl, refl))) (λ w f m. may_keep f m)
 
     -- A statement that is completed, and is none of a loop's, keeps the open loops.
     pub loops_kept : (t : State) → next_of c s d ≡ to t → (t.opened ≡ s.opened) × (t.loops ≡ s.loops)

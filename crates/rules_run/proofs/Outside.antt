@@ -3,9 +3,10 @@
 --   Touches w p            the byte p lies in it
 --   new_of c d w            the characters that it puts there
 -- Assumes nothing.
+use Rattle.std.specs.Prelude.{Result, Ok, Err}
 use Prim.Native.Nat.{ℕ, ◌+◌, ◌<◌, ◌≤◌}
 use native.Mathlib.Omega.{arith}
-use mathlib.Core.Path.{◌≡◌, refl, sym, ◌∙◌, subst}
+use mathlib.Core.Path.{◌≡◌, refl, sym, ap, ◌∙◌}
 use mathlib.Core.Bool.{Bool, true, false}
 use mathlib.Core.List.{List, []}
 use lib.Dec.{ltb}
@@ -18,14 +19,13 @@ use Rattle.rules.proofs.Decimals.{length_written, length_shown, length_fitted, l
 use Rattle.rules.proofs.Masks.{length_formatted}
 use Rattle.rules.specs.declared.Fault.{Fault}
 use Rattle.rules_unit.specs.Codes.{Code}
-use Rattle.rules_unit.specs.Table.{verb_of}
-use Rattle.rules_run.specs.declared.Flow.TheVariants as flow
-use Rattle.rules_run.specs.declared.Turn.{Turn}
 use Rattle.rules_run.specs.declared.Look.{Look}
+use Rattle.rules_run.specs.declared.Turn.{Turn}
 use Rattle.rules_run.specs.declared.Write.{Write}
 use Rattle.rules_run.specs.declared.Write.TheVariants as write
 use Rattle.rules_run.specs.Turns.{stored, cased, cleared, applied, Room, turn_of}
-use Rattle.rules_run.proofs.Cases.{MayGo, turn_case}
+use Rattle.rules_run.specs.Runs.{data_by}
+use Rattle.rules_run.proofs.Room.{TurnRoom}
 use Rattle.rules_run.proofs.Stored.{stored_low, stored_high, stored_length, stored_none}
 
 -- ---- the span of a store
@@ -125,14 +125,13 @@ module _ (c : Code) (d : List ℕ) where
         by false e false f =
             stored_high d (start_of w) (new_of c d w) p (omega (arith, room_fits w r)) (omega (arith, ltb-false p (start_of w + len_of w) f, length_new w r))
 
--- ---- errors
+-- ---- a turn
+
+module _ (c : Code) (d : List ℕ) where
+  pub turn_length : (t : Result Turn Fault) → TurnRoom c (length d) t → length (data_by c d t) ≡ length d
+  turn_length (Ok t) r = applied_length c d t.write r
+  turn_length (Err e) r = refl
 
 -- "A statement that ends in a run error has changed nothing."
-pub error_stores_nothing : (c : Code) (l : Look) (i : ℕ) (d : List ℕ) (e : Fault) → (turn_of c l i d).flow ≡ flow.Bad e → (turn_of c l i d).write ≡ write.Nothing
-unfolding turn_of
-error_stores_nothing c l i d =
-    turn_case Quiet c l i d (verb_of (c.statement i).code) (c.statement i) (λ e m f q. refl)
-    (λ w f m e q. absurd (subst (MayGo c l i d (verb_of (c.statement i).code) (c.statement i)) q m))
-  where
-    Quiet : Turn → Type 0
-    Quiet t = (e : Fault) → t.flow ≡ flow.Bad e → t.write ≡ write.Nothing
+pub error_stores_nothing : (c : Code) (l : Look) (i : ℕ) (d : List ℕ) (e : Fault) → turn_of c l i d ≡ Err e → data_by c d (turn_of c l i d) ≡ d
+error_stores_nothing c l i d e q = ap (data_by c d) q

@@ -1,6 +1,8 @@
 -- What an item makes of numbers in a range is in it (document 01, "Values and references"). The range is any that holds the dialect's
 -- numbers: its truths, its sums and its digits.
 -- Assumes nothing.
+use Rattle.std.specs.Prelude.{Result, Err, Ok, None, Option, Some}
+use Rattle.rules.specs.declared.Fault.{Fault}
 use mathlib.Core.Path.{◌≡◌}
 use mathlib.Core.Bool.{true, not, ◌||◌}
 use mathlib.Core.List.{List, [], ◌∷◌}
@@ -13,8 +15,6 @@ use lib.Signed.{lt_z, le_z}
 use lib.ListN.{length, take, drop, length-take}
 use borrow.Author.Tests.{leb-true}
 use Rattle.rules.specs.Tests.{◌and◌}
-use Rattle.rules.specs.declared.Num.{Num}
-use Rattle.rules.specs.declared.Num.TheVariants.{Value, Failed}
 use Rattle.rules.specs.declared.Fault.TheVariants as fault
 use Rattle.rules.specs.Values.{Val, is_from}
 use Rattle.rules.specs.Arithmetic.{kept, is_true, eq_z, xorb}
@@ -31,13 +31,12 @@ use Rattle.rules_unit.specs.declared.Item.TheVariants as item
 use Rattle.rules_unit.specs.Codes.{Code, rule_of, decimalb}
 use Rattle.rules_unit.specs.Expressions.{digitsb, numberb}
 use Rattle.rules_run.specs.declared.Span.{Span}
-use Rattle.rules_run.specs.declared.Span.TheVariants.{At, Outside}
 use Rattle.rules_run.specs.Spans.{span_by}
 use Rattle.rules_run.specs.Evaluation.{calc, digits_from, literal_number, read_at, read_span, reference, apply}
 
-pub range_up : {low high : ℕ} → low ≤ high → (n : Num) → InRange low n → InRange high n
-range_up h (Value z) v = record { small = omega (arith, v.small) }
-range_up h (Failed e) v = tt
+pub range_up : {low high : ℕ} → low ≤ high → (n : Result ℤ Fault) → InRange low n → InRange high n
+range_up h (Ok z) v = record { small = omega (arith, v.small) }
+range_up h (Err e) v = tt
 
 digits_head : (b : ℕ) (bs : List ℕ) → digitsb (b ∷ bs) ≡ true → (is_from 48 b ≡ true) × (digitsb bs ≡ true)
 unfolding digitsb
@@ -78,7 +77,7 @@ module _ (c : Code) (d : List ℕ) (bound : ℕ) (truths : 1 < bound) (sums : c.
   unfolding numberb literal_number
   literal_range p l =
       let s = take l (drop p c.literals) in
-      cond_case (InRange bound) (numberb c p l) (Value (pos (digits_from 0 s))) (Failed fault.Malformed)
+      cond_case (InRange bound) (numberb c p l) (Ok (pos (digits_from 0 s))) (Err fault.Malformed)
       (λ e.
       let short = (both (leb l c.dialect.limit) _).0 ((both (leb 1 l) _).0 e).1 in
       let plain = ((both (leb (p + l) (length c.literals)) (digitsb s)).0 short.1).1 in
@@ -89,15 +88,15 @@ module _ (c : Code) (d : List ℕ) (bound : ℕ) (truths : 1 < bound) (sums : c.
   pub read_range : (a n : ℕ) → InRange bound (read_at c d a n)
   read_range a n = range_up digits (read_at c d a n) (range_read c.dialect.limit c.dialect.sign (take n (drop a d)))
 
-  span_range : (s : Span) → InRange bound (read_span c d s)
-  span_range (At a n) = read_range a n
-  span_range Outside = tt
+  span_range : (s : Option Span) → InRange bound (read_span c d s)
+  span_range (Some s) = read_range s.start s.len
+  span_range None = tt
 
   reference_range : (h : Form) (f : ℕ) (x y : ℤ) → InRange bound (reference c d h f x y)
   unfolding reference
   reference_range h f x y =
-      cond_case (InRange bound) (ltb f c.fields) _ (Failed fault.Malformed)
-      (λ _. cond_case (InRange bound) (decimalb c f) _ (Failed fault.Malformed) (λ _. span_range (span_by (rule_of (c.field f)) (length d) (c.field f) h x y)) (λ _. tt))
+      cond_case (InRange bound) (ltb f c.fields) _ (Err fault.Malformed)
+      (λ _. cond_case (InRange bound) (decimalb c f) _ (Err fault.Malformed) (λ _. span_range (span_by (rule_of (c.field f)) (length d) (c.field f) h x y)) (λ _. tt))
       (λ _. tt)
 
   pub apply_range : (i : Item) (x y : ℤ) → Val bound x → Val bound y → InRange bound (apply c d i x y)

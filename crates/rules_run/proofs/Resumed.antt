@@ -1,5 +1,6 @@
 -- A call that was spent, and gone on with from its state and data, comes to what one call with both allowances comes to (ticket 13).
 -- Assumes nothing.
+use Rattle.std.specs.Prelude.{Ok}
 use Prim.Native.Nat.{ℕ, ◌+◌}
 use native.Mathlib.Nat.{add-zero}
 use mathlib.Core.Path.{◌≡◌, sym, ap, ◌∙◌}
@@ -7,7 +8,6 @@ use mathlib.Core.Bool.{false≢true}
 use mathlib.Core.List.{List}
 use lib.ListN.{length}
 use Rattle.rules_unit.specs.declared.Parts.{Parts}
-use Rattle.rules_unit.specs.declared.Checked.TheVariants as checked
 use Rattle.rules_unit.specs.Decode.{code_of}
 use Rattle.rules_unit.specs.Checks.{check_of}
 use Rattle.rules_unit.proofs.Sound.{passed_sound}
@@ -28,7 +28,7 @@ call_resumed u d s m n =
     every_call (λ r. r.outcome.stop ≡ stop.Spent → run_of u d s (m + n) ≡ counting r.outcome.count (run_of u r.bytes r.outcome.state n)) u d s m
     (λ e b z. absurd (false≢true (sym (ap beforeb z) ∙ b))) again
   where
-    again : (p : Parts) → check_of u ≡ checked.Passed p → length d ≡ p.d → Sound (code_of u p) s → (run_from (code_of u p) m s d 0).outcome.stop ≡ stop.Spent
+    again : (p : Parts) → check_of u ≡ Ok p → length d ≡ p.d → Sound (code_of u p) s → (run_from (code_of u p) m s d 0).outcome.stop ≡ stop.Spent
         → run_of u d s (m + n)
         ≡ counting (run_from (code_of u p) m s d 0).outcome.count (run_of u (run_from (code_of u p) m s d 0).bytes (run_from (code_of u p) m s d 0).outcome.state n)
     again p e l t z =

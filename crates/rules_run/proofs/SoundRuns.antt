@@ -2,7 +2,9 @@
 -- and OFFERROR").
 --   In c                 what is asked of the numbers of the unit's dialect
 --   FlowSound c l i f    f leads from i to a statement of the unit or to its end, and opens or closes a loop as a sound state may, where l is seen of it
+--   TurnSound c l i t    so does the flow of the turn t, where it has one
 -- Assumes nothing.
+use Rattle.std.specs.Prelude.{Result, Err, Ok}
 use Prim.Native.Nat.{ℕ, ◌^◌, ◌<◌, ◌≤◌}
 use native.Mathlib.Omega.{arith}
 use mathlib.Core.Path.{◌≡◌, ap, ◌∙◌, subst}
@@ -12,8 +14,8 @@ use lib.Dec.{ltb, eqb}
 use lib.IntN.{ℤ}
 use lib.ListN.{length}
 use borrow.Author.Tests.{ltb-true, eqb-false}
+use Rattle.rules.specs.declared.Fault.{Fault}
 use Rattle.rules.specs.declared.Fault.TheVariants as fault
-use Rattle.rules.specs.declared.Num.TheVariants.{Value}
 use Rattle.rules.specs.Values.{Val}
 use Rattle.rules.proofs.Walk.{cond_case}
 use Rattle.rules_unit.specs.declared.Statement.{Statement}
@@ -23,7 +25,6 @@ use Rattle.rules_unit.specs.declared.Verb.{Verb}
 use Rattle.rules_unit.specs.declared.Verb.TheVariants as verb
 use Rattle.rules_unit.specs.Table.{verb_of, row_of}
 use Rattle.rules_unit.specs.declared.Parts.{Parts}
-use Rattle.rules_unit.specs.declared.Checked.TheVariants as checked
 use Rattle.rules_unit.specs.Codes.{Code}
 use Rattle.rules_unit.specs.Decode.{code_of}
 use Rattle.rules_unit.specs.Checks.{check_of}
@@ -34,10 +35,11 @@ use Rattle.rules_run.specs.declared.Flow.{Flow}
 use Rattle.rules_run.specs.declared.Flow.TheVariants as flow
 use Rattle.rules_run.specs.declared.Look.{Look}
 use Rattle.rules_run.specs.declared.State.{State}
+use Rattle.rules_run.specs.declared.Turn.{Turn}
 use Rattle.rules_run.specs.Evaluation.{worked_of, value_at}
 use Rattle.rules_run.specs.Turns.{turn_of}
 use Rattle.rules_run.specs.States.{LoopSound, HandlerSound, Sound, called, returned, look_of, LookSound}
-use Rattle.rules_run.specs.Runs.{Moved, to, stuck, moved_by, next_of, run_from, run_of}
+use Rattle.rules_run.specs.Runs.{Moved, to, stuck, moved_by, led_by, next_of, run_from, run_of}
 use Rattle.rules_run.proofs.Bounded.{worked_bounded, number_bounded}
 use Rattle.rules_run.proofs.Cases.{Near, MayGo, turn_case}
 use Rattle.rules_run.proofs.Lengths.{passed_dialect}
@@ -61,7 +63,10 @@ FlowSound c l i (flow.Enter limit step) = (l.opened < 16) × LoopSound c (record
 FlowSound c l i (flow.Leave j) = (0 < l.opened) × (j ≤ c.statements)
 FlowSound c l i (flow.Arm j) = j < c.statements
 FlowSound c l i flow.Disarm = Unit {0}
-FlowSound c l i (flow.Bad e) = Unit {0}
+
+abbrev pub TurnSound : Code → Look → ℕ → Result Turn Fault → Type 0
+TurnSound c l i (Ok t) = FlowSound c l i t.flow
+TurnSound c l i (Err e) = Unit {0}
 
 -- ---- where a statement leads
 
@@ -82,7 +87,7 @@ on_error_inside : (c : Code) (i : ℕ) (s : Statement) → verb_of s.code ≡ ve
 on_error_inside c i s q row = (subst (λ (v : Verb). RowSound c i (row_of v) s) q row).of_c
 
 module _ (c : Code) (o : In c) (u : SoundCode c) (l : Look) (known : LookSound c l) (i : ℕ) (low : i < c.statements) (d : List ℕ) where
-  in_range : (e : ℕ) (z : ℤ) → value_at c d e ≡ Value z → Val c.dialect.top z
+  in_range : (e : ℕ) (z : ℤ) → value_at c d e ≡ Ok z → Val c.dialect.top z
   in_range e z q =
       rw q at
       (number_bounded c d c.dialect.top o.truths (omega arith) o.digits (length d) (worked_of c d (c.items e))
@@ -100,19 +105,18 @@ module _ (c : Code) (o : In c) (u : SoundCode c) (l : Look) (known : LookSound c
     record {
       low = low;
       enters = code_of_lem (c.statement i).code verb.For (omega arith) q;
-      limit = in_range _ limit (e.ends ∙ ap Value x);
-      step = in_range _ step (e.steps ∙ ap Value y);
+      limit = in_range _ limit (e.ends ∙ ap Ok x);
+      step = in_range _ step (e.steps ∙ ap Ok y);
       moves = moves;
     },
   )
   may_sound (flow.Leave t) (q, h, e) = (h, omega (arith, end_inside c u l.last.entry (known.last h).low (known.last h).enters, e))
   may_sound (flow.Arm t) (q, e) = omega (arith, on_error_inside c i (c.statement i) q (u.statements i low).shape.parts, e)
   may_sound flow.Disarm m = tt
-  may_sound (flow.Bad e) m = tt
 
-  pub flow_sound : FlowSound c l i (turn_of c l i d).flow
+  pub flow_sound : TurnSound c l i (turn_of c l i d)
   unfolding turn_of
-  flow_sound = turn_case (λ t. FlowSound c l i t.flow) c l i d (verb_of (c.statement i).code) (c.statement i) (λ e m. tt) (λ w f m. may_sound f m)
+  flow_sound = turn_case (TurnSound c l i) c l i d (verb_of (c.statement i).code) (c.statement i) (λ e m. tt) (λ w f m. may_sound f m)
 
 -- ---- the state that it leads to
 
@@ -133,13 +137,16 @@ moved_sound t l (flow.Enter limit step) h = entered_sound t (omega arith) h.0 h.
 moved_sound t l (flow.Leave i) h = closed_sound t h.1 h.0
 moved_sound t l (flow.Arm i) h = armed_sound t (omega arith) h
 moved_sound t l flow.Disarm h = armed_sound t (omega arith) tt
-moved_sound {c} {s} t l (flow.Bad e) h = error_case (MovedSound c) s e (λ z. tt) (λ i q r. caught_sound t r l (subst (HandlerSound c.statements) q t.handled))
+
+pub led_sound : {c : Code} {s : State} → Sound c s → s.at < c.statements → (t : Result Turn Fault) → TurnSound c (look_of s) s.at t → MovedSound c (led_by c.statements s t)
+led_sound t l (Ok x) h = moved_sound t l x.flow h
+led_sound {c} {s} t l (Err e) h = error_case (MovedSound c) s e (λ z. tt) (λ i q r. caught_sound t r l (subst (HandlerSound c.statements) q t.handled))
 
 -- ---- the run
 
 module _ (c : Code) (o : In c) (u : SoundCode c) where
   pub step_sound : {s s' : State} (d : List ℕ) → Sound c s → s.at < c.statements → next_of c s d ≡ to s' → Sound c s'
-  step_sound {s} d t h q = subst (MovedSound c) q (moved_sound t h (turn_of c (look_of s) s.at d).flow (flow_sound c o u (look_of s) (look_sound t) s.at h d))
+  step_sound {s} d t h q = subst (MovedSound c) q (led_sound t h (turn_of c (look_of s) s.at d) (flow_sound c o u (look_of s) (look_sound t) s.at h d))
 
   pub run_sound : (m : ℕ) (s : State) (d : List ℕ) (k : ℕ) → Sound c s → Sound c (run_from c m s d k).outcome.state
   run_sound =
@@ -147,11 +154,11 @@ module _ (c : Code) (o : In c) (u : SoundCode c) where
       (λ m s s' d k r h q x t. x (step_sound d t h q))
 
 -- The dialect of a unit that passes.
-pub passed_in : (u : List ℕ) (p : Parts) → check_of u ≡ checked.Passed p → In (code_of u p)
+pub passed_in : (u : List ℕ) (p : Parts) → check_of u ≡ Ok p → In (code_of u p)
 passed_in u p e = let x = passed_dialect u p e in record { truths = x.bound.some; digits = omega (arith, x.tens) }
 
 -- A call hands back a sound state, refused or not.
-pub call_sound : (u : List ℕ) (p : Parts) → check_of u ≡ checked.Passed p → (d : List ℕ) (s : State) (m : ℕ) → Sound (code_of u p) s
+pub call_sound : (u : List ℕ) (p : Parts) → check_of u ≡ Ok p → (d : List ℕ) (s : State) (m : ℕ) → Sound (code_of u p) s
     → Sound (code_of u p) (run_of u d s m).outcome.state
 call_sound u p e d s m t =
     every_call (λ r. Sound (code_of u p) r.outcome.state) u d s m (λ x b. t)

@@ -1,6 +1,7 @@
 -- Sound resume states (document 01, "Stops and their numbers"; requests 4 and 6 of document 02, "FOR loops", "ONERROR and OFFERROR"): the test and the
 -- statement with quantifiers say the same, and what a jump, a CALL, a RETURN, a loop, a handler and an error make of a sound state is sound.
 -- Assumes nothing.
+use Rattle.std.specs.Prelude.{Option, None, Some}
 use Prim.Native.Nat.{ℕ, zero, suc, ◌+◌, ◌-◌, ◌<◌, ◌≤◌}
 use native.Mathlib.Nat.{add-zero}
 use native.Mathlib.Omega.{arith}
@@ -17,9 +18,6 @@ use Rattle.rules.proofs.Five.{trapped_to, trapped_of}
 use Rattle.rules_unit.specs.Codes.{Code}
 use Rattle.rules_unit.proofs.Tells.{Tells, tells_lt, tells_le, tells_eq, tells_as, tells_and, tells_which}
 use Rattle.rules_run.specs.declared.Caught.{Caught}
-use Rattle.rules_run.specs.declared.Caught.TheVariants as caught
-use Rattle.rules_run.specs.declared.Handler.{Handler}
-use Rattle.rules_run.specs.declared.Handler.TheVariants as handler
 use Rattle.rules_run.specs.declared.Loop.{Loop}
 use Rattle.rules_run.specs.declared.Look.{Look}
 use Rattle.rules_run.specs.declared.State.{State}
@@ -109,13 +107,13 @@ slots_tell c opened i (l ∷ ls) = tells_as to of (tells_and (slot_tells c opene
 
 -- ---- the handler and the last error
 
-handler_tells : (n : ℕ) (h : Handler) → Tells (handlerb n h) (HandlerSound n h)
-handler_tells n handler.None = record { to = λ e. tt; of = λ t. refl }
-handler_tells n (handler.At i) = tells_lt i n
+handler_tells : (n : ℕ) (h : Option ℕ) → Tells (handlerb n h) (HandlerSound n h)
+handler_tells n None = record { to = λ e. tt; of = λ t. refl }
+handler_tells n (Some i) = tells_lt i n
 
-caught_tells : (n : ℕ) (e : Caught) → Tells (caughtb n e) (CaughtSound n e)
-caught_tells n caught.None = record { to = λ e. tt; of = λ t. refl }
-caught_tells n (caught.Error e i) = tells_and (record { to = trapped_to e; of = trapped_of e }) (tells_lt i n)
+caught_tells : (n : ℕ) (e : Option Caught) → Tells (caughtb n e) (CaughtSound n e)
+caught_tells n None = record { to = λ e. tt; of = λ t. refl }
+caught_tells n (Some x) = tells_and (record { to = trapped_to x.number; of = trapped_of x.number }) (tells_lt x.statement n)
 
 -- ---- the state
 
@@ -203,7 +201,7 @@ module _ {A : Type 0} (P : A → Type 0) (l : List A) (k : ℕ) (v z : A) (i : �
 
 module _ {c : Code} {s : State} (t : Sound c s) where
   -- A sound state with another place, handler and last error.
-  with_handler : {x : ℕ} {h : Handler} {e : Caught} → x ≤ c.statements → HandlerSound c.statements h → CaughtSound c.statements e
+  with_handler : {x : ℕ} {h : Option ℕ} {e : Option Caught} → x ≤ c.statements → HandlerSound c.statements h → CaughtSound c.statements e
       → Sound c (record { at = x; depth = s.depth; returns = s.returns; opened = s.opened; loops = s.loops; trap = record { handler = h; caught = e } })
   with_handler x h e =
       record {
@@ -302,7 +300,7 @@ module _ {c : Code} {s : State} (t : Sound c s) where
         told = t.told;
       }
 
-  pub armed_sound : {h : Handler} → s.at + 1 ≤ c.statements → HandlerSound c.statements h → Sound c (armed s h)
+  pub armed_sound : {h : Option ℕ} → s.at + 1 ≤ c.statements → HandlerSound c.statements h → Sound c (armed s h)
   armed_sound x h = with_handler x h t.told
 
   pub caught_sound : {n i : ℕ} → Trappable n → s.at < c.statements → i < c.statements → Sound c (caught_by s n i)

@@ -13,11 +13,10 @@
 --   StopNo, no_of             the numbers of the table
 --   Given u d s m x place    when the number x is given with the place named: the rows of the table
 -- Assumes nothing.
-use Rattle.std.specs.Prelude.{ℕ, zero, suc, ◌+◌, ◌<◌, ◌≤◌, ◌≡◌, ◌⊎◌, List, length}
+use Rattle.std.specs.Prelude.{ℕ, zero, suc, ◌+◌, ◌<◌, ◌≤◌, ◌≡◌, ◌⊎◌, List, length, Err}
 use Rattle.rules.specs.declared.Fault.{Fault}
 use Rattle.rules.specs.declared.Fault.TheVariants as fault
 use Rattle.rules.specs.Stops.{fault_number}
-use Rattle.rules_unit.specs.declared.Checked.TheVariants as checked
 use Rattle.rules_unit.specs.Codes.{Code}
 use Rattle.rules_unit.specs.Decode.{parts_of, decoded}
 use Rattle.rules_unit.specs.Sound.{Filled, Ranges, SoundUnit}
@@ -79,7 +78,7 @@ pub record Unchanged (d : List ℕ) (s : State) (r : Ran) : Type 0 where
 -- "Checks 1, 2, 3 run in order; then each statement in turn ..; then 6, 7."
 abbrev pub Refuses : List ℕ → List ℕ → State → Stop → Type 0
 Refuses u d s stop.End = ⊥
-Refuses u d s (stop.Refused x) = Says u (checked.Refused x)
+Refuses u d s (stop.Refused x) = Says u (Err x)
 Refuses u d s stop.WrongSize = SoundUnit u (parts_of u) × (length d ≡ (parts_of u).d → ⊥)
 Refuses u d s stop.Unsound = SoundUnit u (parts_of u) × (length d ≡ (parts_of u).d) × (Sound (decoded u) s → ⊥)
 Refuses u d s (stop.Failed f) = ⊥

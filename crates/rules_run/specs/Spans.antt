@@ -8,7 +8,7 @@
 --   Inside field a n                 they lie inside the field
 -- The size is D, the length of the data. Bounds are any numbers: nothing wraps.
 -- Assumes nothing.
-use Rattle.std.specs.Prelude.{◌≡◌, ℕ, zero, suc, ◌+◌, ◌*◌, ◌≤◌, Bool, cond, leb, ℤ, pos, negsuc, nat_abs, ◌+ℤ◌, ◌-ℤ◌, ◌*ℤ◌}
+use Rattle.std.specs.Prelude.{◌≡◌, ℕ, zero, suc, ◌+◌, ◌*◌, ◌≤◌, Bool, cond, leb, ℤ, pos, negsuc, nat_abs, ◌+ℤ◌, ◌-ℤ◌, ◌*ℤ◌, None, Option, Some}
 use Rattle.std.specs.Int.Signed.{le_z}
 use Rattle.rules.specs.Tests.{◌and◌}
 use Rattle.rules_unit.specs.declared.Rule.{Rule}
@@ -17,34 +17,37 @@ use Rattle.rules_unit.specs.declared.Field.{Field}
 use Rattle.rules_unit.specs.declared.Form.{Form}
 use Rattle.rules_unit.specs.declared.Form.TheVariants as form
 use Rattle.rules_run.specs.declared.Span.{Span}
-use Rattle.rules_run.specs.declared.Span.TheVariants.{At, Outside}
 
 -- "A span may leave its field in either direction; it must stay inside the D bytes. Otherwise 21."
-unfoldable pub within : ℕ → ℤ → ℕ → Span
-within size (pos a) n = cond (leb (a + n) size) (At a n) Outside
-within size (negsuc a) n = Outside
+-- The n bytes from a.
+abbrev pub span_at : ℕ → ℕ → Option Span
+span_at a n = Some (record { start = a; len = n })
+
+unfoldable pub within : ℕ → ℤ → ℕ → Option Span
+within size (pos a) n = cond (leb (a + n) size) (span_at a n) None
+within size (negsuc a) n = None
 
 -- "subscript s gives element s (0 or less lies before the field)"
-unfoldable pub subscript_span : ℕ → ℕ → ℕ → ℤ → Span
+unfoldable pub subscript_span : ℕ → ℕ → ℕ → ℤ → Option Span
 subscript_span size offset n s = within size (pos offset +ℤ (s -ℤ pos 1) *ℤ pos n) n
 
 -- "(start,end) needs 1 <= start <= end"
-unfoldable pub start_end_span : ℕ → ℕ → ℤ → ℤ → Span
+unfoldable pub start_end_span : ℕ → ℕ → ℤ → ℤ → Option Span
 start_end_span size offset s e =
     cond (le_z (pos 1) s)
-    (cond (le_z s e) (within size (pos offset +ℤ (s -ℤ pos 1)) (nat_abs (e -ℤ s) + 1)) Outside)
-    Outside
+    (cond (le_z s e) (within size (pos offset +ℤ (s -ℤ pos 1)) (nat_abs (e -ℤ s) + 1)) None)
+    None
 
 -- "(pos:length) needs pos >= 1 and length not 0, a negative length ending at pos"
-unfoldable pub pos_length_span : ℕ → ℕ → ℤ → ℤ → Span
-pos_length_span size offset p (pos zero) = Outside
+unfoldable pub pos_length_span : ℕ → ℕ → ℤ → ℤ → Option Span
+pos_length_span size offset p (pos zero) = None
 pos_length_span size offset p (pos (suc k)) =
-    cond (le_z (pos 1) p) (within size (pos offset +ℤ (p -ℤ pos 1)) (suc k)) Outside
+    cond (le_z (pos 1) p) (within size (pos offset +ℤ (p -ℤ pos 1)) (suc k)) None
 pos_length_span size offset p (negsuc k) =
-    cond (le_z (pos 1) p) (within size (pos offset +ℤ (p -ℤ pos (suc k))) (suc k)) Outside
+    cond (le_z (pos 1) p) (within size (pos offset +ℤ (p -ℤ pos (suc k))) (suc k)) None
 
 -- "References .., counted from the field's first byte: no bounds gives the first element"
-unfoldable pub span_of : ℕ → Field → Form → ℤ → ℤ → Span
+unfoldable pub span_of : ℕ → Field → Form → ℤ → ℤ → Option Span
 span_of size f form.First x y = within size (pos f.offset) f.size
 span_of size f form.Subscript x y = subscript_span size f.offset f.size x
 span_of size f form.StartEnd x y = start_end_span size f.offset x y
@@ -57,13 +60,13 @@ abbrev pub insideb : Field → ℕ → ℕ → Bool
 insideb f a n = leb f.offset a and leb (a + n) (f.offset + f.count * f.size)
 
 -- "with it, 21 is given whenever the span leaves that field's size x count bytes"
-abbrev pub held_to : Rule → Field → Span → Span
+abbrev pub held_to : Rule → Field → Option Span → Option Span
 held_to rule.Loose f s = s
-held_to rule.Strict f (At a n) = cond (insideb f a n) (At a n) Outside
-held_to rule.Strict f Outside = Outside
+held_to rule.Strict f (Some s) = cond (insideb f s.start s.len) (span_at s.start s.len) None
+held_to rule.Strict f None = None
 
 -- "Finding a span must now promise which of the two rules it followed". Without bounds it is the first element, which never leaves its field.
-abbrev pub span_by : Rule → ℕ → Field → Form → ℤ → ℤ → Span
+abbrev pub span_by : Rule → ℕ → Field → Form → ℤ → ℤ → Option Span
 span_by r size f form.First x y = span_of size f form.First x y
 span_by r size f form.Subscript x y = held_to r f (span_of size f form.Subscript x y)
 span_by r size f form.StartEnd x y = held_to r f (span_of size f form.StartEnd x y)

@@ -8,15 +8,12 @@
 --   unhandled s             the same state with no handler
 --   look_of s                what a statement sees of it; LookSound c l, that a sound state is seen
 -- Assumes nothing.
-use Rattle.std.specs.Prelude.{◌≡◌, Bool, true, cond, List, [], ◌∷◌, ℕ, ◌+◌, ◌-◌, ◌<◌, ◌≤◌, ltb, leb, eqb, ℤ, pos, nat_abs, length, get_or, set, replicate}
+use Rattle.std.specs.Prelude.{◌≡◌, Bool, true, cond, List, [], ◌∷◌, ℕ, ◌+◌, ◌-◌, ◌<◌, ◌≤◌, ltb, leb, eqb, ℤ, pos, nat_abs, length, get_or, set, replicate, Option, None, Some}
 use Rattle.rules.specs.Stops.{trappedb, Trappable}
 use Rattle.rules.specs.Tests.{◌and◌}
 use Rattle.rules.specs.Values.{Val}
 use Rattle.rules_unit.specs.Codes.{Code}
 use Rattle.rules_run.specs.declared.Caught.{Caught}
-use Rattle.rules_run.specs.declared.Caught.TheVariants as caught
-use Rattle.rules_run.specs.declared.Handler.{Handler}
-use Rattle.rules_run.specs.declared.Handler.TheVariants as handler
 use Rattle.rules_run.specs.declared.Loop.{Loop}
 use Rattle.rules_run.specs.declared.Look.{Look}
 use Rattle.rules_run.specs.declared.State.{State}
@@ -33,6 +30,10 @@ returnsb n depth i [] = true
 returnsb n depth i (x ∷ xs) = let rest = returnsb n depth (i + 1) xs in returnb n depth i x and rest
 
 -- ---- loops
+
+-- The error of the number n at the statement i.
+abbrev pub error_at : ℕ → ℕ → Option Caught
+error_at n i = Some (record { number = n; statement = i })
 
 -- A slot without a loop.
 abbrev pub no_loop : Loop
@@ -69,22 +70,22 @@ pub record LoopSound (c : Code) (l : Loop) : Type 0 where
 -- ---- the handler and the last error
 
 -- "7 for a handler or error statement not below N, or an error not of the five; having none is sound"
-abbrev pub handlerb : ℕ → Handler → Bool
-handlerb n handler.None = true
-handlerb n (handler.At i) = ltb i n
+abbrev pub handlerb : ℕ → Option ℕ → Bool
+handlerb n None = true
+handlerb n (Some i) = ltb i n
 
-abbrev pub caughtb : ℕ → Caught → Bool
-caughtb n caught.None = true
-caughtb n (caught.Error e i) = trappedb e and ltb i n
+abbrev pub caughtb : ℕ → Option Caught → Bool
+caughtb n None = true
+caughtb n (Some x) = trappedb x.number and ltb x.statement n
 
 -- The same sentence as statements.
-abbrev pub HandlerSound : ℕ → Handler → Type 0
-HandlerSound n handler.None = Unit {0}
-HandlerSound n (handler.At i) = i < n
+abbrev pub HandlerSound : ℕ → Option ℕ → Type 0
+HandlerSound n None = Unit {0}
+HandlerSound n (Some i) = i < n
 
-abbrev pub CaughtSound : ℕ → Caught → Type 0
-CaughtSound n caught.None = Unit {0}
-CaughtSound n (caught.Error e i) = Trappable e × (i < n)
+abbrev pub CaughtSound : ℕ → Option Caught → Type 0
+CaughtSound n None = Unit {0}
+CaughtSound n (Some x) = Trappable x.number × (x.statement < n)
 
 -- ---- the state
 
@@ -116,7 +117,7 @@ pub record Sound (c : Code) (s : State) : Type 0 where
 
 abbrev pub started : State
 started =
-    record { at = 0; depth = 0; returns = replicate 50 0; opened = 0; loops = replicate 16 no_loop; trap = record { handler = handler.None; caught = caught.None } }
+    record { at = 0; depth = 0; returns = replicate 50 0; opened = 0; loops = replicate 16 no_loop; trap = record { handler = None; caught = None } }
 
 abbrev pub gone : State → ℕ → State
 gone s to =
@@ -171,7 +172,7 @@ closed s to =
     }
 
 -- "the handler stays until OFFERROR or another ONERROR": the handler is h from here on.
-abbrev pub armed : State → Handler → State
+abbrev pub armed : State → Option ℕ → State
 armed s h =
     record {
       at = s.at + 1;
@@ -191,7 +192,7 @@ caught_by s n to =
       returns = s.returns;
       opened = s.opened;
       loops = s.loops;
-      trap = record { handler = s.trap.handler; caught = caught.Error n s.at };
+      trap = record { handler = s.trap.handler; caught = error_at n s.at };
     }
 
 -- The same place, calls, loops and last error, with no handler.
@@ -203,7 +204,7 @@ unhandled s =
       returns = s.returns;
       opened = s.opened;
       loops = s.loops;
-      trap = record { handler = handler.None; caught = s.trap.caught };
+      trap = record { handler = None; caught = s.trap.caught };
     }
 
 -- ---- what a statement sees

@@ -2,7 +2,7 @@
 #![tactic(auto)]
 
 ghost use Rattle.std.specs.Prelude.{◌≡◌, ◌+◌, ◌<◌, ◌≤◌};
-ghost use Rattle.rules_run.specs.Turns.{failed, stores, goes};
+ghost use Rattle.rules_run.specs.Turns.{stores, goes};
 ghost use Rattle.rules_run.specs.States.{no_loop, gone, called, returned, entered, closed, armed, caught_by, look_of};
 ghost use Rattle.rules_run.specs.Stops.{stop_number};
 
@@ -11,13 +11,12 @@ use rules_unit::Refusal;
 
 // The bytes that a reference names.
 #[derive(Clone, Copy)]
-pub enum Span {
-    At { start: usize, len: usize },
-    // Bounds that are none, or bytes outside the data: 21.
-    Outside,
+pub struct Span {
+    pub start: usize,
+    pub len: usize,
 }
 
-// What an expression comes to. A last reference is found and not read.
+// What an expression comes to where nothing fails. A last reference is found and not read.
 #[derive(Clone, Copy)]
 pub enum Worked {
     Number(i64),
@@ -30,7 +29,6 @@ pub enum Worked {
         place: u16,
         len: u16,
     },
-    Failed(Fault),
 }
 
 // What a statement stores. Each but Nothing names its span.
@@ -93,7 +91,7 @@ pub enum Write {
     },
 }
 
-// Where the run goes on after a statement, or why it does not.
+// Where the run goes on after a statement.
 #[derive(Clone, Copy)]
 pub enum Flow {
     Next,
@@ -109,44 +107,33 @@ pub enum Flow {
     Arm(u16),
     // There is no handler from here on.
     Disarm,
-    Bad(Fault),
 }
 
-// What a statement answers: what it stores, and where the run goes on.
+// What a statement answers that gives no error: what it stores, and where the run goes on.
 #[derive(Clone, Copy)]
 pub struct Turn {
     pub write: Write,
     pub flow: Flow,
 }
 
-// A run error stores nothing.
-pub fn failed(e: Fault) -> Turn
-    ensures { result ≡ failed e }
-{
-    Turn {
-        write: Write::Nothing,
-        flow: Flow::Bad(e),
-    }
-}
-
 // A store, and on to the next statement.
-pub fn stores(w: Write) -> Turn
+pub fn stores(w: Write) -> Result<Turn, Fault>
     ensures { result ≡ stores w }
 {
-    Turn {
+    Ok(Turn {
         write: w,
         flow: Flow::Next,
-    }
+    })
 }
 
 // A statement that only goes on elsewhere.
-pub fn goes(f: Flow) -> Turn
+pub fn goes(f: Flow) -> Result<Turn, Fault>
     ensures { result ≡ goes f }
 {
-    Turn {
+    Ok(Turn {
         write: Write::Nothing,
         flow: f,
-    }
+    })
 }
 
 // An open loop: its entry statement, its limit and its step.
@@ -175,25 +162,18 @@ pub struct Look {
     pub last: Loop,
 }
 
-// The handler: where the run goes on after an error that is trapped.
+// An error that was trapped: its number and its statement.
 #[derive(Clone, Copy)]
-pub enum Handler {
-    None,
-    At(u16),
+pub struct Caught {
+    pub number: u8,
+    pub statement: u16,
 }
 
-// The last error that was trapped: its number and its statement.
-#[derive(Clone, Copy)]
-pub enum Caught {
-    None,
-    Error { number: u8, statement: u16 },
-}
-
-// What is known of errors: the handler, and the last error that was trapped.
+// What is known of errors: the handler, which is the statement where the run goes on after an error that is trapped, and the last error that was trapped.
 #[derive(Clone, Copy)]
 pub struct Trap {
-    pub handler: Handler,
-    pub caught: Caught,
+    pub handler: Option<u16>,
+    pub caught: Option<Caught>,
 }
 
 // The resume state: the statement to go on at, the calls still open with the numbers that they return to, the loops still open, the handler and the last
@@ -267,7 +247,7 @@ impl State {
     }
 
     // ONERROR and OFFERROR: the handler is h from here on, and the run goes on at the next statement.
-    pub fn arm(mut self, h: Handler) -> Self
+    pub fn arm(mut self, h: Option<u16>) -> Self
         requires { self.at < 65535 }
         ensures { result ≡ armed self h }
     {
@@ -290,10 +270,10 @@ impl State {
         let handler = trap.handler;
         let next = Trap {
             handler: handler,
-            caught: Caught::Error {
+            caught: Some(Caught {
                 number: number,
                 statement: self.at,
-            },
+            }),
         };
         self.trap = next;
         self.at = to;

@@ -5,6 +5,8 @@
 --   passed_by, fills_by    the same of the answer that the code has
 --   one_field        a byte in two decimal fields of a sound unit makes them one
 -- Assumes nothing.
+use Rattle.std.specs.Prelude.{Result, Err, Ok, None, Some}
+use Rattle.rules_unit.specs.declared.Refusal.{Refusal}
 use Prim.Native.Nat.{ℕ, ◌-◌, ◌<◌, ◌≤◌}
 use native.Mathlib.Omega.{arith}
 use mathlib.Core.Path.{◌≡◌, refl, sym, ◌∙◌, subst}
@@ -13,11 +15,8 @@ use mathlib.Core.List.{List}
 use lib.Dec.{ltb, eqb}
 use lib.ListN.{length, get_or}
 use borrow.Author.Tests.{ltb-true, ltb-false, eqb-true, lt-ltb, le-ltb, eq-eqb}
-use Rattle.rules_unit.specs.declared.Mark.TheVariants as mark
 use Rattle.rules_unit.specs.declared.Parts.{Parts}
 use Rattle.rules_unit.specs.declared.Refusal.TheVariants as refusal
-use Rattle.rules_unit.specs.declared.Checked.{Checked}
-use Rattle.rules_unit.specs.declared.Checked.TheVariants as checked
 use Rattle.rules_unit.specs.Codes.{Code, decimalb, offset_of, end_of}
 use Rattle.rules_unit.specs.Decode.{Fills, eighteen, mark_of, wrong_mark, parts_of, full_length, code_of}
 use Rattle.rules_unit.specs.Checks.{filledb, rangesb, good_fields, statements_from, parts_check, check_of}
@@ -40,7 +39,7 @@ mark_bytes u = by (eqb first 0x44) (eqb last 0x42) refl refl
     last : ℕ
     last = get_or u (length u - 1) 0
 
-    by : (s t : Bool) → eqb first 0x44 ≡ s → eqb last 0x42 ≡ t → wrong_mark (cond s (cond t (mark.Names eighteen) mark.Wrong) mark.Wrong) ≡ false
+    by : (s t : Bool) → eqb first 0x44 ≡ s → eqb last 0x42 ≡ t → wrong_mark (cond s (cond t (Some eighteen) None) None) ≡ false
         → (first ≡ 0x44) × (last ≡ 0x42)
     by true true e f q = (eqb-true first 0x44 e, eqb-true last 0x42 f)
     by true false e f q = absurd (true≢false q)
@@ -85,14 +84,14 @@ module _ (u : List ℕ) where
   good = good_fields code parts.f 0 0
 
   -- what the check of the statements says, after checks 1 to 3
-  after_fields : FirstThree u → (r : Checked) → Scans u parts r → Says u r
-  after_fields o (checked.Passed q) s =
+  after_fields : FirstThree u → (r : Result Parts Refusal) → Scans u parts r → Says u r
+  after_fields o (Ok q) s =
       rw s.0 (record { filled = o.filled; parts = refl; ranges = o.ranges; code = record { entries = o.entries; statements = s.1 } })
-  after_fields o (checked.Refused refusal.NotFilled) s = absurd s
-  after_fields o (checked.Refused refusal.BadRange) s = absurd s
-  after_fields o (checked.Refused (refusal.BadField i)) s = absurd s
-  after_fields o (checked.Refused (refusal.BadExpression i)) s = (o, s)
-  after_fields o (checked.Refused (refusal.BadStatement i)) s = (o, s)
+  after_fields o (Err refusal.NotFilled) s = absurd s
+  after_fields o (Err refusal.BadRange) s = absurd s
+  after_fields o (Err (refusal.BadField i)) s = absurd s
+  after_fields o (Err (refusal.BadExpression i)) s = (o, s)
+  after_fields o (Err (refusal.BadStatement i)) s = (o, s)
 
   pub check_says : Says u (check_of u)
   unfolding check_of parts_check
@@ -102,7 +101,7 @@ module _ (u : List ℕ) where
       upto = fields_upto code parts.f
 
       by : (x y z : Bool) → filledb u ≡ x → rangesb parts ≡ y → ltb good parts.f ≡ z
-          → Says u (cond x (cond y (cond z (checked.Refused (refusal.BadField good)) (statements_from u parts parts.n 0)) (checked.Refused refusal.BadRange)) (checked.Refused refusal.NotFilled))
+          → Says u (cond x (cond y (cond z (Err (refusal.BadField good)) (statements_from u parts parts.n 0)) (Err refusal.BadRange)) (Err refusal.NotFilled))
       by true true true e f g =
           let l = ltb-true good parts.f g in
           ((filled_tells u).to e, (ranges_tell parts).to f, record { low = l; before = upto.before; breaks = upto.breaks l })
@@ -115,15 +114,15 @@ module _ (u : List ℕ) where
 
   -- ---- and back
 
-  unfilled : (Filled u → ⊥) → check_of u ≡ checked.Refused refusal.NotFilled
+  unfilled : (Filled u → ⊥) → check_of u ≡ Err refusal.NotFilled
   unfolding check_of
   unfilled n = rw (tells_no (filled_tells u) n)
 
-  refused_range : Filled u → (Ranges parts → ⊥) → check_of u ≡ checked.Refused refusal.BadRange
+  refused_range : Filled u → (Ranges parts → ⊥) → check_of u ≡ Err refusal.BadRange
   unfolding check_of parts_check
   refused_range w n = rw ((filled_tells u).of w, tells_no (ranges_tell parts) n)
 
-  refused_field : (i : ℕ) → Filled u → Ranges parts → FirstField code i → check_of u ≡ checked.Refused (refusal.BadField i)
+  refused_field : (i : ℕ) → Filled u → Ranges parts → FirstField code i → check_of u ≡ Err (refusal.BadField i)
   unfolding check_of parts_check
   refused_field i w r f =
       let e : good ≡ i = upto_only code parts.f good i (fields_upto code parts.f) (record { low = omega (arith, f.low); before = f.before; breaks = λ l. f.breaks }) in
@@ -136,40 +135,40 @@ module _ (u : List ℕ) where
       let e : good ≡ parts.f = upto_only code parts.f good parts.f (fields_upto code parts.f) (record { low = omega arith; before = o.entries; breaks = λ l. absurd (omega arith) }) in
       rw ((filled_tells u).of o.filled, (ranges_tell parts).of o.ranges, e, le-ltb parts.f parts.f (omega arith))
 
-  pub check_only : (r : Checked) → Says u r → check_of u ≡ r
-  check_only (checked.Passed p) s =
-      subst (λ (q : Parts). SoundUnit u q → check_of u ≡ checked.Passed q) (sym s.parts) passed s
+  pub check_only : (r : Result Parts Refusal) → Says u r → check_of u ≡ r
+  check_only (Ok p) s =
+      subst (λ (q : Parts). SoundUnit u q → check_of u ≡ Ok q) (sym s.parts) passed s
     where
-      passed : SoundUnit u parts → check_of u ≡ checked.Passed parts
+      passed : SoundUnit u parts → check_of u ≡ Ok parts
       passed s =
           in_order (record { filled = s.filled; ranges = s.ranges; entries = s.code.entries }) ∙ statements_pass u parts s.code.statements
-  check_only (checked.Refused refusal.NotFilled) s = unfilled s
-  check_only (checked.Refused refusal.BadRange) s = refused_range s.0 s.1
-  check_only (checked.Refused (refusal.BadField i)) s = refused_field i s.0 s.1 s.2
-  check_only (checked.Refused (refusal.BadExpression i)) s = in_order s.0 ∙ statements_use u parts i s.1
-  check_only (checked.Refused (refusal.BadStatement i)) s = in_order s.0 ∙ statements_shape u parts i s.1
+  check_only (Err refusal.NotFilled) s = unfilled s
+  check_only (Err refusal.BadRange) s = refused_range s.0 s.1
+  check_only (Err (refusal.BadField i)) s = refused_field i s.0 s.1 s.2
+  check_only (Err (refusal.BadExpression i)) s = in_order s.0 ∙ statements_use u parts i s.1
+  check_only (Err (refusal.BadStatement i)) s = in_order s.0 ∙ statements_shape u parts i s.1
 
   -- ---- the same for callers
 
-  says_of : (r : Checked) → check_of u ≡ r → Says u r
-  says_of r e = subst (λ (x : Checked). Says u x) e check_says
+  says_of : (r : Result Parts Refusal) → check_of u ≡ r → Says u r
+  says_of r e = subst (λ (x : Result Parts Refusal). Says u x) e check_says
 
 module _ (u : List ℕ) (p : Parts) where
-  pub passed_sound : check_of u ≡ checked.Passed p → SoundUnit u p
-  passed_sound e = says_of u (checked.Passed p) e
+  pub passed_sound : check_of u ≡ Ok p → SoundUnit u p
+  passed_sound e = says_of u (Ok p) e
 
-  pub sound_passed : SoundUnit u p → check_of u ≡ checked.Passed p
-  sound_passed s = check_only u (checked.Passed p) s
+  pub sound_passed : SoundUnit u p → check_of u ≡ Ok p
+  sound_passed s = check_only u (Ok p) s
 
-  pub passed_parts : check_of u ≡ checked.Passed p → p ≡ parts_of u
+  pub passed_parts : check_of u ≡ Ok p → p ≡ parts_of u
   passed_parts e = (passed_sound e).parts
 
-  pub passed_fills : check_of u ≡ checked.Passed p → Fills u p
+  pub passed_fills : check_of u ≡ Ok p → Fills u p
   passed_fills e = rw (passed_parts e) (passed_sound e).filled.fills
 
 -- v is the answer of the check
-module _ (u : List ℕ) (v : Checked) (is : v ≡ check_of u) (p : Parts) (e : v ≡ checked.Passed p) where
-  pub passed_by : check_of u ≡ checked.Passed p
+module _ (u : List ℕ) (v : Result Parts Refusal) (is : v ≡ check_of u) (p : Parts) (e : v ≡ Ok p) where
+  pub passed_by : check_of u ≡ Ok p
   passed_by = sym is ∙ e
 
   pub fills_by : Fills u p

@@ -1,4 +1,6 @@
 -- The statements: what is found of one, and the first that is not sound. Assumes nothing.
+use Rattle.std.specs.Prelude.{Result, Err, Ok, None, Option}
+use Rattle.rules_unit.specs.declared.Refusal.{Refusal}
 use Prim.Native.Nat.{ℕ, zero, suc, ◌+◌, ◌-◌, ◌<◌, ◌≤◌}
 use native.Mathlib.Omega.{arith}
 use native.Mathlib.Numerals.{add-one}
@@ -14,12 +16,9 @@ use Rattle.rules_unit.specs.declared.Role.{Role}
 use Rattle.rules_unit.specs.declared.Role.TheVariants as role
 use Rattle.rules_unit.specs.declared.Row.{Row}
 use Rattle.rules_unit.specs.declared.Use.{Use}
-use Rattle.rules_unit.specs.declared.Use.TheVariants as use-of
 use Rattle.rules_unit.specs.declared.Found.{Found}
 use Rattle.rules_unit.specs.declared.Found.TheVariants as found
 use Rattle.rules_unit.specs.declared.Refusal.TheVariants as refusal
-use Rattle.rules_unit.specs.declared.Checked.{Checked}
-use Rattle.rules_unit.specs.declared.Checked.TheVariants as checked
 use Rattle.rules_unit.specs.Codes.{Code}
 use Rattle.rules_unit.specs.Decode.{code_of}
 use Rattle.rules_unit.specs.Table.{verb_of, row_of, uses_by, uses_of}
@@ -90,10 +89,10 @@ module _ (c : Code) where
 
   -- ---- 4
 
-  abbrev Each : List Use → Type 0
-  Each xs = (k : ℕ) → k < length xs → UseSound c (get_or xs k use-of.Nothing)
+  abbrev Each : List (Option Use) → Type 0
+  Each xs = (k : ℕ) → k < length xs → UseSound c (get_or xs k None)
 
-  list_tells : (xs : List Use) → Tells (usesb c xs) (Each xs)
+  list_tells : (xs : List (Option Use)) → Tells (usesb c xs) (Each xs)
   unfolding usesb
   list_tells [] = record { to = λ e k h. absurd (omega arith); of = λ f. refl }
   list_tells (x ∷ xs) = tells_as to of (tells_and (use_tells c x) (list_tells xs))
@@ -109,12 +108,12 @@ module _ (c : Code) where
   uses_tell i = tells_as (λ f. record { each = f }) (λ r. r.each) (list_tells (uses_of c (c.statement i)))
 
   -- The test of each use of a sound statement.
-  pub uses_good : (i : ℕ) → UsesSound c i → (k : ℕ) → k < length (uses_of c (c.statement i)) → useb c (get_or (uses_of c (c.statement i)) k use-of.Nothing) ≡ true
-  uses_good i s k h = (use_tells c (get_or (uses_of c (c.statement i)) k use-of.Nothing)).of (s.each k h)
+  pub uses_good : (i : ℕ) → UsesSound c i → (k : ℕ) → k < length (uses_of c (c.statement i)) → useb c (get_or (uses_of c (c.statement i)) k None) ≡ true
+  uses_good i s k h = (use_tells c (get_or (uses_of c (c.statement i)) k None)).of (s.each k h)
 
   -- Every use of a statement is of the sort that is wanted, where r is its row.
   abbrev pub Used : Row → Statement → Type 0
-  Used r s = (k : ℕ) → k < length (uses_by c r s) → useb c (get_or (uses_by c r s) k use-of.Nothing) ≡ true
+  Used r s = (k : ℕ) → k < length (uses_by c r s) → useb c (get_or (uses_by c r s) k None) ≡ true
 
   -- ---- what is found of one statement
 
@@ -158,13 +157,13 @@ left_all n = omega arith
 
 module _ (u : List ℕ) (p : Parts) where
   -- what the check of the statements says
-  abbrev pub Scans : Checked → Type 0
-  Scans (checked.Passed q) = (q ≡ p) × ((j : ℕ) → j < p.n → StatementSound (code_of u p) j)
-  Scans (checked.Refused refusal.NotFilled) = ⊥
-  Scans (checked.Refused refusal.BadRange) = ⊥
-  Scans (checked.Refused (refusal.BadField i)) = ⊥
-  Scans (checked.Refused (refusal.BadExpression i)) = FirstExpression (code_of u p) i
-  Scans (checked.Refused (refusal.BadStatement i)) = FirstStatement (code_of u p) i
+  abbrev pub Scans : Result Parts Refusal → Type 0
+  Scans (Ok q) = (q ≡ p) × ((j : ℕ) → j < p.n → StatementSound (code_of u p) j)
+  Scans (Err refusal.NotFilled) = ⊥
+  Scans (Err refusal.BadRange) = ⊥
+  Scans (Err (refusal.BadField i)) = ⊥
+  Scans (Err (refusal.BadExpression i)) = FirstExpression (code_of u p) i
+  Scans (Err (refusal.BadStatement i)) = FirstStatement (code_of u p) i
 
   scan : (k i : ℕ) → i + k ≡ p.n → ((j : ℕ) → j < i → StatementSound (code_of u p) j) → Scans (statements_from u p k i)
   unfolding statements_from
@@ -186,7 +185,7 @@ module _ (u : List ℕ) (p : Parts) where
   unfolding statements_from
   statements_more n i h e = rw (left_suc n i h, e)
 
-  pub statements_end : (n i : ℕ) → n ≤ i → checked.Passed p ≡ statements_from u p (n - i) i
+  pub statements_end : (n i : ℕ) → n ≤ i → Ok p ≡ statements_from u p (n - i) i
   unfolding statements_from
   statements_end n i h = rw (left_none n i h)
 
@@ -202,13 +201,13 @@ module _ (u : List ℕ) (p : Parts) where
       rw (← add-one i)
       (statements_more n i (omega arith) (found_good (code_of u p) i (s i (omega arith))) ∙ past n i (omega arith) (λ j l. s j (omega arith)))
 
-  pub statements_pass : ((j : ℕ) → j < p.n → StatementSound (code_of u p) j) → statements_from u p p.n 0 ≡ checked.Passed p
+  pub statements_pass : ((j : ℕ) → j < p.n → StatementSound (code_of u p) j) → statements_from u p p.n 0 ≡ Ok p
   statements_pass s = sym (statements_end p.n p.n (omega arith) ∙ past p.n p.n (omega arith) s)
 
-  pub statements_shape : (i : ℕ) → FirstStatement (code_of u p) i → statements_from u p p.n 0 ≡ checked.Refused (refusal.BadStatement i)
+  pub statements_shape : (i : ℕ) → FirstStatement (code_of u p) i → statements_from u p p.n 0 ≡ Err (refusal.BadStatement i)
   statements_shape i f =
       sym (statements_stop p.n i found.BadShape f.low (found_shape (code_of u p) i f.breaks) ∙ past p.n i (omega (arith, f.low)) f.before)
 
-  pub statements_use : (i : ℕ) → FirstExpression (code_of u p) i → statements_from u p p.n 0 ≡ checked.Refused (refusal.BadExpression i)
+  pub statements_use : (i : ℕ) → FirstExpression (code_of u p) i → statements_from u p p.n 0 ≡ Err (refusal.BadExpression i)
   statements_use i f =
       sym (statements_stop p.n i found.BadExpression f.low (found_use (code_of u p) i f.shape f.breaks) ∙ past p.n i (omega (arith, f.low)) f.before)

@@ -7,6 +7,7 @@
 --   writes_some  a code whose place a is written is not 0
 --   read_down    the table read down its columns: what a, b and c are, by the code
 -- Assumes nothing.
+use Rattle.std.specs.Prelude.{None, Option}
 use Prim.Native.Nat.{ℕ, zero, suc, ◌<◌, ◌≤◌}
 use native.Mathlib.Omega.{arith}
 use mathlib.Core.Path.{◌≡◌, refl, sym, ap, ◌∙◌, subst}
@@ -25,10 +26,9 @@ use Rattle.rules_unit.specs.declared.Want.TheVariants.{Place, DecimalPlace, Alph
 use Rattle.rules_unit.specs.declared.Role.{Role}
 use Rattle.rules_unit.specs.declared.Role.TheVariants.{Unused, Written, Read, Target, Table, Numbers, End, Never}
 use Rattle.rules_unit.specs.declared.Use.{Use}
-use Rattle.rules_unit.specs.declared.Use.TheVariants.{Nothing, Of}
 use Rattle.rules_unit.specs.Codes.{Code}
 use Rattle.rules_unit.specs.Expressions.{next_at}
-use Rattle.rules_unit.specs.Table.{verb_of, row_with, row_of, WritesA, uses_by, uses_of}
+use Rattle.rules_unit.specs.Table.{verb_of, row_with, row_of, WritesA, uses_by, uses_of, used}
 use Rattle.rules_unit.specs.Checks.{is_goto}
 use Rattle.rules_unit.specs.WellFormed.{WellFormed, UseSound}
 use Rattle.rules_unit.specs.Sound.{RowSound, ShapeSound, UsesSound}
@@ -131,11 +131,11 @@ module _ (c : Code) (i : ℕ) (q : (c.statement i).code ≡ 14) where
       × WellFormed c Number (c.items (next_at c b))
       × WellFormed c Number (c.items (next_at c (next_at c b)))
 
-  abbrev five : List Use
-  five = Of DecimalPlace a true ∷ (Of Number b false ∷ (Nothing ∷ (Of Number (next_at c b) false ∷ (Of Number (next_at c (next_at c b)) false ∷ []))))
+  abbrev five : List (Option Use)
+  five = used DecimalPlace a true ∷ (used Number b false ∷ (None ∷ (used Number (next_at c b) false ∷ (used Number (next_at c (next_at c b)) false ∷ []))))
 
-  abbrev Each : List Use → Type 0
-  Each us = (k : ℕ) → k < length us → UseSound c (get_or us k Nothing)
+  abbrev Each : List (Option Use) → Type 0
+  Each us = (k : ℕ) → k < length us → UseSound c (get_or us k None)
 
   uses_are : uses_of c (c.statement i) ≡ five
   uses_are = ap (λ (v : Verb). uses_by c (row_of v) (c.statement i)) (verb_for (c.statement i).code q)

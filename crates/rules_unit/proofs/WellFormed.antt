@@ -3,6 +3,7 @@
 --   text_tells       textb tells TextSound
 --   use_tells        useb tells UseSound
 -- Assumes nothing.
+use Rattle.std.specs.Prelude.{None, Option, Some}
 use Prim.Native.Nat.{ℕ, zero, suc, ◌+◌, ◌-◌, ◌<◌, ◌≤◌}
 use native.Mathlib.Omega.{arith}
 use mathlib.Core.Path.{◌≡◌, refl, sym, ap, ◌∙◌, subst}
@@ -19,7 +20,6 @@ use Rattle.rules_unit.specs.declared.Sort.TheVariants as sort
 use Rattle.rules_unit.specs.declared.Want.{Want}
 use Rattle.rules_unit.specs.declared.Want.TheVariants as want
 use Rattle.rules_unit.specs.declared.Use.{Use}
-use Rattle.rules_unit.specs.declared.Use.TheVariants as use-of
 use Rattle.rules_unit.specs.Codes.{Code, decimalb}
 use Rattle.rules_unit.specs.Expressions.{digitsb, takes, numberb, textb, itemb, place_sort, sort_of, goes_on, sort_from, sort_at, suits, useb}
 use Rattle.rules_unit.specs.WellFormed.{AllDigits, NumberSound, TextSound, ItemSound, taken, held, IsNumber, Wanted, WellFormed, UseSound}
@@ -292,8 +292,8 @@ module _ (c : Code) where
           start [] = tt
           start (i ∷ l) = refl
 
-  pub use_tells : (x : Use) → Tells (useb c x) (UseSound c x)
+  pub use_tells : (x : Option Use) → Tells (useb c x) (UseSound c x)
   unfolding sort_at
-  use_tells use-of.Nothing = tells_true
-  use_tells (use-of.Of w at written) =
-      tells_as (λ r. formed_to w (c.items at) r.0 r.1) (λ f. formed_of w (c.items at) f) (chain_tells w (c.items at) 0 sort.Number)
+  use_tells None = tells_true
+  use_tells (Some u) =
+      tells_as (λ r. formed_to u.want (c.items u.at) r.0 r.1) (λ f. formed_of u.want (c.items u.at) f) (chain_tells u.want (c.items u.at) 0 sort.Number)

@@ -5,10 +5,10 @@
 --   FirstThree u           checks 1, 2 and 3 are passed
 --   Says u r               what the answer r says of the unit u
 -- Assumes nothing.
-use Rattle.std.specs.Prelude.{ℕ, ◌<◌, List}
+use Rattle.rules_unit.specs.declared.Refusal.{Refusal}
+use Rattle.rules_unit.specs.declared.Parts.{Parts}
+use Rattle.std.specs.Prelude.{ℕ, ◌<◌, List, Result, Err, Ok}
 use Rattle.rules_unit.specs.declared.Refusal.TheVariants as refusal
-use Rattle.rules_unit.specs.declared.Checked.{Checked}
-use Rattle.rules_unit.specs.declared.Checked.TheVariants as checked
 use Rattle.rules_unit.specs.Codes.{Code}
 use Rattle.rules_unit.specs.Decode.{parts_of, code_of}
 use Rattle.rules_unit.specs.Sound.{Filled, Ranges, EntryFits, ShapeSound, UsesSound, StatementSound, SoundUnit}
@@ -37,10 +37,10 @@ pub record FirstThree (u : List ℕ) : Type 0 where
   pub ranges : Ranges (parts_of u)
   pub entries : (i : ℕ) → i < (parts_of u).f → EntryFits (code_of u (parts_of u)) i
 
-abbrev pub Says : List ℕ → Checked → Type 0
-Says u (checked.Passed p) = SoundUnit u p
-Says u (checked.Refused refusal.NotFilled) = Filled u → ⊥
-Says u (checked.Refused refusal.BadRange) = Filled u × (Ranges (parts_of u) → ⊥)
-Says u (checked.Refused (refusal.BadField i)) = Filled u × Ranges (parts_of u) × FirstField (code_of u (parts_of u)) i
-Says u (checked.Refused (refusal.BadExpression i)) = FirstThree u × FirstExpression (code_of u (parts_of u)) i
-Says u (checked.Refused (refusal.BadStatement i)) = FirstThree u × FirstStatement (code_of u (parts_of u)) i
+abbrev pub Says : List ℕ → Result Parts Refusal → Type 0
+Says u (Ok p) = SoundUnit u p
+Says u (Err refusal.NotFilled) = Filled u → ⊥
+Says u (Err refusal.BadRange) = Filled u × (Ranges (parts_of u) → ⊥)
+Says u (Err (refusal.BadField i)) = Filled u × Ranges (parts_of u) × FirstField (code_of u (parts_of u)) i
+Says u (Err (refusal.BadExpression i)) = FirstThree u × FirstExpression (code_of u (parts_of u)) i
+Says u (Err (refusal.BadStatement i)) = FirstThree u × FirstStatement (code_of u (parts_of u)) i

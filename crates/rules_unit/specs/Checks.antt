@@ -8,7 +8,7 @@
 --   check_of u                 the check
 --   refusal_number, refusal_place    the table's number and place of a refusal
 -- Assumes nothing.
-use Rattle.std.specs.Prelude.{ℕ, zero, suc, ◌+◌, Bool, true, false, cond, not, ltb, leb, eqb, List, length}
+use Rattle.std.specs.Prelude.{ℕ, zero, suc, ◌+◌, Bool, true, false, cond, not, ltb, leb, eqb, List, length, Result, Err, Ok}
 use Rattle.rules.specs.Tests.{◌and◌}
 use Rattle.rules_unit.specs.declared.Parts.{Parts}
 use Rattle.rules_unit.specs.declared.Statement.{Statement}
@@ -19,8 +19,6 @@ use Rattle.rules_unit.specs.declared.Found.{Found}
 use Rattle.rules_unit.specs.declared.Found.TheVariants as found
 use Rattle.rules_unit.specs.declared.Refusal.{Refusal}
 use Rattle.rules_unit.specs.declared.Refusal.TheVariants as refusal
-use Rattle.rules_unit.specs.declared.Checked.{Checked}
-use Rattle.rules_unit.specs.declared.Checked.TheVariants as checked
 use Rattle.rules_unit.specs.Codes.{Code, is_bad, decimalb, recordb, offset_of, size_of, count_of, end_of}
 use Rattle.rules_unit.specs.Decode.{mark_of, wrong_mark, parts_of, full_length, code_of}
 use Rattle.rules_unit.specs.Table.{verb_of, row_of, uses_of}
@@ -131,22 +129,22 @@ found_of c i = cond (shapeb c i) (cond (usesb c (uses_of c (c.statement i))) fou
 
 -- ---- the check
 
-abbrev pub onward : ℕ → Found → Checked → Checked
+abbrev pub onward : ℕ → Found → Result Parts Refusal → Result Parts Refusal
 onward i found.Good rest = rest
-onward i found.BadShape rest = checked.Refused (refusal.BadStatement i)
-onward i found.BadExpression rest = checked.Refused (refusal.BadExpression i)
+onward i found.BadShape rest = Err (refusal.BadStatement i)
+onward i found.BadExpression rest = Err (refusal.BadExpression i)
 
 -- "then each statement in turn": the k statements from i on
-unfoldable pub statements_from : List ℕ → Parts → ℕ → ℕ → Checked
-statements_from u p zero i = checked.Passed p
+unfoldable pub statements_from : List ℕ → Parts → ℕ → ℕ → Result Parts Refusal
+statements_from u p zero i = Ok p
 statements_from u p (suc k) i = let rest = statements_from u p k (i + 1) in onward i (found_of (code_of u p) i) rest
 
 -- "Checks 1, 2, 3 run in order; then each statement in turn"
-unfoldable pub parts_check : List ℕ → Parts → Checked
+unfoldable pub parts_check : List ℕ → Parts → Result Parts Refusal
 parts_check u p =
     let rest = statements_from u p p.n 0 in
     let good = good_fields (code_of u p) p.f 0 0 in
-    cond (rangesb p) (cond (ltb good p.f) (checked.Refused (refusal.BadField good)) rest) (checked.Refused refusal.BadRange)
+    cond (rangesb p) (cond (ltb good p.f) (Err (refusal.BadField good)) rest) (Err refusal.BadRange)
 
-unfoldable pub check_of : List ℕ → Checked
-check_of u = let rest = parts_check u (parts_of u) in cond (filledb u) rest (checked.Refused refusal.NotFilled)
+unfoldable pub check_of : List ℕ → Result Parts Refusal
+check_of u = let rest = parts_check u (parts_of u) in cond (filledb u) rest (Err refusal.NotFilled)

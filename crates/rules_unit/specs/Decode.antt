@@ -7,11 +7,9 @@
 --   item_at s at            an item at an offset of the expressions s; items_at the expression that starts there
 --   code_of u p             the whole
 -- Assumes nothing.
-use Rattle.std.specs.Prelude.{◌≡◌, ℕ, zero, suc, ◌+◌, ◌-◌, ◌*◌, ◌^◌, Bool, true, false, cond, List, [], ◌∷◌, ltb, eqb, length, get_or, take, drop}
+use Rattle.std.specs.Prelude.{◌≡◌, ℕ, zero, suc, ◌+◌, ◌-◌, ◌*◌, ◌^◌, Bool, true, false, cond, List, [], ◌∷◌, ltb, eqb, length, get_or, take, drop, Option, None, Some}
 use Rattle.rules.specs.Values.{Limit, Letters, Top}
 use Rattle.rules_unit.specs.declared.Dialect.{Dialect}
-use Rattle.rules_unit.specs.declared.Mark.{Mark}
-use Rattle.rules_unit.specs.declared.Mark.TheVariants as mark
 use Rattle.rules_unit.specs.declared.Parts.{Parts}
 use Rattle.rules_unit.specs.declared.Kind.{Kind}
 use Rattle.rules_unit.specs.declared.Kind.TheVariants as kind
@@ -35,20 +33,20 @@ abbrev pub eighteen : Dialect
 eighteen = record { limit = 18; sign = 0x70; top = 10 ^ 18 }
 
 -- "then the bytes 44 42 (hex)": this mark names the dialect of eighteen digits, and any other is wrong.
-unfoldable pub mark_of : List ℕ → Mark
+unfoldable pub mark_of : List ℕ → Option Dialect
 mark_of u =
     cond (eqb (get_or u (length u - 2) 0) 0x44)
-    (cond (eqb (get_or u (length u - 1) 0) 0x42) (mark.Names eighteen)
-    mark.Wrong) mark.Wrong
+    (cond (eqb (get_or u (length u - 1) 0) 0x42) (Some eighteen)
+    None) None
 
-abbrev pub wrong_mark : Mark → Bool
-wrong_mark (mark.Names d) = false
-wrong_mark mark.Wrong = true
+abbrev pub wrong_mark : Option Dialect → Bool
+wrong_mark (Some d) = false
+wrong_mark None = true
 
 -- The dialect that a mark names. A wrong one names none; check 1 refuses it, whatever it is decoded to here.
-abbrev pub dialect_of : Mark → Dialect
-dialect_of (mark.Names d) = d
-dialect_of mark.Wrong = eighteen
+abbrev pub dialect_of : Option Dialect → Dialect
+dialect_of (Some d) = d
+dialect_of None = eighteen
 
 -- What is asked of a dialect's numbers.
 pub record SoundDialect (d : Dialect) : Type 0 where

@@ -7,7 +7,7 @@
 --   next_at c e         where the expression behind the one at e starts
 --   suits w k          whether an expression of the sort k is of the sort wanted
 -- Assumes nothing.
-use Rattle.std.specs.Prelude.{◌≡◌, ℕ, ◌+◌, ◌-◌, Bool, true, false, cond, List, [], ◌∷◌, ltb, leb, eqb, length, take, drop}
+use Rattle.std.specs.Prelude.{◌≡◌, ℕ, ◌+◌, ◌-◌, Bool, true, false, cond, List, [], ◌∷◌, ltb, leb, eqb, length, take, drop, None, Option, Some}
 use Rattle.rules.specs.Tests.{◌and◌}
 use Rattle.rules.specs.Values.{is_from}
 use Rattle.rules_unit.specs.declared.Form.{Form}
@@ -21,7 +21,6 @@ use Rattle.rules_unit.specs.declared.Sort.TheVariants as sort
 use Rattle.rules_unit.specs.declared.Want.{Want}
 use Rattle.rules_unit.specs.declared.Want.TheVariants as want
 use Rattle.rules_unit.specs.declared.Use.{Use}
-use Rattle.rules_unit.specs.declared.Use.TheVariants as use-of
 use Rattle.rules_unit.specs.Codes.{Code, decimalb}
 use Rattle.rules_unit.specs.Decode.{width_of}
 
@@ -189,10 +188,10 @@ suits want.AlphaSource sort.Decimal = false
 suits want.AlphaSource sort.Alpha = true
 
 -- An expression of the sort that its use wants.
-abbrev pub useb : Code → Use → Bool
-useb c use-of.Nothing = true
-useb c (use-of.Of w at written) = suits w (sort_at c at)
+abbrev pub useb : Code → Option Use → Bool
+useb c None = true
+useb c (Some u) = suits u.want (sort_at c u.at)
 
-unfoldable pub usesb : Code → List Use → Bool
+unfoldable pub usesb : Code → List (Option Use) → Bool
 usesb c [] = true
 usesb c (x ∷ xs) = let rest = usesb c xs in useb c x and rest

@@ -10,13 +10,12 @@
 --   SoundCode c           all entries and all statements
 --   SoundUnit u p         the unit u, with the parts p
 -- What a well-formed expression of a sort is stands in WellFormed. Assumes nothing.
-use Rattle.std.specs.Prelude.{ℕ, ◌+◌, ◌-◌, ◌<◌, ◌≤◌, ◌≡◌, true, false, ◌⊎◌, List, length, get_or}
+use Rattle.std.specs.Prelude.{ℕ, ◌+◌, ◌-◌, ◌<◌, ◌≤◌, ◌≡◌, true, false, ◌⊎◌, List, length, get_or, None}
 use Rattle.rules_unit.specs.declared.Parts.{Parts}
 use Rattle.rules_unit.specs.declared.Statement.{Statement}
 use Rattle.rules_unit.specs.declared.Role.{Role}
 use Rattle.rules_unit.specs.declared.Role.TheVariants as role
 use Rattle.rules_unit.specs.declared.Row.{Row}
-use Rattle.rules_unit.specs.declared.Use.TheVariants as use-of
 use Rattle.rules_unit.specs.Codes.{Code, is_bad, decimalb, recordb, offset_of, size_of, count_of, end_of}
 use Rattle.rules_unit.specs.Decode.{Fills, parts_of, code_of}
 use Rattle.rules_unit.specs.Table.{verb_of, row_of, uses_of}
@@ -109,7 +108,7 @@ pub record ShapeSound (c : Code) (i : ℕ) : Type 0 where
 
 -- Each of its expressions is well formed, and of the sort that its use wants.
 pub record UsesSound (c : Code) (i : ℕ) : Type 0 where
-  pub each : (k : ℕ) → k < length (uses_of c (c.statement i)) → UseSound c (get_or (uses_of c (c.statement i)) k use-of.Nothing)
+  pub each : (k : ℕ) → k < length (uses_of c (c.statement i)) → UseSound c (get_or (uses_of c (c.statement i)) k None)
 
 pub record StatementSound (c : Code) (i : ℕ) : Type 0 where
   pub shape : ShapeSound c i

@@ -7,16 +7,16 @@
 --   WritesA code     the codes whose place a is written
 --   Repeats code     the codes that go on with the loop opened last; OnLoop code those that act on it
 -- What is checked of a part stands in Checks and Sound, by its role. Assumes nothing.
-use Rattle.std.specs.Prelude.{ℕ, ◌≤◌, ◌≡◌, ◌⊎◌, true, false, cond, List, [], ◌∷◌, eqb}
+use Rattle.std.specs.Prelude.{ℕ, ◌≤◌, ◌≡◌, ◌⊎◌, true, false, cond, List, [], ◌∷◌, eqb, None, Option, Bool, Some}
 use Rattle.rules_unit.specs.declared.Act.TheVariants.{Set, Clear, Count, Case, Edit}
 use Rattle.rules_unit.specs.declared.Verb.{Verb}
 use Rattle.rules_unit.specs.declared.Verb.TheVariants.{At, Goto, IfZero, Call, Return, Stop, Computed, For, LoopEnd, ExitLoop, NextLoop, OnError, OffError, Bad}
+use Rattle.rules_unit.specs.declared.Want.{Want}
 use Rattle.rules_unit.specs.declared.Want.TheVariants.{Place, DecimalPlace, AlphaPlace, Source, Number, AlphaSource}
 use Rattle.rules_unit.specs.declared.Role.{Role}
 use Rattle.rules_unit.specs.declared.Role.TheVariants.{Unused, Written, Read, Target, Table, Numbers, End, Never}
 use Rattle.rules_unit.specs.declared.Row.{Row}
 use Rattle.rules_unit.specs.declared.Use.{Use}
-use Rattle.rules_unit.specs.declared.Use.TheVariants.{Nothing, Of}
 use Rattle.rules_unit.specs.declared.Statement.{Statement}
 use Rattle.rules_unit.specs.Codes.{Code}
 use Rattle.rules_unit.specs.Expressions.{next_at}
@@ -106,30 +106,34 @@ OnLoop code = (code ≡ 15) ⊎ ((code ≡ 16) ⊎ (code ≡ 17))
 
 -- ---- the uses
 
-abbrev pub use_of : Role → ℕ → Use
-use_of Unused x = Nothing
-use_of (Written w) x = Of w x true
-use_of (Read w) x = Of w x false
-use_of Target x = Nothing
-use_of Table x = Nothing
-use_of Numbers x = Of Number x false
-use_of End x = Nothing
-use_of Never x = Nothing
+-- A use that there is.
+abbrev pub used : Want → ℕ → Bool → Option Use
+used w at written = Some (record { want = w; at = at; written = written })
+
+abbrev pub use_of : Role → ℕ → Option Use
+use_of Unused x = None
+use_of (Written w) x = used w x true
+use_of (Read w) x = used w x false
+use_of Target x = None
+use_of Table x = None
+use_of Numbers x = used Number x false
+use_of End x = None
+use_of Never x = None
 
 -- "start, limit and step are numbers"
-abbrev pub more_of : Code → Role → ℕ → List Use
+abbrev pub more_of : Code → Role → ℕ → List (Option Use)
 more_of c Unused x = []
 more_of c (Written w) x = []
 more_of c (Read w) x = []
 more_of c Target x = []
 more_of c Table x = []
-more_of c Numbers x = Of Number (next_at c x) false ∷ (Of Number (next_at c (next_at c x)) false ∷ [])
+more_of c Numbers x = used Number (next_at c x) false ∷ (used Number (next_at c (next_at c x)) false ∷ [])
 more_of c End x = []
 more_of c Never x = []
 
 -- "5 before a's 4 before b's 4"; "In a statement a is worked out before b"
-abbrev pub uses_by : Code → Row → Statement → List Use
+abbrev pub uses_by : Code → Row → Statement → List (Option Use)
 uses_by c r s = use_of r.a s.a ∷ (use_of r.b s.b ∷ (use_of r.c s.c ∷ more_of c r.b s.b))
 
-abbrev pub uses_of : Code → Statement → List Use
+abbrev pub uses_of : Code → Statement → List (Option Use)
 uses_of c s = uses_by c (row_of (verb_of s.code)) s

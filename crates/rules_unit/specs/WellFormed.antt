@@ -7,14 +7,13 @@
 --   WellFormed c w is    the expression is, of the sort wanted
 --   UseSound c x         the expression of a use
 -- Assumes nothing.
-use Rattle.std.specs.Prelude.{ℕ, ◌+◌, ◌-◌, ◌<◌, ◌≤◌, ◌≡◌, true, false, List, [], ◌∷◌, ◌++◌, ◌⊎◌, length, get_or, take, drop}
+use Rattle.std.specs.Prelude.{ℕ, ◌+◌, ◌-◌, ◌<◌, ◌≤◌, ◌≡◌, true, false, List, [], ◌∷◌, ◌++◌, ◌⊎◌, length, get_or, take, drop, None, Option, Some}
 use Rattle.rules.specs.Values.{is_from}
 use Rattle.rules_unit.specs.declared.Item.{Item}
 use Rattle.rules_unit.specs.declared.Item.TheVariants as item
 use Rattle.rules_unit.specs.declared.Want.{Want}
 use Rattle.rules_unit.specs.declared.Want.TheVariants as want
 use Rattle.rules_unit.specs.declared.Use.{Use}
-use Rattle.rules_unit.specs.declared.Use.TheVariants as use-of
 use Rattle.rules_unit.specs.Codes.{Code, decimalb}
 use Rattle.rules_unit.specs.Expressions.{takes}
 
@@ -127,6 +126,6 @@ pub record WellFormed (c : Code) (w : Want) (is : List Item) : Type 0 where
   pub wanted : Wanted c w last
 
 -- The expression of a use is well formed, and of the sort that the use wants.
-abbrev pub UseSound : Code → Use → Type 0
-UseSound c use-of.Nothing = Unit {0}
-UseSound c (use-of.Of w at written) = WellFormed c w (c.items at)
+abbrev pub UseSound : Code → Option Use → Type 0
+UseSound c None = Unit {0}
+UseSound c (Some u) = WellFormed c u.want (c.items u.at)

@@ -15,13 +15,6 @@ pub struct Dialect {
     pub top: u64,
 }
 
-// What the mark at a unit's end says.
-#[derive(Clone, Copy)]
-pub enum Mark {
-    Names(Dialect),
-    Wrong,
-}
-
 // The lengths of a unit's parts, as its trailer names them, and its dialect.
 #[derive(Clone, Copy)]
 pub struct Parts {
@@ -171,11 +164,12 @@ pub enum Want {
     AlphaSource,
 }
 
-// How a part of a statement uses an expression: the sort wanted, where it starts, and whether it is written; Nothing where it uses none.
+// How a part of a statement uses an expression: the sort wanted, where it starts, and whether it is written.
 #[derive(Clone, Copy)]
-pub enum Use {
-    Nothing,
-    Of { want: Want, at: u16, written: bool },
+pub struct Use {
+    pub want: Want,
+    pub at: u16,
+    pub written: bool,
 }
 
 // What a part of a statement is.
@@ -223,13 +217,6 @@ pub enum Refusal {
     BadField(u16),
     BadExpression(u16),
     BadStatement(u16),
-}
-
-// What the check answers.
-#[derive(Clone, Copy)]
-pub enum Checked {
-    Passed(Parts),
-    Refused(Refusal),
 }
 
 // A stretch of the unit: where it starts, and its length.

@@ -1,5 +1,7 @@
 -- An expression that is a reference without bounds alone: 02, the number of the field, 00.
 -- Assumes nothing.
+use Rattle.std.specs.Prelude.{Result}
+use Rattle.rules.specs.declared.Fault.{Fault}
 use mathlib.Core.Path.{◌≡◌, refl, sym, ◌∙◌}
 use mathlib.Core.Bool.{Bool, true}
 use mathlib.Core.List.{List, []}
@@ -9,9 +11,10 @@ use lib.Dec.{ltb, eqb}
 use lib.IntN.{pos}
 use lib.ListN.{length, get_or}
 use borrow.Author.Tests.{ltb-true, eqb-true}
-use Rattle.rules_unit.specs.declared.Parts.{Parts}
+use Rattle.unit_decode.specs.declared.filled.Coded.{Coded}
+use Rattle.unit_decode.specs.Units.{code_in}
 use Rattle.rules_unit.specs.declared.Form.TheVariants as form
-use Rattle.rules_unit.specs.Decode.{Fills, SoundDialect, word_at, items_at, code_of}
+use Rattle.rules_unit.specs.Decode.{SoundDialect, word_at, items_at}
 use Rattle.rules_run.specs.declared.Worked.{Worked}
 use Rattle.rules_run.specs.Evaluation.{place_by, worked_of}
 use Rattle.rules.specs.Tests.{◌and◌}
@@ -47,9 +50,9 @@ module _ (es : List ℕ) (i : ℕ) (t : Bool) (et : t ≡ loneb es i) (o : t ≡
   lone_word = omega (arith, lone_tells.room)
 
   -- w is what the field comes to
-  pub lone_place : (u : List ℕ) (p : Parts) (d : List ℕ) (f : ℕ) (w : Worked) → Fills u p → SoundDialect p.dialect → length d < 65536
-      → f ≡ word_at es (i + 1) → w ≡ place_by (code_of u p) d form.First f (pos 0) (pos 0) → w ≡ worked_of (code_of u p) d (items_at es i)
-  lone_place u p d f w fills dialect size ef q =
-      (field_place u p d es i 0 [] (record { fills = fills; dialect = dialect; size = size; there = lone_tells.there; vals = vals_zero 0 })
+  pub lone_place : (co : Coded) (d : List ℕ) (f : ℕ) (w : Result Worked Fault) → SoundDialect co.parts.dialect → length d < 65536
+      → f ≡ word_at es (i + 1) → w ≡ place_by (code_in co) d form.First f (pos 0) (pos 0) → w ≡ worked_of (code_in co) d (items_at es i)
+  lone_place co d f w dialect size ef q =
+      (field_place co d es i 0 [] (record { dialect = dialect; size = size; there = lone_tells.there; vals = vals_zero 0 })
       (code_field es i lone_tells.there lone_tells.field) (omega (arith, lone_tells.room)) f ef true (sym lone_tells.closes) w refl refl q).same
-      ∙ rest_start (code_of u p) d (items_at es i) []
+      ∙ rest_start (code_in co) d (items_at es i) []

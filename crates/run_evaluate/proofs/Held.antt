@@ -5,6 +5,8 @@
 --   place_held, text_held   what a last reference or alpha literal does with them
 --   vals_zero, vals_set     every value of the array is in the range
 -- Assumes nothing.
+use Rattle.std.specs.Prelude.{Result, Err, Ok}
+use Rattle.rules.specs.declared.Fault.{Fault}
 use mathlib.Core.Path.{◌≡◌, refl, sym, ap, ◌∙◌}
 use mathlib.Core.Bool.{cond}
 use mathlib.Core.List.{List, [], ◌∷◌}
@@ -17,7 +19,6 @@ use lib.IntN.{ℤ, pos}
 use lib.ListN.{length, get_or, set, replicate}
 use lib.Seq.{get_or-set_same, get_or-set_other}
 use borrow.Author.Tests.{lt-ltb, le-ltb, ne_eqb}
-use Rattle.rules.specs.declared.Num.{Num}
 use Rattle.rules.specs.declared.Fault.TheVariants as fault
 use Rattle.rules.specs.Values.{Val}
 use Rattle.rules_unit.specs.declared.Form.{Form}
@@ -49,11 +50,11 @@ top_push held m v h = rw (add-one, get_or-set_same held m v (pos 0) h, top_set h
 
 -- ---- at 00
 
-pub left_one : (held : List ℤ) (n : ℕ) → n ≡ 1 → left (top_down held n) ≡ worked.Number (get_or held 0 (pos 0))
+pub left_one : (held : List ℤ) (n : ℕ) → n ≡ 1 → left (top_down held n) ≡ Ok (worked.Number (get_or held 0 (pos 0)))
 unfolding top_down
 left_one held n e = rw e
 
-pub left_other : (held : List ℤ) (n : ℕ) → (n ≡ 1 → ⊥) → left (top_down held n) ≡ worked.Failed fault.Malformed
+pub left_other : (held : List ℤ) (n : ℕ) → (n ≡ 1 → ⊥) → left (top_down held n) ≡ Err fault.Malformed
 unfolding top_down
 left_other held zero h = refl
 left_other held (suc zero) h = absurd (h refl)
@@ -61,7 +62,7 @@ left_other held (suc (suc n)) h = refl
 
 -- ---- an item
 
-under : (k n : ℕ) (f : ℤ → ℤ → Num) (held : List ℤ) → n < k → k ≤ 2 → step_by k f (top_down held n) ≡ halt fault.Malformed
+under : (k n : ℕ) (f : ℤ → ℤ → Result ℤ Fault) (held : List ℤ) → n < k → k ≤ 2 → step_by k f (top_down held n) ≡ halt fault.Malformed
 unfolding step_by top_down
 under zero n f held h g = absurd (omega arith)
 under (suc zero) zero f held h g = refl
@@ -106,17 +107,17 @@ module _ (c : Code) (d : List ℕ) (held : List ℤ) where
       → step_by (takes i) (apply c d i) (top_down held n) ≡ room (top_down held m) (apply c d i (get_or held m (pos 0)) (get_or held (m + 1) (pos 0)))
   step_at i n m e = ap (λ (k : ℕ). step_by (takes i) (apply c d i) (top_down held k)) (sym e) ∙ taken i m
 
-pub full : (held : List ℤ) (m : ℕ) (g : Num) → 16 ≤ m → room (top_down held m) g ≡ halt fault.Malformed
+pub full : (held : List ℤ) (m : ℕ) (g : Result ℤ Fault) → 16 ≤ m → room (top_down held m) g ≡ halt fault.Malformed
 full held m g h = rw (top_length held m, le-ltb m 16 h)
 
-pub room_for : (held : List ℤ) (m : ℕ) (g : Num) → m < 16 → room (top_down held m) g ≡ push g (top_down held m)
+pub room_for : (held : List ℤ) (m : ℕ) (g : Result ℤ Fault) → m < 16 → room (top_down held m) g ≡ push g (top_down held m)
 room_for held m g h = rw (top_length held m, lt-ltb m 16 h)
 
 -- ---- a last item
 
 module _ (c : Code) (d : List ℕ) (held : List ℤ) where
   pub place_held : (h : Form) (f n : ℕ)
-      → place c d h f (top_down held n) ≡ cond (eqb n (form_takes h)) (place_by c d h f (get_or held 0 (pos 0)) (get_or held 1 (pos 0))) (worked.Failed fault.Malformed)
+      → place c d h f (top_down held n) ≡ cond (eqb n (form_takes h)) (place_by c d h f (get_or held 0 (pos 0)) (get_or held 1 (pos 0))) (Err fault.Malformed)
   unfolding place place_by span_of top_down
   place_held form.First f zero = refl
   place_held form.First f (suc n) = rw (ne_eqb (suc n) 0 (λ e. omega arith))
@@ -133,7 +134,7 @@ module _ (c : Code) (d : List ℕ) (held : List ℤ) where
   place_held form.PosLength f (suc (suc (suc n))) = rw (ne_eqb (suc (suc (suc n))) 2 (λ e. omega arith))
 
   pub text_held : (p l n : ℕ)
-      → text_by c p l (top_down held n) ≡ cond (eqb n 0) (cond (textb c p l) (worked.Text p l) (worked.Failed fault.Malformed)) (worked.Failed fault.Malformed)
+      → text_by c p l (top_down held n) ≡ cond (eqb n 0) (cond (textb c p l) (Ok (worked.Text p l)) (Err fault.Malformed)) (Err fault.Malformed)
   unfolding top_down
   text_held p l zero = refl
   text_held p l (suc n) = rw (ne_eqb (suc n) 0 (λ e. omega arith))

@@ -1,4 +1,3 @@
-pub mod Numbers
 pub mod Held
 pub mod Coded
 pub mod Steps

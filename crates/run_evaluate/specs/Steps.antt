@@ -8,20 +8,18 @@
 --   Leads                what every step keeps: what is left, with the values held, comes to the same
 -- The rule itself is `worked_of` of rules_run, over the list of items.
 -- Assumes nothing.
-use Rattle.std.specs.Prelude.{ℕ, zero, suc, ◌+◌, ◌^◌, ◌<◌, ◌≡◌, Bool, cond, List, [], ◌∷◌, ltb, eqb, ℤ, pos, length, get_or}
+use Rattle.rules.specs.declared.Fault.{Fault}
+use Rattle.std.specs.Prelude.{ℕ, zero, suc, ◌+◌, ◌^◌, ◌<◌, ◌≡◌, Bool, cond, List, [], ◌∷◌, ltb, eqb, ℤ, pos, length, get_or, Result, Err, Ok}
 use Rattle.rules.specs.Tests.{◌and◌}
-use Rattle.rules.specs.declared.Num.{Num}
-use Rattle.rules.specs.declared.Num.TheVariants.{Value, Failed}
 use Rattle.rules.specs.Values.{Val}
-use Rattle.rules_unit.specs.declared.Parts.{Parts}
 use Rattle.rules_unit.specs.declared.Form.{Form}
 use Rattle.rules_unit.specs.declared.Form.TheVariants as form
 use Rattle.rules_unit.specs.declared.Item.{Item}
 use Rattle.rules_unit.specs.Codes.{Code}
-use Rattle.rules_unit.specs.Decode.{Fills, SoundDialect, items_at}
+use Rattle.rules_unit.specs.Decode.{SoundDialect, items_at}
 use Rattle.rules_run.specs.declared.Worked.{Worked}
-use Rattle.rules_run.specs.declared.Worked.TheVariants as worked
 use Rattle.rules_run.specs.Evaluation.{left, worked_from}
+use Rattle.unit_decode.specs.declared.filled.Coded.{Coded}
 use Rattle.run_evaluate.specs.declared.Step.{Step}
 use Rattle.run_evaluate.specs.declared.Step.TheVariants.{Hold, Done}
 
@@ -29,13 +27,13 @@ unfoldable pub top_down : List ℤ → ℕ → List ℤ
 top_down held zero = []
 top_down held (suc n) = get_or held n (pos 0) ∷ top_down held n
 
-unfoldable pub rest_of : Code → List ℕ → List Item → List ℤ → Worked
+unfoldable pub rest_of : Code → List ℕ → List Item → List ℤ → Result Worked Fault
 rest_of c d [] st = left st
 rest_of c d (i ∷ is) st = worked_from c d i is st
 
-abbrev pub held_on : ℕ → ℕ → Num → Step
-held_on kept next (Value v) = Hold kept next v
-held_on kept next (Failed e) = Done (worked.Failed e)
+abbrev pub held_on : ℕ → ℕ → Result ℤ Fault → Step
+held_on kept next (Ok v) = Hold kept next v
+held_on kept next (Err e) = Done (Err e)
 
 abbrev pub form_of : ℕ → Form
 form_of code = cond (eqb code 0x03) form.Subscript (cond (eqb code 0x04) form.StartEnd form.PosLength)
@@ -50,15 +48,14 @@ Vals held = (j : ℕ) → Val (10 ^ 18) (get_or held j (pos 0))
 
 -- ---- steps
 
-pub record Ready (u : List ℕ) (p : Parts) (d es : List ℕ) (i : ℕ) (held : List ℤ) : Type 0 where
-  pub fills : Fills u p
-  pub dialect : SoundDialect p.dialect
+pub record Ready (c : Coded) (d es : List ℕ) (i : ℕ) (held : List ℤ) : Type 0 where
+  pub dialect : SoundDialect c.parts.dialect
   pub size : length d < 65536
   pub there : i < length es
   pub vals : Vals held
 
 -- What is left after a step, with the values that are held then.
-abbrev pub after_step : Code → List ℕ → List ℕ → List ℤ → Step → Worked
+abbrev pub after_step : Code → List ℕ → List ℕ → List ℤ → Step → Result Worked Fault
 after_step c d es held (Hold kept next v) = rest_of c d (items_at es next) (v ∷ top_down held kept)
 after_step c d es held (Done w) = w
 

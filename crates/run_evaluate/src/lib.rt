@@ -1,19 +1,20 @@
 // Expressions, worked out over the data. What a passed check never lets arise is tested again and answered Malformed.
 #![tactic(auto)]
 
-ghost use Rattle.std.specs.Prelude.{◌≡◌, ◌<◌, length};
+ghost use Rattle.std.specs.Prelude.{◌≡◌, ◌<◌, length, Err};
+ghost use Rattle.unit_decode.specs.Units.{code_in};
 ghost use Rattle.rules.specs.declared.Fault.TheVariants as fault;
 ghost use Rattle.rules_unit.specs.declared.Form.TheVariants as form;
 ghost use Rattle.rules_unit.specs.declared.Item.TheVariants as item;
-ghost use Rattle.rules_unit.specs.Decode.{Fills, SoundDialect, reference_at, number_at, text_at, item_by, item_at, items_at, code_of};
-ghost use Rattle.rules_run.specs.declared.Worked.TheVariants as worked;
+ghost use Rattle.rules_unit.specs.Decode.{SoundDialect, reference_at, number_at, text_at, item_by, item_at, items_at, code_of};
 ghost use Rattle.rules_run.specs.Evaluation.{worked_of, number_of, Within, value_at};
 ghost use Rattle.run_evaluate.specs.declared.Step.TheVariants as step;
 ghost use Rattle.run_evaluate.specs.Steps.{held_on, form_of, loneb, Ready, Leads};
 
-use rules::{Fault, Num};
+use rules::Fault;
 use rules_run::Worked;
 use rules_unit::{Form, Item, Op, Parts};
+use unit_decode::Coded;
 
 // ---- one item
 
@@ -28,66 +29,50 @@ pub enum Step {
         next: usize,
         value: i64,
     },
-    Done(Worked),
+    Done(Result<Worked, Fault>),
 }
 
 // What a passed check never lets arise.
 fn malformed() -> Step
-    ensures { result ≡ step.Done (worked.Failed fault.Malformed) }
+    ensures { result ≡ step.Done (Err fault.Malformed) }
 {
-    Step::Done(Worked::Failed(Fault::Malformed))
+    Step::Done(Err(Fault::Malformed))
 }
 
 // A value that an item makes is held; its fault is the expression's.
-fn held_on(kept: usize, next: usize, v: Num) -> Step
+fn held_on(kept: usize, next: usize, v: Result<i64, Fault>) -> Step
     ensures { result ≡ held_on kept next v }
 {
     match v {
-        Num::Value(value) => Step::Hold {
+        Ok(value) => Step::Hold {
             kept: kept,
             next: next,
             value: value,
         },
-        Num::Failed(e) => Step::Done(Worked::Failed(e)),
+        Err(e) => Step::Done(Err(e)),
     }
 }
 
 // The steps below are lent the same, since their contract is one: what an item has no use for is named for the contract alone.
 
 // 00: one value is left.
-fn end_step(
-    unit: &[u8],
-    parts: Parts,
-    bytes: &[u8],
-    es: &[u8],
-    i: usize,
-    n: usize,
-    held: &[i64; 17],
-) -> Step
-    requires ready { Ready unit.now parts bytes.now es.now i held.now }
+fn end_step(coded: &Coded, bytes: &[u8], es: &[u8], i: usize, n: usize, held: &[i64; 17]) -> Step
+    requires ready { Ready coded.now bytes.now es.now i held.now }
     requires i_value { item_at es.now i ≡ item.End }
-    ensures { Leads (code_of unit.now parts) bytes.now es.now i n held.now result }
+    ensures { Leads (code_in coded.now) bytes.now es.now i n held.now result }
 {
     if n == 1 {
         let only = held[0];
-        return Step::Done(Worked::Number(only));
+        return Step::Done(Ok(Worked::Number(only)));
     }
     malformed()
 }
 
 // A number literal.
-fn number_step(
-    unit: &[u8],
-    parts: Parts,
-    bytes: &[u8],
-    es: &[u8],
-    i: usize,
-    n: usize,
-    held: &[i64; 17],
-) -> Step
-    requires ready { Ready unit.now parts bytes.now es.now i held.now }
+fn number_step(coded: &Coded, bytes: &[u8], es: &[u8], i: usize, n: usize, held: &[i64; 17]) -> Step
+    requires ready { Ready coded.now bytes.now es.now i held.now }
     requires i_value { item_at es.now i ≡ number_at es.now i }
-    ensures { Leads (code_of unit.now parts) bytes.now es.now i n held.now result }
+    ensures { Leads (code_in coded.now) bytes.now es.now i n held.now result }
 {
     if es.len() - i <= 3 {
         return malformed();
@@ -97,22 +82,14 @@ fn number_step(
     }
     let place = unit_decode::word(es, i + 1);
     let len = unit_decode::wide(es[i + 3]);
-    held_on(n, i + 4, run_items::literal_number(unit, parts, place, len))
+    held_on(n, i + 4, run_items::literal_number(coded, place, len))
 }
 
 // A reference without bounds, a step of its own since most references are such.
-fn field_step(
-    unit: &[u8],
-    parts: Parts,
-    bytes: &[u8],
-    es: &[u8],
-    i: usize,
-    n: usize,
-    held: &[i64; 17],
-) -> Step
-    requires ready { Ready unit.now parts bytes.now es.now i held.now }
+fn field_step(coded: &Coded, bytes: &[u8], es: &[u8], i: usize, n: usize, held: &[i64; 17]) -> Step
+    requires ready { Ready coded.now bytes.now es.now i held.now }
     requires i_value { item_at es.now i ≡ reference_at es.now i form.First }
-    ensures { Leads (code_of unit.now parts) bytes.now es.now i n held.now result }
+    ensures { Leads (code_in coded.now) bytes.now es.now i n held.now result }
 {
     if es.len() - i <= 2 {
         return malformed();
@@ -120,20 +97,19 @@ fn field_step(
     let field = unit_decode::word(es, i + 1);
     if run_items::ends(es, i + 3) {
         if n == 0 {
-            return Step::Done(run_items::place_first(unit, parts, bytes, field));
+            return Step::Done(run_items::place_first(coded, bytes, field));
         }
         return malformed();
     }
     if MOST <= n {
         return malformed();
     }
-    held_on(n, i + 3, run_items::read_first(unit, parts, bytes, field))
+    held_on(n, i + 3, run_items::read_first(coded, bytes, field))
 }
 
 // A reference: a place where it is last, and read where it is not.
 fn reference_step(
-    unit: &[u8],
-    parts: Parts,
+    coded: &Coded,
     bytes: &[u8],
     es: &[u8],
     i: usize,
@@ -141,9 +117,9 @@ fn reference_step(
     held: &[i64; 17],
     form: Form,
 ) -> Step
-    requires ready { Ready unit.now parts bytes.now es.now i held.now }
+    requires ready { Ready coded.now bytes.now es.now i held.now }
     requires i_value { item_at es.now i ≡ reference_at es.now i form }
-    ensures { Leads (code_of unit.now parts) bytes.now es.now i n held.now result }
+    ensures { Leads (code_in coded.now) bytes.now es.now i n held.now result }
 {
     if es.len() - i <= 2 {
         return malformed();
@@ -152,7 +128,7 @@ fn reference_step(
     if run_items::ends(es, i + 3) {
         let x = held[0];
         let y = held[1];
-        return Step::Done(run_items::place_of(unit, parts, bytes, form, field, n, x, y));
+        return Step::Done(run_items::place_of(coded, bytes, form, field, n, x, y));
     }
     let taken = unit_decode::long(unit_decode::form_takes(form));
     if n < taken {
@@ -167,23 +143,15 @@ fn reference_step(
     held_on(
         m,
         i + 3,
-        run_items::read_reference(unit, parts, bytes, form, field, x, y),
+        run_items::read_reference(coded, bytes, form, field, x, y),
     )
 }
 
 // An alpha literal, which stands only last.
-fn text_step(
-    unit: &[u8],
-    parts: Parts,
-    bytes: &[u8],
-    es: &[u8],
-    i: usize,
-    n: usize,
-    held: &[i64; 17],
-) -> Step
-    requires ready { Ready unit.now parts bytes.now es.now i held.now }
+fn text_step(coded: &Coded, bytes: &[u8], es: &[u8], i: usize, n: usize, held: &[i64; 17]) -> Step
+    requires ready { Ready coded.now bytes.now es.now i held.now }
     requires i_value { item_at es.now i ≡ text_at es.now i }
-    ensures { Leads (code_of unit.now parts) bytes.now es.now i n held.now result }
+    ensures { Leads (code_in coded.now) bytes.now es.now i n held.now result }
 {
     if es.len() - i <= 4 {
         return malformed();
@@ -191,15 +159,14 @@ fn text_step(
     if run_items::ends(es, i + 5) {
         let place = unit_decode::word(es, i + 1);
         let len = unit_decode::word(es, i + 3);
-        return Step::Done(run_items::text_by(unit, parts, place, len, n));
+        return Step::Done(run_items::text_by(coded, place, len, n));
     }
     malformed()
 }
 
 // An operator.
 fn operator_step(
-    unit: &[u8],
-    parts: Parts,
+    coded: &Coded,
     bytes: &[u8],
     es: &[u8],
     i: usize,
@@ -207,9 +174,9 @@ fn operator_step(
     held: &[i64; 17],
     op: Op,
 ) -> Step
-    requires ready { Ready unit.now parts bytes.now es.now i held.now }
+    requires ready { Ready coded.now bytes.now es.now i held.now }
     requires i_value { item_at es.now i ≡ item.Operator op }
-    ensures { Leads (code_of unit.now parts) bytes.now es.now i n held.now result }
+    ensures { Leads (code_in coded.now) bytes.now es.now i n held.now result }
 {
     let taken = unit_decode::long(unit_decode::op_takes(op));
     if n < taken {
@@ -221,7 +188,11 @@ fn operator_step(
     }
     let x = held[m];
     let y = held[m + 1];
-    held_on(m, i + 1, run_items::calculate(parts.dialect.top, op, x, y))
+    held_on(
+        m,
+        i + 1,
+        run_items::calculate(coded.parts.dialect.top, op, x, y),
+    )
 }
 
 // The bounds of a reference by its code, 03 to 05.
@@ -237,8 +208,7 @@ fn form_of(code: u8) -> Form
 
 // A reference with bounds, an operator, or a code that is none.
 fn other_step(
-    unit: &[u8],
-    parts: Parts,
+    coded: &Coded,
     bytes: &[u8],
     es: &[u8],
     i: usize,
@@ -246,57 +216,48 @@ fn other_step(
     held: &[i64; 17],
     code: u8,
 ) -> Step
-    requires ready { Ready unit.now parts bytes.now es.now i held.now }
+    requires ready { Ready coded.now bytes.now es.now i held.now }
     requires i_value { item_at es.now i ≡ item_by es.now i code }
     requires lt_code { (2 < code) × (code ≡ 6 → ⊥) }
-    ensures { Leads (code_of unit.now parts) bytes.now es.now i n held.now result }
+    ensures { Leads (code_in coded.now) bytes.now es.now i n held.now result }
 {
     if code < 6 {
-        return reference_step(unit, parts, bytes, es, i, n, held, form_of(code));
+        return reference_step(coded, bytes, es, i, n, held, form_of(code));
     }
     let item = unit_decode::operator_at(es, i, code);
     if let Item::Operator(op) = item {
-        return operator_step(unit, parts, bytes, es, i, n, held, op);
+        return operator_step(coded, bytes, es, i, n, held, op);
     }
     malformed()
 }
 
 // The item at the offset i, with n values held: its code is looked at once.
-fn item_step(
-    unit: &[u8],
-    parts: Parts,
-    bytes: &[u8],
-    es: &[u8],
-    i: usize,
-    n: usize,
-    held: &[i64; 17],
-) -> Step
-    requires { Ready unit.now parts bytes.now es.now i held.now }
-    ensures { Leads (code_of unit.now parts) bytes.now es.now i n held.now result }
+fn item_step(coded: &Coded, bytes: &[u8], es: &[u8], i: usize, n: usize, held: &[i64; 17]) -> Step
+    requires { Ready coded.now bytes.now es.now i held.now }
+    ensures { Leads (code_in coded.now) bytes.now es.now i n held.now result }
 {
     let code = es[i];
     match code {
-        0x00 => end_step(unit, parts, bytes, es, i, n, held),
-        0x01 => number_step(unit, parts, bytes, es, i, n, held),
-        0x02 => field_step(unit, parts, bytes, es, i, n, held),
-        0x06 => text_step(unit, parts, bytes, es, i, n, held),
-        _ => other_step(unit, parts, bytes, es, i, n, held, code),
+        0x00 => end_step(coded, bytes, es, i, n, held),
+        0x01 => number_step(coded, bytes, es, i, n, held),
+        0x02 => field_step(coded, bytes, es, i, n, held),
+        0x06 => text_step(coded, bytes, es, i, n, held),
+        _ => other_step(coded, bytes, es, i, n, held, code),
     }
 }
 
 // What the expression at an offset of the expressions es comes to.
-fn worked_in(unit: &[u8], parts: Parts, bytes: &[u8], es: &[u8], at: usize) -> Worked
-    requires fills { Fills unit.now parts }
-    requires sound_dialect { SoundDialect parts.dialect }
+fn worked_in(coded: &Coded, bytes: &[u8], es: &[u8], at: usize) -> Result<Worked, Fault>
+    requires sound_dialect { SoundDialect coded.now.parts.dialect }
     requires bytes_len_bound { length bytes.now < 65536 }
-    ensures { result ≡ worked_of (code_of unit.now parts) bytes.now (items_at es.now at) }
+    ensures { result ≡ worked_of (code_in coded.now) bytes.now (items_at es.now at) }
 {
     // One more than is ever held, so that the second value of a pair has a place to be read from.
     let mut held = [0i64; 17];
     let mut n: usize = 0;
     let mut i = at;
     while i < es.len() {
-        match item_step(unit, parts, bytes, es, i, n, &held) {
+        match item_step(coded, bytes, es, i, n, &held) {
             Step::Hold { kept, next, value } => {
                 held[kept] = value;
                 n = kept + 1;
@@ -305,19 +266,16 @@ fn worked_in(unit: &[u8], parts: Parts, bytes: &[u8], es: &[u8], at: usize) -> W
             Step::Done(w) => return w,
         }
     }
-    Worked::Failed(Fault::Malformed)
+    Err(Fault::Malformed)
 }
 
 // What the expression at an offset comes to.
-pub fn worked(unit: &[u8], parts: Parts, bytes: &[u8], e: u16) -> Worked
-    requires fills { Fills unit.now parts }
-    requires sound_dialect { SoundDialect parts.dialect }
+pub fn worked(coded: &Coded, bytes: &[u8], e: u16) -> Result<Worked, Fault>
+    requires sound_dialect { SoundDialect coded.now.parts.dialect }
     requires bytes_len_bound { length bytes.now < 65536 }
-    ensures { result ≡ worked_of (code_of unit.now parts) bytes.now ((code_of unit.now parts).items e) }
+    ensures { result ≡ worked_of (code_in coded.now) bytes.now ((code_in coded.now).items e) }
 {
-    let start = unit_decode::expressions_offset(parts);
-    let end = unit_decode::literals_offset(parts);
-    worked_in(unit, parts, bytes, &unit[start..end], unit_decode::long(e))
+    worked_in(coded, bytes, coded.expressions(), unit_decode::long(e))
 }
 
 // Whether an expression is a reference without bounds alone.
@@ -334,30 +292,33 @@ fn lone(es: &[u8], at: usize) -> bool
 }
 
 // What the expression of a place comes to. Most places are a field alone, which takes no loop.
-pub fn place(unit: &[u8], parts: Parts, bytes: &[u8], e: u16) -> Worked
-    requires fills { Fills unit.now parts }
-    requires sound_dialect { SoundDialect parts.dialect }
+pub fn place(coded: &Coded, bytes: &[u8], e: u16) -> Result<Worked, Fault>
+    requires sound_dialect { SoundDialect coded.now.parts.dialect }
     requires bytes_len_bound { length bytes.now < 65536 }
-    ensures { result ≡ worked_of (code_of unit.now parts) bytes.now ((code_of unit.now parts).items e) }
+    ensures { result ≡ worked_of (code_in coded.now) bytes.now ((code_in coded.now).items e) }
 {
-    let start = unit_decode::expressions_offset(parts);
-    let end = unit_decode::literals_offset(parts);
+    let es = coded.expressions();
     let at = unit_decode::long(e);
-    if lone(&unit[start..end], at) {
-        let field = unit_decode::word(&unit[start..end], at + 1);
-        return run_items::place_first(unit, parts, bytes, field);
+    if lone(es, at) {
+        let field = unit_decode::word(es, at + 1);
+        return run_items::place_first(coded, bytes, field);
     }
-    worked(unit, parts, bytes, e)
+    worked(coded, bytes, e)
 }
 
 // The number that an expression comes to: a decimal place is read. The unit is named for the contract alone.
-pub fn number_of(unit: &[u8], parts: Parts, bytes: &[u8], w: Worked) -> Num
+pub fn number_of(
+    unit: &[u8],
+    parts: Parts,
+    bytes: &[u8],
+    w: Result<Worked, Fault>,
+) -> Result<i64, Fault>
     requires sound_dialect { SoundDialect parts.dialect }
     requires within { Within (code_of unit.now parts) (length bytes.now) w }
     ensures { result ≡ number_of (code_of unit.now parts) bytes.now w }
 {
-    match w {
-        Worked::Number(v) => Num::Value(v),
+    match w? {
+        Worked::Number(v) => Ok(v),
         Worked::Place {
             decimal,
             start,
@@ -366,21 +327,19 @@ pub fn number_of(unit: &[u8], parts: Parts, bytes: &[u8], w: Worked) -> Num
             if decimal {
                 return run_items::read_at(parts, bytes, start, len);
             }
-            Num::Failed(Fault::Malformed)
+            Err(Fault::Malformed)
         }
-        Worked::Text { place: _, len: _ } => Num::Failed(Fault::Malformed),
-        Worked::Failed(e) => Num::Failed(e),
+        Worked::Text { place: _, len: _ } => Err(Fault::Malformed),
     }
 }
 
 // The number that the expression at an offset comes to. Those who work out one number among several call it, so that the compiler leaves it out of the
 // loop of the run; the jumps on a number, which are worked out more often, have their own.
-pub fn value_at(unit: &[u8], parts: Parts, bytes: &[u8], e: u16) -> Num
-    requires fills { Fills unit.now parts }
-    requires sound_dialect { SoundDialect parts.dialect }
+pub fn value_at(coded: &Coded, bytes: &[u8], e: u16) -> Result<i64, Fault>
+    requires sound_dialect { SoundDialect coded.now.parts.dialect }
     requires bytes_len_bound { length bytes.now < 65536 }
-    ensures { result ≡ value_at (code_of unit.now parts) bytes.now e }
+    ensures { result ≡ value_at (code_in coded.now) bytes.now e }
 {
-    let w = worked(unit, parts, bytes, e);
-    number_of(unit, parts, bytes, w)
+    let w = worked(coded, bytes, e);
+    number_of(coded.unit, coded.parts, bytes, w)
 }

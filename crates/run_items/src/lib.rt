@@ -2,23 +2,25 @@
 // tested again and answered Malformed.
 #![tactic(auto)]
 
-ghost use Rattle.std.specs.Prelude.{◌≡◌, true, false, cond, ◌+◌, ◌^◌, ◌<◌, ◌≤◌, ltb, eqb, pos, length, get_or, take, drop};
+ghost use Rattle.std.specs.Prelude.{◌≡◌, true, false, cond, ◌+◌, ◌^◌, ◌<◌, ◌≤◌, ltb, eqb, pos, length, get_or, take, drop, Err, Ok};
+ghost use Rattle.unit_decode.specs.Units.{code_in};
 ghost use Rattle.rules.specs.declared.Fault.TheVariants as fault;
 ghost use Rattle.rules.specs.Tests.{◌and◌};
 ghost use Rattle.rules.specs.Values.{Val, Top, read_of};
 ghost use Rattle.rules_unit.specs.declared.Form.TheVariants as form;
-ghost use Rattle.rules_unit.specs.Decode.{Fills, SoundDialect, code_of};
+ghost use Rattle.rules_unit.specs.Decode.{SoundDialect};
 ghost use Rattle.rules_unit.specs.Expressions.{form_takes, textb};
 ghost use Rattle.rules_run.specs.declared.Worked.TheVariants as worked;
 ghost use Rattle.rules_run.specs.Evaluation.{calc, literal_number, reference, place_by};
 ghost use Rattle.run_items.specs.Digits.{plain_from};
 
-use rules::{Fault, Num};
-use rules_run::{Span, Worked};
+use rules::Fault;
+use rules_run::Worked;
 use rules_unit::{Form, Op, Parts};
+use unit_decode::Coded;
 
 // The number that plain digits make; Malformed where a character is none.
-fn plain_number(s: &[u8]) -> Num
+fn plain_number(s: &[u8]) -> Result<i64, Fault>
     requires { length s.now ≤ 18 }
     ensures { result ≡ plain_from 0 s.now }
 {
@@ -27,42 +29,41 @@ fn plain_number(s: &[u8]) -> Num
     while i < s.len() {
         let b = number::of_byte(s[i]);
         if b < 48 {
-            return Num::Failed(Fault::Malformed);
+            return Err(Fault::Malformed);
         }
         if 57 < b {
-            return Num::Failed(Fault::Malformed);
+            return Err(Fault::Malformed);
         }
         acc = acc * 10 + (b - 48);
         i += 1;
     }
-    Num::Value(number::with_sign(false, acc))
+    Ok(number::with_sign(false, acc))
 }
 
 // A number literal's value.
-pub fn literal_number(unit: &[u8], parts: Parts, place: u16, len: u16) -> Num
-    requires fills { Fills unit.now parts }
-    requires sound_dialect { SoundDialect parts.dialect }
-    ensures { result ≡ literal_number (code_of unit.now parts) place len }
+pub fn literal_number(coded: &Coded, place: u16, len: u16) -> Result<i64, Fault>
+    requires { SoundDialect coded.now.parts.dialect }
+    ensures { result ≡ literal_number (code_in coded.now) place len }
 {
     if len < 1 {
-        return Num::Failed(Fault::Malformed);
+        return Err(Fault::Malformed);
     }
-    if parts.dialect.limit < len {
-        return Num::Failed(Fault::Malformed);
+    if coded.parts.dialect.limit < len {
+        return Err(Fault::Malformed);
     }
     let from = unit_decode::long(place);
     let n = unit_decode::long(len);
-    let most = unit_decode::long(parts.p);
+    let most = unit_decode::long(coded.parts.p);
     if most < from + n {
-        return Num::Failed(Fault::Malformed);
+        return Err(Fault::Malformed);
     }
-    let start = unit_decode::literals_offset(parts) + from;
+    let start = unit_decode::literals_offset(coded.parts) + from;
     let end = start + n;
-    plain_number(&unit[start..end])
+    plain_number(&coded.unit[start..end])
 }
 
 // The number at len bytes of the data: the part that starts at the span's place is handed to the digit reader.
-pub fn read_at(parts: Parts, bytes: &[u8], start: usize, len: usize) -> Num
+pub fn read_at(parts: Parts, bytes: &[u8], start: usize, len: usize) -> Result<i64, Fault>
     requires sound_dialect { SoundDialect parts.dialect }
     requires len_in_bounds { start + len ≤ length bytes.now }
     ensures { result ≡ read_of parts.dialect.limit parts.dialect.sign (take len (drop start bytes.now)) }
@@ -77,58 +78,55 @@ pub fn read_at(parts: Parts, bytes: &[u8], start: usize, len: usize) -> Num
 
 // A reference that is not last: found, and read where it stands.
 pub fn read_reference(
-    unit: &[u8],
-    parts: Parts,
+    coded: &Coded,
     bytes: &[u8],
     form: Form,
     field: u16,
     x: i64,
     y: i64,
-) -> Num
-    requires fills { Fills unit.now parts }
-    requires sound_dialect { SoundDialect parts.dialect }
+) -> Result<i64, Fault>
+    requires sound_dialect { SoundDialect coded.now.parts.dialect }
     requires bytes_len_bound { length bytes.now < 65536 }
     requires val { Val (10 ^ 18) x }
     requires val_2 { Val (10 ^ 18) y }
-    ensures { result ≡ reference (code_of unit.now parts) bytes.now form field x y }
+    ensures { result ≡ reference (code_in coded.now) bytes.now form field x y }
 {
-    if parts.f <= field {
-        return Num::Failed(Fault::Malformed);
+    if coded.parts.f <= field {
+        return Err(Fault::Malformed);
     }
-    let entry = unit_decode::field(unit, parts, field);
+    let entry = coded.field(field);
     let kind = entry.kind;
     if !unit_decode::is_decimal(kind) {
-        return Num::Failed(Fault::Malformed);
+        return Err(Fault::Malformed);
     }
     let rule = run_spans::rule_of(entry);
     match run_spans::span_by(rule, bytes.len(), entry, form, x, y) {
-        Span::At { start, len } => read_at(parts, bytes, start, len),
-        Span::Outside => Num::Failed(Fault::Outside),
+        Some(span) => read_at(coded.parts, bytes, span.start, span.len),
+        None => Err(Fault::Outside),
     }
 }
 
 // A reference without bounds that is not last.
-pub fn read_first(unit: &[u8], parts: Parts, bytes: &[u8], field: u16) -> Num
-    requires fills { Fills unit.now parts }
-    requires sound_dialect { SoundDialect parts.dialect }
-    ensures { result ≡ reference (code_of unit.now parts) bytes.now form.First field (pos 0) (pos 0) }
+pub fn read_first(coded: &Coded, bytes: &[u8], field: u16) -> Result<i64, Fault>
+    requires { SoundDialect coded.now.parts.dialect }
+    ensures { result ≡ reference (code_in coded.now) bytes.now form.First field (pos 0) (pos 0) }
 {
-    if parts.f <= field {
-        return Num::Failed(Fault::Malformed);
+    if coded.parts.f <= field {
+        return Err(Fault::Malformed);
     }
-    let entry = unit_decode::field(unit, parts, field);
+    let entry = coded.field(field);
     let kind = entry.kind;
     if !unit_decode::is_decimal(kind) {
-        return Num::Failed(Fault::Malformed);
+        return Err(Fault::Malformed);
     }
     match run_spans::first_span(bytes.len(), entry) {
-        Span::At { start, len } => read_at(parts, bytes, start, len),
-        Span::Outside => Num::Failed(Fault::Outside),
+        Some(span) => read_at(coded.parts, bytes, span.start, span.len),
+        None => Err(Fault::Outside),
     }
 }
 
 // An operator on two values; negate and NOT take the first alone.
-pub fn calculate(top: u64, op: Op, x: i64, y: i64) -> Num
+pub fn calculate(top: u64, op: Op, x: i64, y: i64) -> Result<i64, Fault>
     requires top { Top top }
     requires val { Val (10 ^ 18) x }
     requires val_2 { Val (10 ^ 18) y }
@@ -140,128 +138,122 @@ pub fn calculate(top: u64, op: Op, x: i64, y: i64) -> Num
         Op::Multiply => number::multiply(top, x, y),
         Op::Divide => number::divide(x, y),
         Op::Round => number::round(x, y),
-        Op::Negate => Num::Value(number::negate(x)),
-        Op::Eq => Num::Value(number::equal(x, y)),
-        Op::Ne => Num::Value(number::differ(x, y)),
-        Op::Gt => Num::Value(number::greater(x, y)),
-        Op::Lt => Num::Value(number::less(x, y)),
-        Op::Ge => Num::Value(number::at_least(x, y)),
-        Op::Le => Num::Value(number::at_most(x, y)),
-        Op::Not => Num::Value(number::not_of(x)),
-        Op::And => Num::Value(number::and_of(x, y)),
-        Op::Or => Num::Value(number::or_of(x, y)),
-        Op::Xor => Num::Value(number::xor_of(x, y)),
+        Op::Negate => Ok(number::negate(x)),
+        Op::Eq => Ok(number::equal(x, y)),
+        Op::Ne => Ok(number::differ(x, y)),
+        Op::Gt => Ok(number::greater(x, y)),
+        Op::Lt => Ok(number::less(x, y)),
+        Op::Ge => Ok(number::at_least(x, y)),
+        Op::Le => Ok(number::at_most(x, y)),
+        Op::Not => Ok(number::not_of(x)),
+        Op::And => Ok(number::and_of(x, y)),
+        Op::Or => Ok(number::or_of(x, y)),
+        Op::Xor => Ok(number::xor_of(x, y)),
     }
 }
 
 // The place of a span that was found.
-fn place_at(most: usize, decimal: bool, start: usize, len: usize) -> Worked
-    ensures { result ≡ cond decimal (cond (ltb most len) (worked.Failed fault.TooLong) (worked.Place true start len)) (worked.Place false start len) }
+fn place_at(most: usize, decimal: bool, start: usize, len: usize) -> Result<Worked, Fault>
+    ensures { result ≡ cond decimal (cond (ltb most len) (Err fault.TooLong) (Ok (worked.Place true start len))) (Ok (worked.Place false start len)) }
 {
     if !decimal {
-        return Worked::Place {
+        return Ok(Worked::Place {
             decimal: false,
             start: start,
             len: len,
-        };
+        });
     }
     if most < len {
-        return Worked::Failed(Fault::TooLong);
+        return Err(Fault::TooLong);
     }
-    Worked::Place {
+    Ok(Worked::Place {
         decimal: true,
         start: start,
         len: len,
-    }
+    })
 }
 
 // A last reference: found, and not read. A decimal span over the digit limit is 20 all the same.
 fn place_by(
-    unit: &[u8],
-    parts: Parts,
+    coded: &Coded,
     bytes: &[u8],
     form: Form,
     field: u16,
     x: i64,
     y: i64,
-) -> Worked
-    requires fills { Fills unit.now parts }
+) -> Result<Worked, Fault>
     requires bytes_len_bound { length bytes.now < 65536 }
     requires val { Val (10 ^ 18) x }
     requires val_2 { Val (10 ^ 18) y }
-    ensures { result ≡ place_by (code_of unit.now parts) bytes.now form field x y }
+    ensures { result ≡ place_by (code_in coded.now) bytes.now form field x y }
 {
-    if parts.f <= field {
-        return Worked::Failed(Fault::Malformed);
+    if coded.parts.f <= field {
+        return Err(Fault::Malformed);
     }
-    let entry = unit_decode::field(unit, parts, field);
+    let entry = coded.field(field);
     let kind = entry.kind;
     let decimal = unit_decode::is_decimal(kind);
-    let most = unit_decode::long(parts.dialect.limit);
+    let most = unit_decode::long(coded.parts.dialect.limit);
     let rule = run_spans::rule_of(entry);
     match run_spans::span_by(rule, bytes.len(), entry, form, x, y) {
-        Span::At { start, len } => place_at(most, decimal, start, len),
-        Span::Outside => Worked::Failed(Fault::Outside),
+        Some(span) => place_at(most, decimal, span.start, span.len),
+        None => Err(Fault::Outside),
     }
 }
 
 // A last reference without bounds.
-pub fn place_first(unit: &[u8], parts: Parts, bytes: &[u8], field: u16) -> Worked
-    requires { Fills unit.now parts }
-    ensures { result ≡ place_by (code_of unit.now parts) bytes.now form.First field (pos 0) (pos 0) }
+pub fn place_first(coded: &Coded, bytes: &[u8], field: u16) -> Result<Worked, Fault>
+    ensures { result ≡ place_by (code_in coded.now) bytes.now form.First field (pos 0) (pos 0) }
 {
-    if parts.f <= field {
-        return Worked::Failed(Fault::Malformed);
+    if coded.parts.f <= field {
+        return Err(Fault::Malformed);
     }
-    let entry = unit_decode::field(unit, parts, field);
+    let entry = coded.field(field);
     let kind = entry.kind;
     let decimal = unit_decode::is_decimal(kind);
-    let most = unit_decode::long(parts.dialect.limit);
+    let most = unit_decode::long(coded.parts.dialect.limit);
     match run_spans::first_span(bytes.len(), entry) {
-        Span::At { start, len } => place_at(most, decimal, start, len),
-        Span::Outside => Worked::Failed(Fault::Outside),
+        Some(span) => place_at(most, decimal, span.start, span.len),
+        None => Err(Fault::Outside),
     }
 }
 
 // A last reference takes all n values that are held as its bounds: x, which was held first, and y.
 pub fn place_of(
-    unit: &[u8],
-    parts: Parts,
+    coded: &Coded,
     bytes: &[u8],
     form: Form,
     field: u16,
     n: usize,
     x: i64,
     y: i64,
-) -> Worked
-    requires fills { Fills unit.now parts }
+) -> Result<Worked, Fault>
     requires bytes_len_bound { length bytes.now < 65536 }
     requires val { Val (10 ^ 18) x }
     requires val_2 { Val (10 ^ 18) y }
-    ensures { result ≡ cond (eqb n (form_takes form)) (place_by (code_of unit.now parts) bytes.now form field x y) (worked.Failed fault.Malformed) }
+    ensures { result ≡ cond (eqb n (form_takes form)) (place_by (code_in coded.now) bytes.now form field x y) (Err fault.Malformed) }
 {
     let taken = unit_decode::long(unit_decode::form_takes(form));
     if n == taken {
-        return place_by(unit, parts, bytes, form, field, x, y);
+        return place_by(coded, bytes, form, field, x, y);
     }
-    Worked::Failed(Fault::Malformed)
+    Err(Fault::Malformed)
 }
 
 // A last alpha literal, which stands alone: no values are held.
-pub fn text_by(unit: &[u8], parts: Parts, place: u16, len: u16, n: usize) -> Worked
-    requires { Fills unit.now parts }
-    ensures { result ≡ cond (eqb n 0) (cond (textb (code_of unit.now parts) place len) (worked.Text place len) (worked.Failed fault.Malformed)) (worked.Failed fault.Malformed) }
+pub fn text_by(coded: &Coded, place: u16, len: u16, n: usize) -> Result<Worked, Fault>
+    ensures { result ≡ cond (eqb n 0) (cond (textb (code_in coded.now) place len) (Ok (worked.Text place len)) (Err fault.Malformed)) (Err fault.Malformed) }
 {
     if n != 0 {
-        return Worked::Failed(Fault::Malformed);
+        return Err(Fault::Malformed);
     }
-    if unit_sorts::text_good(unit, parts, place, len) {
-        return Worked::Text {
+    if unit_sorts::text_good(coded, place, len) {
+        return Ok(Worked::Text {
             place: place,
             len: len,
-        };
+        });
     }
-    Worked::Failed(Fault::Malformed)
+    Err(Fault::Malformed)
 }
 
 // Whether the expression ends at an offset: 00 stands there.

@@ -1,6 +1,7 @@
 -- The turns of a stretch of a run, for its loop: one law for each way out of a turn and one for the way on, with what the code knows there as premises.
 -- What is left of the run from here comes to what the whole run comes to, and a turn keeps it so.
 -- Assumes nothing.
+use Rattle.std.specs.Prelude.{Result, Err, Ok, Option}
 use Prim.Native.Nat.{ℕ, suc, ◌+◌, ◌-◌, ◌<◌, ◌≤◌}
 use native.Mathlib.Numerals.{add-one}
 use native.Mathlib.Omega.{arith}
@@ -10,14 +11,12 @@ use lib.IntN.{ℤ}
 use lib.ListN.{length}
 use Rattle.rules.specs.declared.Fault.{Fault}
 use Rattle.rules_unit.specs.declared.Parts.{Parts}
-use Rattle.rules_unit.specs.declared.Checked.TheVariants as checked
 use Rattle.rules_unit.specs.Codes.{Code}
 use Rattle.rules_unit.specs.Decode.{code_of}
 use Rattle.rules_unit.specs.Checks.{check_of}
 use Rattle.rules_unit.specs.Sound.{SoundCode}
 use Rattle.rules_unit.proofs.Sound.{passed_sound, passed_fills}
 use Rattle.rules_run.specs.declared.Flow.TheVariants as flow
-use Rattle.rules_run.specs.declared.Handler.{Handler}
 use Rattle.rules_run.specs.declared.Look.{Look}
 use Rattle.rules_run.specs.declared.State.{State}
 use Rattle.rules_run.specs.declared.Turn.{Turn}
@@ -27,35 +26,34 @@ use Rattle.rules_run.specs.declared.Outcome.{Outcome}
 use Rattle.rules_run.specs.States.{Sound, gone, called, returned, entered, closed, armed, unhandled, look_of, LookSound}
 use Rattle.rules_run.specs.Turns.{Room, applied, turn_of}
 use Rattle.rules_run.specs.Stops.{stop_place}
-use Rattle.rules_run.specs.Runs.{Ran, Moved, moved_by, to, run_from}
+use Rattle.rules_run.specs.Runs.{Ran, to, data_by, next_of, data_after, run_from}
 use Rattle.rules_run.specs.Answers.{GivesHere}
 use Rattle.rules_run.proofs.Lengths.{passed_dialect}
 use Rattle.rules_run.proofs.Outside.{applied_length}
-use Rattle.rules_run.proofs.Room.{turn_room}
-use Rattle.rules_run.proofs.SoundRuns.{FlowSound, flow_sound, step_sound, passed_in}
+use Rattle.rules_run.proofs.Room.{TurnRoom, turn_room}
+use Rattle.rules_run.proofs.SoundRuns.{FlowSound, TurnSound, flow_sound, step_sound, passed_in}
 use Rattle.rules_run.proofs.States.{look_sound}
 use Rattle.rules_run.proofs.Steps.{halted, run_goes}
 use Rattle.rules_run.proofs.Traps.{error_stops}
 use Rattle.run_loop.specs.Flows.{turn_under}
 use Rattle.run_loop.specs.Stretches.{EndsFor, Stretched}
-use Rattle.run_loop.proofs.Flows.{led, led_as, to_as, entered_as, under_moves, under_write, under_either, call_free, return_free}
+use Rattle.run_loop.proofs.Flows.{led, led_under, led_as, entered_as, under_moves, under_own, call_free, return_free}
 
 -- ---- a unit that passed its check
 
-module _ (u : List ℕ) (p : Parts) (e : check_of u ≡ checked.Passed p) where
+module _ (u : List ℕ) (p : Parts) (e : check_of u ≡ Ok p) where
   pub passed_code : SoundCode (code_of u p)
   passed_code = (passed_sound u p e).code
 
   pub passed_place : (i : ℕ) → i < p.n → i < 65535
   passed_place i h = omega (arith, (passed_sound u p e).ranges.n_most)
 
-  -- A turn's store has room, and keeps the data's length.
-  module _ (l : Look) (i depth : ℕ) (d : List ℕ) (t : Turn) (w : t ≡ turn_under depth (turn_of (code_of u p) l i d)) where
+  -- A turn's store has room, and keeps the data's length; r is what was answered, and t the turn that it is.
+  module _ (l : Look) (i depth : ℕ) (d : List ℕ) (r : Result Turn Fault) (t : Turn) (w : r ≡ turn_under depth (turn_of (code_of u p) l i d)) (o : r ≡ Ok t) where
     pub passed_room : Room (code_of u p) (length d) t.write
     passed_room =
-        subst (λ (x : Turn). Room (code_of u p) (length d) x.write) (sym w)
-        (under_either (λ (x : Turn). Room (code_of u p) (length d) x.write) depth (turn_of (code_of u p) l i d) (λ e. tt)
-        (turn_room (code_of u p) d (passed_dialect u p e).limit (passed_dialect u p e).bound l i))
+        subst (TurnRoom (code_of u p) (length d)) (under_own depth (turn_of (code_of u p) l i d) t (sym w ∙ o))
+        (turn_room (code_of u p) d (passed_dialect u p e).limit (passed_dialect u p e).bound l i)
 
     pub passed_applied : (d' : List ℕ) (n : ℕ) → length d ≡ n → d' ≡ applied (code_of u p) d t.write → length d' ≡ n
     passed_applied d' n l f = rw f (applied_length (code_of u p) d t.write passed_room ∙ l)
@@ -67,42 +65,43 @@ look_known c s l t e = rw e (look_sound t)
 -- What `run_statement::work` and `run_stores::store` ask of the unit and of the state.
 pub ruleset passed_laws = (passed_fills, passed_dialect, passed_code, passed_room, look_known)
 
--- ---- a turn; l is what its statement saw
+-- ---- a turn; l is what its statement saw, r what was answered, and t the turn that it is
 
-module _ (u : List ℕ) (p : Parts) (s : State) (l : Look) (seen : l ≡ look_of s) (d : List ℕ) (t : Turn) (low : s.at < p.n)
-    (worked : t ≡ turn_under s.depth (turn_of (code_of u p) l s.at d)) where
-  comes : t ≡ turn_under s.depth (turn_of (code_of u p) (look_of s) s.at d)
-  comes = rw (← seen) worked
+module _ (u : List ℕ) (p : Parts) (s : State) (l : Look) (seen : l ≡ look_of s) (d : List ℕ) (r : Result Turn Fault) (t : Turn) (low : s.at < p.n)
+    (worked : r ≡ turn_under s.depth (turn_of (code_of u p) l s.at d)) (is : r ≡ Ok t) where
+  comes : turn_under s.depth (turn_of (code_of u p) (look_of s) s.at d) ≡ Ok t
+  comes = rw (← seen) (sym worked ∙ is)
 
-  moves : (x : Moved) → x ≡ led p.n s t.flow → moved_by p.n s (turn_of (code_of u p) (look_of s) s.at d).flow ≡ x
-  moves x e = under_moves p.n s (turn_of (code_of u p) (look_of s) s.at d) ∙ (rw (← comes) (sym e))
+  own : turn_of (code_of u p) (look_of s) s.at d ≡ Ok t
+  own = under_own s.depth (turn_of (code_of u p) (look_of s) s.at d) t comes
+
+  moves : (s' : State) → s' ≡ led p.n s t.flow → next_of (code_of u p) s d ≡ to s'
+  moves s' f = under_moves p.n s (turn_of (code_of u p) (look_of s) s.at d) ∙ ap (led_under p.n s) comes ∙ ap to (sym f)
 
   module _ (m k : ℕ) (z : Ran) (rest : run_from (code_of u p) m s d k ≡ z) (some : m ≡ 0 → ⊥) where
     one_less : m ≡ suc (m - 1)
     one_less = omega arith
 
-    pub turn_goes : (s' : State) (d' : List ℕ) → to s' ≡ led p.n s t.flow → d' ≡ applied (code_of u p) d t.write
+    pub turn_goes : (s' : State) (d' : List ℕ) → s' ≡ led p.n s t.flow → d' ≡ applied (code_of u p) d t.write
         → run_from (code_of u p) (m - 1) s' d' (k + 1) ≡ z
     turn_goes s' d' f g =
-        let w : t.write ≡ (turn_of (code_of u p) (look_of s) s.at d).write =
-        ap (λ (x : Turn). x.write) comes ∙ under_write p.n s (turn_of (code_of u p) (look_of s) s.at d) s' (rw (← comes) (sym f)) in
-        rw (add-one k, g, w) (sym (run_goes (code_of u p) s d k (m - 1) s' low (moves (to s') f)) ∙ (rw one_less at rest))
+        let w : data_after (code_of u p) s d ≡ d' = ap (data_by (code_of u p) d) own ∙ sym g in
+        rw (add-one k, ← w) (sym (run_goes (code_of u p) s d k (m - 1) s' low (moves s' f)) ∙ (rw one_less at rest))
 
   -- ---- the state that it leads to
 
   -- A CALL that is followed finds room, and a RETURN an open call.
   pub turn_call : (i : ℕ) → t.flow ≡ flow.Call i → s.depth < 50
-  turn_call i h = call_free s.depth (turn_of (code_of u p) l s.at d) i (rw (← worked) h)
+  turn_call i h = call_free s.depth (turn_of (code_of u p) l s.at d) t (sym worked ∙ is) i h
 
   pub turn_return : t.flow ≡ flow.Return → 0 < s.depth
-  turn_return h = return_free s.depth (turn_of (code_of u p) l s.at d) (rw (← worked) h)
+  turn_return h = return_free s.depth (turn_of (code_of u p) l s.at d) t (sym worked ∙ is) h
 
-  module _ (e : check_of u ≡ checked.Passed p) (sound : Sound (code_of u p) s) where
+  module _ (e : check_of u ≡ Ok p) (sound : Sound (code_of u p) s) where
     flows : FlowSound (code_of u p) (look_of s) s.at t.flow
     flows =
-        subst (λ (x : Turn). FlowSound (code_of u p) (look_of s) s.at x.flow) (sym comes)
-        (under_either (λ (x : Turn). FlowSound (code_of u p) (look_of s) s.at x.flow) s.depth (turn_of (code_of u p) (look_of s) s.at d) (λ f. tt)
-        (flow_sound (code_of u p) (passed_in u p e) (passed_code u p e) (look_of s) (look_sound sound) s.at low d))
+        subst (TurnSound (code_of u p) (look_of s) s.at) own
+        (flow_sound (code_of u p) (passed_in u p e) (passed_code u p e) (look_of s) (look_sound sound) s.at low d)
 
     -- So does a FOR that opens a loop, and what closes one finds it open.
     pub turn_enter : (limit step : ℤ) → t.flow ≡ flow.Enter limit step → s.opened < 16
@@ -112,8 +111,8 @@ module _ (u : List ℕ) (p : Parts) (s : State) (l : Look) (seen : l ≡ look_of
     turn_leave i h = (subst (FlowSound (code_of u p) (look_of s) s.at) h flows).0
 
     -- The next state is sound.
-    pub turn_sound : (s' : State) → to s' ≡ led p.n s t.flow → Sound (code_of u p) s'
-    turn_sound s' f = step_sound (code_of u p) (passed_in u p e) (passed_code u p e) d sound low (moves (to s') f)
+    pub turn_sound : (s' : State) → s' ≡ led p.n s t.flow → Sound (code_of u p) s'
+    turn_sound s' f = step_sound (code_of u p) (passed_in u p e) (passed_code u p e) d sound low (moves s' f)
 
 -- ---- the ways out: the whole began with j completed statements, in the state x, over the data y
 
@@ -129,25 +128,24 @@ module _ (u : List ℕ) (p : Parts) (s : State) (d : List ℕ) (m k a j : ℕ) (
   pub turn_spent : (r : Outcome) → r ≡ halted stop.Spent s.at k s → s.at < p.n → m ≡ 0 → Stretched (code_of u p) a j x y r d
   turn_spent r q h e = out stop.Spent s.at r q (h, e) refl
 
-  pub turn_fails : (r : Outcome) (f : Fault) (l : Look) (t : Turn) → r ≡ halted (stop.Failed f) s.at k s → s.at < p.n → (m ≡ 0 → ⊥) → l ≡ look_of s
+  pub turn_fails : (r : Outcome) (f : Fault) (l : Look) (t : Result Turn Fault) → r ≡ halted (stop.Failed f) s.at k s → s.at < p.n → (m ≡ 0 → ⊥) → l ≡ look_of s
       → t ≡ turn_under s.depth (turn_of (code_of u p) l s.at d)
-      → t.flow ≡ flow.Bad f
+      → t ≡ Err f
       → Stretched (code_of u p) a j x y r d
   turn_fails r f l t q h some seen worked e =
       let v = turn_of (code_of u p) (look_of s) s.at d in
-      let o : t ≡ turn_under s.depth v = rw (← seen) worked in
-      let w : (turn_under s.depth v).flow ≡ flow.Bad f = ap (λ (i : Turn). i.flow) (sym o) ∙ e in
-      let g : GivesHere (code_of u p) s d f = under_moves p.n (unhandled s) v ∙ ap (led p.n (unhandled s)) w ∙ error_stops s f in
+      let w : turn_under s.depth v ≡ Err f = rw (← seen) (sym worked ∙ e) in
+      let g : GivesHere (code_of u p) s d f = under_moves p.n (unhandled s) v ∙ ap (led_under p.n (unhandled s)) w ∙ error_stops s f in
       out (stop.Failed f) s.at r q (h, omega arith, g) refl
 
 -- The three ways out.
 pub ruleset turn_ways = (turn_ends, turn_spent, turn_fails)
 
 -- The way on.
-pub ruleset turn_on = (turn_goes, led_as, to_as, entered_as)
+pub ruleset turn_on = (turn_goes, led_as, entered_as)
 
 -- The state there.
-pub ruleset turn_sounds = (turn_sound, led_as, to_as, entered_as)
+pub ruleset turn_sounds = (turn_sound, led_as, entered_as)
 
 -- ---- what the next statement sees
 
@@ -161,7 +159,7 @@ module _ (s s' : State) (l : Look) (seen : l ≡ look_of s) where
   pub returned_seen : s' ≡ returned s → l ≡ look_of s'
   returned_seen e = rw e seen
 
-  pub armed_seen : (h : Handler) → s' ≡ armed s h → l ≡ look_of s'
+  pub armed_seen : (h : Option ℕ) → s' ≡ armed s h → l ≡ look_of s'
   armed_seen h e = rw e seen
 
 pub ruleset still_seen = (gone_seen, called_seen, returned_seen, armed_seen)

@@ -1,5 +1,6 @@
 -- Stretch after stretch of a run: what ends one stops the run, or is an error that is trapped; one law for each way out of the code.
 -- Assumes nothing.
+use Rattle.std.specs.Prelude.{Option, None, Some}
 use Prim.Native.Nat.{ℕ, suc, ◌+◌, ◌-◌, ◌<◌, ◌≤◌}
 use native.Mathlib.Numerals.{add-one}
 use native.Mathlib.Omega.{arith}
@@ -11,8 +12,6 @@ use Rattle.rules.specs.declared.Fault.{Fault}
 use Rattle.rules.specs.Stops.{fault_number, trappedb, Trappable}
 use Rattle.rules.proofs.Five.{trapped_to, trapped_of}
 use Rattle.rules_unit.specs.Codes.{Code}
-use Rattle.rules_run.specs.declared.Handler.{Handler}
-use Rattle.rules_run.specs.declared.Handler.TheVariants as handler
 use Rattle.rules_run.specs.declared.Outcome.{Outcome}
 use Rattle.rules_run.specs.declared.State.{State}
 use Rattle.rules_run.specs.declared.Stop.{Stop}
@@ -36,37 +35,37 @@ same_way : {n i m j : ℕ} → after.Goes n i ≡ after.Goes m j → (n ≡ m) �
 same_way q = (cc, cc)
 
 -- Where the run stops, an error that could be trapped has found no handler.
-none_stops : (h : Handler) (e : Fault) → after_error h e ≡ after.Stops → Trappable (fault_number e) → h ≡ handler.None
-none_stops handler.None e q t = refl
-none_stops (handler.At i) e q t =
-    let w : after_error (handler.At i) e ≡ after.Goes (fault_number e) i = rw (trapped_of (fault_number e) t) in
+none_stops : (h : Option ℕ) (e : Fault) → after_error h e ≡ after.Stops → Trappable (fault_number e) → h ≡ None
+none_stops None e q t = refl
+none_stops (Some i) e q t =
+    let w : after_error (Some i) e ≡ after.Goes (fault_number e) i = rw (trapped_of (fault_number e) t) in
     absurd (stops_not (sym q ∙ w))
 
-abbrev Goes : Handler → Fault → ℕ → ℕ → Type 0
-Goes h e n i = Trappable (fault_number e) × (h ≡ handler.At i) × (n ≡ fault_number e)
+abbrev Goes : Option ℕ → Fault → ℕ → ℕ → Type 0
+Goes h e n i = Trappable (fault_number e) × (h ≡ Some i) × (n ≡ fault_number e)
 
-one_goes : (h : Handler) (e : Fault) (n i : ℕ) → after_error h e ≡ after.Goes n i → Goes h e n i
-one_goes handler.None e n i q = absurd (stops_not q)
-one_goes (handler.At j) e n i q = by (trappedb (fault_number e)) refl q
+one_goes : (h : Option ℕ) (e : Fault) (n i : ℕ) → after_error h e ≡ after.Goes n i → Goes h e n i
+one_goes None e n i q = absurd (stops_not q)
+one_goes (Some j) e n i q = by (trappedb (fault_number e)) refl q
   where
-    by : (b : Bool) → trappedb (fault_number e) ≡ b → cond b (after.Goes (fault_number e) j) after.Stops ≡ after.Goes n i → Goes (handler.At j) e n i
-    by true t w = let v = same_way w in (trapped_to (fault_number e) t, ap handler.At v.1, sym v.0)
+    by : (b : Bool) → trappedb (fault_number e) ≡ b → cond b (after.Goes (fault_number e) j) after.Stops ≡ after.Goes n i → Goes (Some j) e n i
+    by true t w = let v = same_way w in (trapped_to (fault_number e) t, ap Some v.1, sym v.0)
     by false t w = absurd (stops_not w)
 
 -- ---- the code's tests
 
-module _ (h : Handler) (e : Fault) where
-  pub error_none : h ≡ handler.None → after.Stops ≡ after_error h e
+module _ (h : Option ℕ) (e : Fault) where
+  pub error_none : h ≡ None → after.Stops ≡ after_error h e
   error_none q = rw q
 
-  module _ (i n : ℕ) (b : Bool) (q : h ≡ handler.At i) (k : n ≡ fault_number e) (t : b ≡ trappedb n) where
+  module _ (i n : ℕ) (b : Bool) (q : h ≡ Some i) (k : n ≡ fault_number e) (t : b ≡ trappedb n) where
     pub error_goes : b ≡ true → after.Goes n i ≡ after_error h e
     error_goes u = rw (q, ← k, ← t, u)
 
     pub error_stops_here : b ≡ false → after.Stops ≡ after_error h e
     error_stops_here u = rw (q, ← k, ← t, u)
 
-pub after_failed : (h : Handler) (s : Stop) (e : Fault) (r : After) → s ≡ stop.Failed e → r ≡ after_error h e → r ≡ after_stop h s
+pub after_failed : (h : Option ℕ) (s : Stop) (e : Fault) (r : After) → s ≡ stop.Failed e → r ≡ after_error h e → r ≡ after_stop h s
 after_failed h s e r q w = rw q w
 
 -- ---- a stretch that is over

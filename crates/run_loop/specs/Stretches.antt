@@ -3,12 +3,10 @@
 --   Stretched c m k s d r b        what a stretch of at most m statements from the state s and the data d, after k completed ones, has done: r and the data b
 -- The rule itself is `on_error` of rules_run.
 -- Assumes nothing.
-use Rattle.std.specs.Prelude.{ℕ, ◌+◌, ◌<◌, ◌≤◌, ◌≡◌, cond, List, length}
+use Rattle.std.specs.Prelude.{ℕ, ◌+◌, ◌<◌, ◌≤◌, ◌≡◌, cond, List, length, Option, None, Some}
 use Rattle.rules.specs.declared.Fault.{Fault}
 use Rattle.rules.specs.Stops.{fault_number, trappedb}
 use Rattle.rules_unit.specs.Codes.{Code}
-use Rattle.rules_run.specs.declared.Handler.{Handler}
-use Rattle.rules_run.specs.declared.Handler.TheVariants as handler
 use Rattle.rules_run.specs.declared.Outcome.{Outcome}
 use Rattle.rules_run.specs.declared.State.{State}
 use Rattle.rules_run.specs.declared.Stop.{Stop}
@@ -21,11 +19,11 @@ use Rattle.run_loop.specs.declared.After.{After}
 use Rattle.run_loop.specs.declared.After.TheVariants as after
 
 -- "one of the errors 20, 21, 22, 23 or 26 .. goes on at c"
-abbrev pub after_error : Handler → Fault → After
-after_error handler.None e = after.Stops
-after_error (handler.At i) e = cond (trappedb (fault_number e)) (after.Goes (fault_number e) i) after.Stops
+abbrev pub after_error : Option ℕ → Fault → After
+after_error None e = after.Stops
+after_error (Some i) e = cond (trappedb (fault_number e)) (after.Goes (fault_number e) i) after.Stops
 
-abbrev pub after_stop : Handler → Stop → After
+abbrev pub after_stop : Option ℕ → Stop → After
 after_stop h stop.End = after.Stops
 after_stop h (stop.Refused x) = after.Stops
 after_stop h stop.WrongSize = after.Stops

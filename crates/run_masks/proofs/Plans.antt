@@ -46,6 +46,10 @@ no_money p at w (c ∷ cs) h l = by (eqb c 36) refl (λ q k. no_money p at (sigh
     by true e on = let n : more_by (eqb c 36) (tally_of cs).moneys ≡ (tally_of cs).moneys + 1 = rw e refl in absurd (omega (arith, h, n))
     by false e on = let n : more_by (eqb c 36) (tally_of cs).moneys ≡ (tally_of cs).moneys = rw e refl in rw (not_money p w c l e) (on (sym n ∙ h) (lead_on p w c l e))
 
+pub spot_blank : (p : Picture) (w : Sight) (m : List ℕ) → p.blank ≡ true → 0 ≡ spot_of p w m
+unfolding spot_of
+spot_blank p w m b = rw b refl
+
 module _ (p : Picture) (w : Sight) (m : List ℕ) (b : p.blank ≡ false) where
   not_blank : spot_from p 0 w m ≡ spot_of p w m
   unfolding spot_of
@@ -56,11 +60,6 @@ module _ (p : Picture) (w : Sight) (m : List ℕ) (b : p.blank ≡ false) where
 
   pub spot_last : (r : ℕ) → r ≡ spot_from p 0 w m → r ≡ spot_of p w m
   spot_last r e = e ∙ not_blank
-
--- what a mask's picture and its first sight tell of money signs
-pub own_moneys : (m : List ℕ) (t : Tally) (p : Picture) (w : Sight) (size k : ℕ) (neg : Bool) → t ≡ tally_of m → p ≡ picture_by t size neg k → w ≡ sight_by t size
-    → (p.moneys ≡ (tally_of m).moneys) × (w.lead ≡ 32)
-own_moneys m t p w size k neg e f g = (ap (λ (x : Picture). x.moneys) f ∙ ap (λ (x : Tally). x.moneys) e, ap (λ (x : Sight). x.lead) g)
 
 -- ---- plans
 

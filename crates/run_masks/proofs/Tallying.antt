@@ -4,14 +4,12 @@ use mathlib.Core.Path.{◌≡◌, refl, sym, ap, ◌∙◌}
 use mathlib.Core.Bool.{Bool, true, false}
 use mathlib.Core.List.{List, [], ◌∷◌}
 use Prim.Native.Nat.{ℕ, suc, ◌+◌, ◌-◌, ◌^◌, ◌≤◌, ◌<◌}
-use native.Mathlib.Nat.{lt_of_le_of_lt, mod-le}
 use native.Mathlib.Omega.{arith}
 use lib.Dec.{eqb}
 use lib.ListN.{length, get_or, drop, drop_of_length-le, length-drop}
 use lib.Seq.{drop-cons}
 use Rattle.rules.specs.declared.Tally.{Tally}
-use Rattle.rules.specs.declared.Picture.{Picture}
-use Rattle.rules.specs.Masks.{placeb, more_by, tallied, tally_of, last_digits, picture_by}
+use Rattle.rules.specs.Masks.{placeb, more_by, tallied, tally_of}
 
 counted_most : (b : Bool) (n k : ℕ) → n ≤ k → more_by b n ≤ suc k
 counted_most true n k h = omega arith
@@ -44,10 +42,3 @@ unfolding tally_of
 tally_turn m i t r h k e f =
     let j : suc (i - 1) ≡ i = omega arith in
     f ∙ ap (tallied (get_or m (i - 1) 0)) (e ∙ ap (λ (x : ℕ). tally_of (drop x m)) (sym j)) ∙ sym (ap tally_of (drop-cons m (i - 1) 0 (omega arith)))
-
-pub tally_end : (m : List ℕ) (i : ℕ) (t : Tally) → i ≤ 0 → t ≡ tally_of (drop i m) → t ≡ tally_of m
-tally_end m i t h e = let z : i ≡ 0 = omega arith in e ∙ ap (λ (x : ℕ). tally_of (drop x m)) z
-
--- the digits left are no more than the number
-pub picture_small : (p : Picture) (t : Tally) (n m : ℕ) (b : Bool) → p ≡ picture_by t n b (last_digits m t.places) → m < 10 ^ 18 → p.digits < 10 ^ 18
-picture_small p t n m b e h = rw e (lt_of_le_of_lt (mod-le m (10 ^ t.places)) h)

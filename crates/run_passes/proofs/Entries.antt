@@ -1,5 +1,6 @@
 -- What a FOR answers, one law for each way out of the code. Signed numbers come as the code's own copies of them.
 -- Assumes nothing.
+use Rattle.std.specs.Prelude.{Result, Err, Ok}
 use Prim.Native.Nat.{ℕ, ◌+◌, ◌<◌, ◌≤◌}
 use mathlib.Core.Path.{◌≡◌, sym, ◌∙◌}
 use mathlib.Core.Bool.{Bool, true, false, not}
@@ -10,8 +11,6 @@ use mir.Val.{SFits, to_z, of_z}
 use borrow.Author.Tests.{lt-ltb, le-ltb, not-true, not-false}
 use Rattle.rules.specs.declared.Fault.{Fault}
 use Rattle.rules.specs.declared.Fault.TheVariants as fault
-use Rattle.rules.specs.declared.Num.{Num}
-use Rattle.rules.specs.declared.Num.TheVariants.{Value, Failed}
 use Rattle.rules.proofs.Signed.{back, zero_abs, pos_abs}
 use Rattle.rules_unit.specs.declared.Statement.{Statement}
 use Rattle.rules_unit.specs.Codes.{Code}
@@ -21,7 +20,7 @@ use Rattle.rules_run.specs.declared.Flow.TheVariants as flow
 use Rattle.rules_run.specs.declared.Turn.{Turn}
 use Rattle.rules_run.specs.declared.Look.{Look}
 use Rattle.rules_run.specs.Evaluation.{worked_of, value_at}
-use Rattle.rules_run.specs.Turns.{failed, on_place, testb, controls, enter_flow, enter_by, enter_at, enters}
+use Rattle.rules_run.specs.Turns.{on_place, testb, controls, enter_flow, enter_by, enter_at, enters}
 use Rattle.run_passes.specs.Passes.{enter_step, enter_limit}
 use Rattle.run_passes.proofs.Values.{tested_by}
 
@@ -36,8 +35,8 @@ module _ (end : ℕ) (v limit step : ℤ) (fv : SFits w64 v) (fl : SFits w64 lim
     pub flow_over : b ≡ false → flow.Goto (end + 1) ≡ enter_flow end v limit step
     flow_over h = rw (← tested_by v limit step fv fl fs b e, h)
 
-  module _ (a n : ℕ) (t : Turn) where
-    pub by_zero : of_z w64 step ≡ 0 → t ≡ failed fault.ZeroStep → t ≡ enter_by end a n v limit step
+  module _ (a n : ℕ) (t : Result Turn Fault) where
+    pub by_zero : of_z w64 step ≡ 0 → t ≡ Err fault.ZeroStep → t ≡ enter_by end a n v limit step
     by_zero e q = rw (zero_abs step fs e) q
 
     pub by_control : (g : Flow) → (of_z w64 step ≡ 0 → ⊥) → g ≡ enter_flow end (to_z w64 (of_z w64 v)) (to_z w64 (of_z w64 limit)) (to_z w64 (of_z w64 step))
@@ -46,38 +45,38 @@ module _ (end : ℕ) (v limit step : ℤ) (fv : SFits w64 v) (fl : SFits w64 lim
 
 -- ---- one number after the other; r is what the callee found of the number at e
 
-module _ (c : Code) (d : List ℕ) (e end a n : ℕ) (v : ℤ) (t : Turn) (r : Num) (q : r ≡ value_at c d e) where
+module _ (c : Code) (d : List ℕ) (e end a n : ℕ) (v : ℤ) (t : Result Turn Fault) (r : Result ℤ Fault) (q : r ≡ value_at c d e) where
   module _ (limit : ℤ) where
-    pub step_known : {step : ℤ} → SFits w64 v → SFits w64 limit → r ≡ Value step → SFits w64 step
+    pub step_known : {step : ℤ} → SFits w64 v → SFits w64 limit → r ≡ Ok step → SFits w64 step
         → t ≡ enter_by end a n (to_z w64 (of_z w64 v)) (to_z w64 (of_z w64 limit)) (to_z w64 (of_z w64 step)) → t ≡ enter_step c d e end a n v limit
     unfolding enter_step
     step_known fv fl h fs z = rw (sym q ∙ h) (rw (back fv, back fl, back fs) at z)
 
-    pub step_failed : (f : Fault) → r ≡ Failed f → t ≡ failed f → t ≡ enter_step c d e end a n v limit
+    pub step_failed : (f : Fault) → r ≡ Err f → t ≡ Err f → t ≡ enter_step c d e end a n v limit
     unfolding enter_step
     step_failed f h z = rw (sym q ∙ h) z
 
   -- e' is the code's own offset of the step
-  pub limit_known : {limit : ℤ} (e' : ℕ) → SFits w64 v → r ≡ Value limit → SFits w64 limit → e' ≡ next_at c e
+  pub limit_known : {limit : ℤ} (e' : ℕ) → SFits w64 v → r ≡ Ok limit → SFits w64 limit → e' ≡ next_at c e
       → t ≡ enter_step c d e' end a n (to_z w64 (of_z w64 v)) (to_z w64 (of_z w64 limit)) → t ≡ enter_limit c d e end a n v
   unfolding enter_limit
   limit_known e' fv h fl i z = rw (sym q ∙ h) (rw (i, back fv, back fl) at z)
 
-  pub limit_failed : (f : Fault) → r ≡ Failed f → t ≡ failed f → t ≡ enter_limit c d e end a n v
+  pub limit_failed : (f : Fault) → r ≡ Err f → t ≡ Err f → t ≡ enter_limit c d e end a n v
   unfolding enter_limit
   limit_failed f h z = rw (sym q ∙ h) z
 
-module _ (c : Code) (d : List ℕ) (s : Statement) (decimal : Bool) (a n : ℕ) (t : Turn) where
-  pub enter_alpha : not decimal ≡ true → t ≡ failed fault.Malformed → t ≡ enter_at c d s decimal a n
+module _ (c : Code) (d : List ℕ) (s : Statement) (decimal : Bool) (a n : ℕ) (t : Result Turn Fault) where
+  pub enter_alpha : not decimal ≡ true → t ≡ Err fault.Malformed → t ≡ enter_at c d s decimal a n
   enter_alpha h q = rw (not-true decimal h) q
 
   -- r is what the callee found of the start, e the code's own offset of the limit
-  module _ (h : not decimal ≡ false) (r : Num) (q : r ≡ value_at c d s.b) where
-    pub start_known : {v : ℤ} (e : ℕ) → r ≡ Value v → SFits w64 v → e ≡ next_at c s.b → t ≡ enter_limit c d e s.c a n (to_z w64 (of_z w64 v)) → t ≡ enter_at c d s decimal a n
+  module _ (h : not decimal ≡ false) (r : Result ℤ Fault) (q : r ≡ value_at c d s.b) where
+    pub start_known : {v : ℤ} (e : ℕ) → r ≡ Ok v → SFits w64 v → e ≡ next_at c s.b → t ≡ enter_limit c d e s.c a n (to_z w64 (of_z w64 v)) → t ≡ enter_at c d s decimal a n
     unfolding enter_limit enter_step
     start_known e g f i z = rw (not-false decimal h, sym q ∙ g) (rw (i, back f) at z)
 
-    pub start_failed : (f : Fault) → r ≡ Failed f → t ≡ failed f → t ≡ enter_at c d s decimal a n
+    pub start_failed : (f : Fault) → r ≡ Err f → t ≡ Err f → t ≡ enter_at c d s decimal a n
     start_failed f g z = rw (not-false decimal h, sym q ∙ g) z
 
 -- The control place is decimal where the start is worked out.
@@ -86,8 +85,8 @@ decimal_short decimal n h f = f (not-false decimal h)
 
 -- ---- the whole
 
-module _ (c : Code) (l : Look) (d : List ℕ) (s : Statement) (t : Turn) where
-  pub enters_full : 16 ≤ l.opened → t ≡ failed fault.LoopsFull → t ≡ enters c l d s
+module _ (c : Code) (l : Look) (d : List ℕ) (s : Statement) (t : Result Turn Fault) where
+  pub enters_full : 16 ≤ l.opened → t ≡ Err fault.LoopsFull → t ≡ enters c l d s
   unfolding enters
   enters_full h q = rw (le-ltb l.opened 16 h) q
 

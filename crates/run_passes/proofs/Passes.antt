@@ -1,5 +1,6 @@
 -- What a loop end, NEXTLOOP and EXITLOOP answer, one law for each way out of the code. Signed numbers come as the code's own copies of them.
 -- Assumes nothing.
+use Rattle.std.specs.Prelude.{Result, Err, Ok}
 use Prim.Native.Nat.{ℕ, zero, suc, ◌+◌, ◌^◌, ◌<◌}
 use native.Mathlib.Omega.{arith}
 use mathlib.Core.Path.{◌≡◌, refl, sym, ◌∙◌}
@@ -12,8 +13,6 @@ use mir.Val.{Fits, SFits, to_z, of_z}
 use borrow.Author.Tests.{ne_eqb, not-true, not-false}
 use Rattle.rules.specs.declared.Fault.{Fault}
 use Rattle.rules.specs.declared.Fault.TheVariants as fault
-use Rattle.rules.specs.declared.Num.{Num}
-use Rattle.rules.specs.declared.Num.TheVariants.{Value, Failed}
 use Rattle.rules.specs.Values.{Val, read_of}
 use Rattle.rules.specs.Arithmetic.{add_of}
 use Rattle.rules.proofs.Signed.{back, again, val_any}
@@ -29,7 +28,7 @@ use Rattle.rules_run.specs.declared.Turn.{Turn}
 use Rattle.rules_run.specs.declared.Look.{Look}
 use Rattle.rules_run.specs.Evaluation.{worked_of}
 use Rattle.rules_run.specs.States.{LoopSound, LookSound}
-use Rattle.rules_run.specs.Turns.{failed, goes, on_place, testb, controls, entry_of, pass_flow, pass_at, repeats, exits}
+use Rattle.rules_run.specs.Turns.{goes, on_place, testb, controls, entry_of, pass_flow, pass_at, repeats, exits}
 use Rattle.rules_run.proofs.SoundRuns.{end_inside}
 use Rattle.rules_run.proofs.OpenLoops as loops
 use Rattle.run_passes.specs.Passes.{pass_by}
@@ -49,21 +48,21 @@ module _ (c : Code) (l : Look) (s : Statement) {v : ℤ} (es : s ≡ entry_of c 
 
 -- ---- the step is added; r is what the callee answered
 
-module _ (c : Code) (l : Look) (a n : ℕ) (t : Turn) (x y : ℤ) (r : Num) (fx : SFits w64 x) (ey : y ≡ l.last.step)
+module _ (c : Code) (l : Look) (a n : ℕ) (t : Result Turn Fault) (x y : ℤ) (r : Result ℤ Fault) (fx : SFits w64 x) (ey : y ≡ l.last.step)
     (q : r ≡ add_of c.dialect.top (to_z w64 (of_z w64 x)) y) where
   sum : r ≡ add_of c.dialect.top x l.last.step
   sum = rw (back fx, ey) at q
 
-  pub sum_known : {v : ℤ} (g : Flow) → r ≡ Value v → SFits w64 v → g ≡ pass_flow c l (to_z w64 (of_z w64 v)) → t ≡ controls a n (to_z w64 (of_z w64 v)) g → t ≡ pass_by c l a n x
+  pub sum_known : {v : ℤ} (g : Flow) → r ≡ Ok v → SFits w64 v → g ≡ pass_flow c l (to_z w64 (of_z w64 v)) → t ≡ controls a n (to_z w64 (of_z w64 v)) g → t ≡ pass_by c l a n x
   unfolding pass_by
   sum_known g h fv i z = rw (sym sum ∙ h) (rw (i, back fv) at z)
 
-  pub sum_failed : (f : Fault) → r ≡ Failed f → t ≡ failed f → t ≡ pass_by c l a n x
+  pub sum_failed : (f : Fault) → r ≡ Err f → t ≡ Err f → t ≡ pass_by c l a n x
   unfolding pass_by
   sum_failed f h z = rw (sym sum ∙ h) z
 
 -- It is in the range of values.
-pub sum_again : (p : Parts) (x y : ℤ) (r : Num) (v : ℤ) → SoundDialect p.dialect → r ≡ add_of p.dialect.top x y → r ≡ Value v → Val (10 ^ 18) (to_z w64 (of_z w64 v))
+pub sum_again : (p : Parts) (x y : ℤ) (r : Result ℤ Fault) (v : ℤ) → SoundDialect p.dialect → r ≡ add_of p.dialect.top x y → r ≡ Ok v → Val (10 ^ 18) (to_z w64 (of_z w64 v))
 sum_again p x y r v dialect q h = again (val_any dialect.bound (of_range (sym q ∙ h) (range_kept p.dialect.top (x +ℤ y))))
 
 -- The step can be an operand; z is the code's own copy of it.
@@ -72,16 +71,16 @@ step_again u p l z dialect known e = rw e (val_any dialect.bound known.step)
 
 -- ---- the control place is found and read
 
-module _ (u : List ℕ) (p : Parts) (l : Look) (d : List ℕ) (decimal : Bool) (a n : ℕ) (t : Turn) where
-  pub pass_alpha : not decimal ≡ true → t ≡ failed fault.Malformed → t ≡ pass_at (code_of u p) l d decimal a n
+module _ (u : List ℕ) (p : Parts) (l : Look) (d : List ℕ) (decimal : Bool) (a n : ℕ) (t : Result Turn Fault) where
+  pub pass_alpha : not decimal ≡ true → t ≡ Err fault.Malformed → t ≡ pass_at (code_of u p) l d decimal a n
   pass_alpha h q = rw (not-true decimal h) q
 
-  module _ (h : not decimal ≡ false) (r : Num) (q : r ≡ read_of p.dialect.limit p.dialect.sign (take n (drop a d))) where
-    pub read_known : {x : ℤ} → r ≡ Value x → SFits w64 x → t ≡ pass_by (code_of u p) l a n (to_z w64 (of_z w64 x)) → t ≡ pass_at (code_of u p) l d decimal a n
+  module _ (h : not decimal ≡ false) (r : Result ℤ Fault) (q : r ≡ read_of p.dialect.limit p.dialect.sign (take n (drop a d))) where
+    pub read_known : {x : ℤ} → r ≡ Ok x → SFits w64 x → t ≡ pass_by (code_of u p) l a n (to_z w64 (of_z w64 x)) → t ≡ pass_at (code_of u p) l d decimal a n
     unfolding pass_by
     read_known g f z = rw (not-false decimal h, sym q ∙ g) (rw (back f) at z)
 
-    pub read_failed : (f : Fault) → r ≡ Failed f → t ≡ failed f → t ≡ pass_at (code_of u p) l d decimal a n
+    pub read_failed : (f : Fault) → r ≡ Err f → t ≡ Err f → t ≡ pass_at (code_of u p) l d decimal a n
     read_failed f g z = rw (not-false decimal h, sym q ∙ g) z
 
 -- ---- the loop opened last
@@ -109,11 +108,11 @@ module _ (u : List ℕ) (p : Parts) (l : Look) (s : Statement) (e : s ≡ entry_
 
 -- ---- the whole
 
-module _ (c : Code) (l : Look) (t : Turn) where
-  pub repeats_none : (d : List ℕ) → l.opened ≡ 0 → t ≡ failed fault.NoLoop → t ≡ repeats c l d
+module _ (c : Code) (l : Look) (t : Result Turn Fault) where
+  pub repeats_none : (d : List ℕ) → l.opened ≡ 0 → t ≡ Err fault.NoLoop → t ≡ repeats c l d
   repeats_none d h q = q ∙ sym (loops.repeats_none c l d h)
 
-  pub exits_none : l.opened ≡ 0 → t ≡ failed fault.NoLoop → t ≡ exits c l
+  pub exits_none : l.opened ≡ 0 → t ≡ Err fault.NoLoop → t ≡ exits c l
   exits_none h q = q ∙ sym (loops.exits_none c l h)
 
   -- s is the entry as the code decodes it

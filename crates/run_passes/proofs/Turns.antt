@@ -1,5 +1,7 @@
 -- What a statement answers that works on loops: one law for every verb.
 -- Assumes nothing.
+use Rattle.rules.specs.declared.Fault.{Fault}
+use Rattle.std.specs.Prelude.{Result}
 use Prim.Native.Nat.{ℕ, ◌<◌}
 use mathlib.Core.Path.{◌≡◌}
 use mathlib.Core.List.{List}
@@ -12,7 +14,7 @@ use Rattle.rules_run.specs.declared.Turn.{Turn}
 use Rattle.run_passes.specs.Passes.{loop_turn}
 
 -- v is the verb of s; t is what the arm of w answers
-pub loop_as : (c : Code) (l : Look) (d : List ℕ) (v w : Verb) (s : Statement) (t : Turn) → v ≡ w → t ≡ loop_turn c l d w s → t ≡ loop_turn c l d v s
+pub loop_as : (c : Code) (l : Look) (d : List ℕ) (v w : Verb) (s : Statement) (t : Result Turn Fault) → v ≡ w → t ≡ loop_turn c l d w s → t ≡ loop_turn c l d v s
 loop_as c l d v w s t h q = rw h q
 
 -- The loop end of a FOR.

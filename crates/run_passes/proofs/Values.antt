@@ -1,5 +1,7 @@
 -- What a loop does with its control value, one law for each way out of the code. Signed numbers come as the code's own copies of them.
 -- Assumes nothing.
+use Rattle.rules.specs.declared.Fault.{Fault}
+use Rattle.std.specs.Prelude.{Result, Err, Ok}
 use Prim.Native.Nat.{ℕ, ◌*◌, ◌^◌, ◌≤◌}
 use native.Mathlib.Omega.{arith}
 use mathlib.Core.Path.{◌≡◌, refl, ap, ◌∙◌}
@@ -16,7 +18,7 @@ use Rattle.rules.proofs.Signed.{back, again, op_plain}
 use Rattle.rules_run.specs.declared.Write.TheVariants as write
 use Rattle.rules_run.specs.declared.Flow.{Flow}
 use Rattle.rules_run.specs.declared.Turn.{Turn}
-use Rattle.rules_run.specs.Turns.{turn, failed, testb, fitsb, controls}
+use Rattle.rules_run.specs.Turns.{turn, testb, fitsb, controls}
 
 -- ---- the test
 
@@ -53,8 +55,8 @@ module _ (a n : ℕ) {v : ℤ} (g : Flow) (b : Bool) (f : SFits w64 v) (e : b �
   told : b ≡ fitsb n v
   told = e ∙ ap (fitsb n) (back f)
 
-  pub control_not : (t : Turn) → not b ≡ true → t ≡ failed fault.TooLong → t ≡ controls a n v g
+  pub control_not : (t : Result Turn Fault) → not b ≡ true → t ≡ Err fault.TooLong → t ≡ controls a n v g
   control_not t h q = rw (← told, not-true b h) q
 
-  pub control_fits : not b ≡ false → ◌≡◌ {A = Turn} (turn (write.Number a n (to_z w64 (of_z w64 v))) g) (controls a n v g)
+  pub control_fits : not b ≡ false → ◌≡◌ {A = Result Turn Fault} (Ok (turn (write.Number a n (to_z w64 (of_z w64 v))) g)) (controls a n v g)
   control_fits h = rw (← told, not-false b h, back f)

@@ -1,5 +1,6 @@
 -- Laws of finding spans, for the code: its numbers are of 64 bits.
 -- Assumes nothing.
+use Rattle.std.specs.Prelude.{None, Option}
 use Prim.Native.Nat.{ℕ, ◌+◌, ◌-◌, ◌*◌, ◌^◌, ◌<◌, ◌≤◌}
 use native.Mathlib.Nat.{mul-le-mul_left, mul-one}
 use native.Mathlib.Omega.{arith}
@@ -17,8 +18,7 @@ use Rattle.rules_unit.specs.declared.Field.{Field}
 use Rattle.rules_unit.specs.declared.Form.{Form}
 use Rattle.rules_unit.specs.declared.Form.TheVariants as form
 use Rattle.rules_run.specs.declared.Span.{Span}
-use Rattle.rules_run.specs.declared.Span.TheVariants.{At, Outside}
-use Rattle.rules_run.specs.Spans.{within, subscript_span, start_end_span, pos_length_span, span_of, held_to, span_by}
+use Rattle.rules_run.specs.Spans.{within, subscript_span, start_end_span, pos_length_span, span_of, held_to, span_by, span_at}
 use Rattle.rules_run.proofs.Strict as strict
 use Rattle.rules_run.proofs.Strict.{held_in, held_past}
 
@@ -68,32 +68,32 @@ module _ (size : ℕ) (f : Field) (x y : ℤ) {h : Form} where
 
 -- low and end are where the field starts and where it ends, as the code has them
 module _ (f : Field) (a n low end : ℕ) (l : low ≡ f.offset) (e : end ≡ f.offset + f.count * f.size) where
-  pub field_low : a < low → Outside ≡ held_to rule.Strict f (At a n)
+  pub field_low : a < low → None ≡ held_to rule.Strict f (span_at a n)
   field_low h = sym (held_past f a n (λ i. omega (arith, i.0)))
 
-  pub field_behind : end < a → Outside ≡ held_to rule.Strict f (At a n)
+  pub field_behind : end < a → None ≡ held_to rule.Strict f (span_at a n)
   field_behind h = sym (held_past f a n (λ i. omega (arith, i.1)))
 
-  pub field_long : end - a < n → Outside ≡ held_to rule.Strict f (At a n)
+  pub field_long : end - a < n → None ≡ held_to rule.Strict f (span_at a n)
   field_long h = sym (held_past f a n (λ i. omega (arith, i.1)))
 
-  pub field_here : low ≤ a → a ≤ end → n ≤ end - a → At a n ≡ held_to rule.Strict f (At a n)
+  pub field_here : low ≤ a → a ≤ end → n ≤ end - a → span_at a n ≡ held_to rule.Strict f (span_at a n)
   field_here h k m = sym (held_in f rule.Strict a n (omega arith, omega arith))
 
 -- what was found is s, and r what is left of it
-module _ (f : Field) (s r : Span) where
-  pub field_at : (a n : ℕ) → s ≡ At a n → r ≡ held_to rule.Strict f (At a n) → r ≡ held_to rule.Strict f s
+module _ (f : Field) (s r : Option Span) where
+  pub field_at : (a n : ℕ) → s ≡ span_at a n → r ≡ held_to rule.Strict f (span_at a n) → r ≡ held_to rule.Strict f s
   field_at a n e q = q ∙ ap (held_to rule.Strict f) (sym e)
 
-  pub field_none : s ≡ Outside → Outside ≡ held_to rule.Strict f s
+  pub field_none : s ≡ None → None ≡ held_to rule.Strict f s
   field_none e = ap (held_to rule.Strict f) (sym e)
 
 -- a reference by the strict rule, as a call gets it: what is found inside the size is s, and r what is left of that
 module _ (size : ℕ) (f : Field) (x y : ℤ) (h : Form) where
-  pub strict_first : (s : Span) → h ≡ form.First → s ≡ within size (pos f.offset) f.size → s ≡ span_by rule.Strict size f h x y
+  pub strict_first : (s : Option Span) → h ≡ form.First → s ≡ within size (pos f.offset) f.size → s ≡ span_by rule.Strict size f h x y
   strict_first s e w = rw e (rw e at (w ∙ span_first size f x y {h = h} e))
 
-  module _ (s r : Span) (q : r ≡ held_to rule.Strict f s) where
+  module _ (s r : Option Span) (q : r ≡ held_to rule.Strict f s) where
     pub strict_subscript : h ≡ form.Subscript → SFits w64 x → s ≡ subscript_span size f.offset f.size (to_z w64 (of_z w64 x)) → r ≡ span_by rule.Strict size f h x y
     strict_subscript e p w = q ∙ rw e (ap (held_to rule.Strict f) (rw e at (w ∙ span_subscript size f x y {h = h} e p)))
 
@@ -104,7 +104,7 @@ module _ (size : ℕ) (f : Field) (x y : ℤ) (h : Form) where
     strict_pos_length e p k w = q ∙ rw e (ap (held_to rule.Strict f) (rw e at (w ∙ span_pos_length size f x y {h = h} e p k)))
 
 -- a reference by the rule k
-module _ (size : ℕ) (f : Field) (h : Form) (x y : ℤ) (fx : SFits w64 x) (fy : SFits w64 y) (k : Rule) (s : Span) where
+module _ (size : ℕ) (f : Field) (h : Form) (x y : ℤ) (fx : SFits w64 x) (fy : SFits w64 y) (k : Rule) (s : Option Span) where
   pub by_loose : k ≡ rule.Loose → s ≡ span_of size f h (to_z w64 (of_z w64 x)) (to_z w64 (of_z w64 y)) → s ≡ span_by k size f h x y
   by_loose e q = rw e (q ∙ op_plain (span_of size f h) fx fy ∙ sym (strict.by_loose size f h x y))
 

@@ -6,53 +6,52 @@ ghost use Rattle.rules.specs.Values.{Val};
 ghost use Rattle.rules_unit.specs.declared.Rule.TheVariants as rule;
 ghost use Rattle.rules_unit.specs.declared.Form.TheVariants as form;
 ghost use Rattle.rules_unit.specs.Codes.{rule_of};
-ghost use Rattle.rules_run.specs.declared.Span.TheVariants.{At};
-ghost use Rattle.rules_run.specs.Spans.{within, subscript_span, start_end_span, pos_length_span, span_of, held_to, span_by};
+ghost use Rattle.rules_run.specs.Spans.{within, subscript_span, start_end_span, pos_length_span, span_of, held_to, span_by, span_at};
 
 use rules_run::Span;
 use rules_unit::{Field, Form, Rule};
 
-// The n bytes from a, where they lie inside size bytes, and Outside otherwise.
-fn inside(size: usize, a: usize, n: usize) -> Span
+// The n bytes from a, where they lie inside size bytes, and None otherwise.
+fn inside(size: usize, a: usize, n: usize) -> Option<Span>
     ensures { result ≡ within size (pos a) n }
 {
     if size < a {
-        return Span::Outside;
+        return None;
     }
     if size - a < n {
-        return Span::Outside;
+        return None;
     }
-    Span::At { start: a, len: n }
+    Some(Span { start: a, len: n })
 }
 
 // The element k + 1, of n bytes. A large k is told before it is multiplied.
-fn forward(size: usize, offset: usize, n: usize, k: usize) -> Span
+fn forward(size: usize, offset: usize, n: usize, k: usize) -> Option<Span>
     requires { (size < 65536) × (offset < 65536) × (1 ≤ n) × (n < 65536) }
     ensures { result ≡ within size (pos (offset + k * n)) n }
 {
     if size < k {
-        return Span::Outside;
+        return None;
     }
     inside(size, offset + k * n, n)
 }
 
 // The element of n bytes that starts k elements before the field. A large k is told before it is multiplied.
-fn backward(size: usize, offset: usize, n: usize, k: usize) -> Span
+fn backward(size: usize, offset: usize, n: usize, k: usize) -> Option<Span>
     requires { (offset < 65536) × (1 ≤ n) × (n < 65536) }
     ensures { result ≡ within size (pos offset -ℤ pos (k * n)) n }
 {
     if offset < k {
-        return Span::Outside;
+        return None;
     }
     let back = k * n;
     if offset < back {
-        return Span::Outside;
+        return None;
     }
     inside(size, offset - back, n)
 }
 
 // The element s, of n bytes. One of no bytes is where the field starts, whatever s is.
-fn subscript_span(size: usize, offset: usize, n: usize, s: i64) -> Span
+fn subscript_span(size: usize, offset: usize, n: usize, s: i64) -> Option<Span>
     requires size_bound { (size < 65536) × (offset < 65536) × (n < 65536) }
     requires val { Val (10 ^ 18) s }
     ensures { result ≡ subscript_span size offset n s }
@@ -71,50 +70,50 @@ fn subscript_span(size: usize, offset: usize, n: usize, s: i64) -> Span
 }
 
 // The bytes from s to e.
-fn start_end_span(size: usize, offset: usize, s: i64, e: i64) -> Span
+fn start_end_span(size: usize, offset: usize, s: i64, e: i64) -> Option<Span>
     requires offset_bound { offset < 65536 }
     requires val { Val (10 ^ 18) s }
     requires val_2 { Val (10 ^ 18) e }
     ensures { result ≡ start_end_span size offset s e }
 {
     if number::is_neg(s) {
-        return Span::Outside;
+        return None;
     }
     if number::is_neg(e) {
-        return Span::Outside;
+        return None;
     }
     let a = number::magnitude(s) as usize;
     let b = number::magnitude(e) as usize;
     if a == 0 {
-        return Span::Outside;
+        return None;
     }
     if b < a {
-        return Span::Outside;
+        return None;
     }
     inside(size, offset + (a - 1), b - a + 1)
 }
 
 // The n bytes from p on, or those that end at p where n is negative.
-fn pos_length_span(size: usize, offset: usize, p: i64, n: i64) -> Span
+fn pos_length_span(size: usize, offset: usize, p: i64, n: i64) -> Option<Span>
     requires offset_bound { offset < 65536 }
     requires val { Val (10 ^ 18) p }
     requires val_2 { Val (10 ^ 18) n }
     ensures { result ≡ pos_length_span size offset p n }
 {
     if number::is_neg(p) {
-        return Span::Outside;
+        return None;
     }
     let a = number::magnitude(p) as usize;
     let k = number::magnitude(n) as usize;
     if a == 0 {
-        return Span::Outside;
+        return None;
     }
     if k == 0 {
-        return Span::Outside;
+        return None;
     }
     if number::is_neg(n) {
         if offset + a < k {
-            return Span::Outside;
+            return None;
         }
         return inside(size, offset + a - k, k);
     }
@@ -122,22 +121,22 @@ fn pos_length_span(size: usize, offset: usize, p: i64, n: i64) -> Span
 }
 
 // The span of a reference without bounds, the field's first element, inside size bytes: the same by either rule.
-pub fn first_span(size: usize, field: Field) -> Span
+pub fn first_span(size: usize, field: Field) -> Option<Span>
     ensures { result ≡ span_of size field form.First (pos 0) (pos 0) }
 {
     let offset = field.offset as usize;
     let n = field.size as usize;
     if size < offset + n {
-        return Span::Outside;
+        return None;
     }
-    Span::At {
+    Some(Span {
         start: offset,
         len: n,
-    }
+    })
 }
 
 // The span of a reference to a field with the bounds x and y, inside size bytes: it may leave its field.
-pub fn span_of(size: usize, field: Field, form: Form, x: i64, y: i64) -> Span
+pub fn span_of(size: usize, field: Field, form: Form, x: i64, y: i64) -> Option<Span>
     requires size_bound { size < 65536 }
     requires val { Val (10 ^ 18) x }
     requires val_2 { Val (10 ^ 18) y }
@@ -165,38 +164,38 @@ pub fn rule_of(field: Field) -> Rule
     Rule::Loose
 }
 
-// The len bytes from start, where they lie inside a strict field, and Outside otherwise.
-fn held(field: Field, start: usize, len: usize) -> Span
-    ensures { result ≡ held_to rule.Strict field (At start len) }
+// The len bytes from start, where they lie inside a strict field, and None otherwise.
+fn held(field: Field, start: usize, len: usize) -> Option<Span>
+    ensures { result ≡ held_to rule.Strict field (span_at start len) }
 {
     let end = unit_decode::end_of(field);
     if start < unit_decode::long(field.offset) {
-        return Span::Outside;
+        return None;
     }
     if end < start {
-        return Span::Outside;
+        return None;
     }
     if end - start < len {
-        return Span::Outside;
+        return None;
     }
-    Span::At {
+    Some(Span {
         start: start,
         len: len,
-    }
+    })
 }
 
 // What the strict rule makes of a span that was found.
-fn held_to(field: Field, span: Span) -> Span
+fn held_to(field: Field, span: Option<Span>) -> Option<Span>
     ensures { result ≡ held_to rule.Strict field span }
 {
     match span {
-        Span::At { start, len } => held(field, start, len),
-        Span::Outside => Span::Outside,
+        Some(span) => held(field, span.start, span.len),
+        None => None,
     }
 }
 
 // The span of a reference by the strict rule. It does not go by `span_of`: that has one caller in a run, `span_by`, so that the compiler puts it there.
-fn strict_span(size: usize, field: Field, form: Form, x: i64, y: i64) -> Span
+fn strict_span(size: usize, field: Field, form: Form, x: i64, y: i64) -> Option<Span>
     requires size_bound { size < 65536 }
     requires val { Val (10 ^ 18) x }
     requires val_2 { Val (10 ^ 18) y }
@@ -213,7 +212,7 @@ fn strict_span(size: usize, field: Field, form: Form, x: i64, y: i64) -> Span
 }
 
 // The span of a reference to a field with the bounds x and y, by a rule, inside size bytes.
-pub fn span_by(rule: Rule, size: usize, field: Field, form: Form, x: i64, y: i64) -> Span
+pub fn span_by(rule: Rule, size: usize, field: Field, form: Form, x: i64, y: i64) -> Option<Span>
     requires size_bound { size < 65536 }
     requires val { Val (10 ^ 18) x }
     requires val_2 { Val (10 ^ 18) y }

@@ -1,59 +1,24 @@
 -- The resume state read from its numbers w, one law for each way out of the code.
 -- Assumes nothing.
+use Rattle.std.specs.Prelude.{Option}
 use Prim.Native.Nat.{ℕ, zero, suc, ◌+◌, ◌-◌, ◌*◌, ◌%◌, ◌<◌, ◌≤◌}
 use native.Mathlib.Numerals.{add-one}
 use native.Mathlib.Omega.{arith}
 use mathlib.Core.Path.{◌≡◌, refl, sym, ap, ◌∙◌}
 use mathlib.Core.Bool.{Bool, true, false, not}
 use mathlib.Core.List.{List, [], ◌∷◌}
-use lib.Dec.{ltb, leb, eqb}
-use lib.IntN.{ℤ, pos, negsuc, ◌-ℤ◌}
-use lib.ListN.{length, get_or, take, drop, set, replicate, drop_of_length-le}
+use lib.Dec.{eqb}
+use lib.IntN.{ℤ}
+use lib.ListN.{length, get_or, take, drop, set, drop_of_length-le}
 use lib.Seq.{drop-cons, take_all}
-use borrow.Author.Tests.{ltb-true, lt-ltb, le-ltb, le-leb, lt-leb, leb-true, eqb-true, eq-eqb, ne_eqb, not-true, not-false}
-use mir.Syntax.{w64}
-use mir.Val.{SFits, to_z, of_z}
-use Rattle.rules.proofs.Signed.{back, abs_fits}
+use borrow.Author.Tests.{lt-ltb, le-ltb, le-leb, lt-leb, leb-true, eqb-true, ne_eqb, not-true, not-false}
 use Rattle.rules.proofs.Tests.{both}
 use Rattle.rules_run.specs.declared.Caught.{Caught}
-use Rattle.rules_run.specs.declared.Caught.TheVariants as caught
-use Rattle.rules_run.specs.declared.Handler.{Handler}
-use Rattle.rules_run.specs.declared.Handler.TheVariants as handler
 use Rattle.rules_run.specs.declared.Loop.{Loop}
 use Rattle.rules_run.specs.declared.State.{State}
 use Rattle.rules_run.specs.States.{no_loop}
-use Rattle.rules_host.specs.Numbers.{listed, valueb, value_of, signedb, goodb, good_from, pairb, stateb, no_state, return_at, loop_at, handler_of, caught_of, state_of}
+use Rattle.rules_host.specs.Numbers.{listed, valueb, value_of, signedb, goodb, good_from, stateb, return_at, loop_at, handler_of, caught_of, state_of}
 use Rattle.rules_host.proofs.Listed.{length_listed, get_d_listed}
-
--- ---- one number
-
-pub value_low : (x : ℕ) → x < 1000000000000000000 → true ≡ valueb x
-value_low x h = rw (lt-ltb x 1000000000000000000 h)
-
-pub value_high : (x : ℕ) (r : Bool) → 1000000000000000000 ≤ x → r ≡ ltb 17446744073709551616 x → r ≡ valueb x
-value_high x r h e = rw (le-ltb x 1000000000000000000 h) e
-
-pub signed_low : (k : ℕ) → k < 53 → false ≡ signedb k
-signed_low k h = rw (lt-leb 53 k h)
-
-pub signed_past : (k : ℕ) → 53 ≤ k → 101 ≤ k → false ≡ signedb k
-signed_past k h b = rw (le-leb 53 k h, le-ltb k 101 b)
-
-pub signed_high : (k : ℕ) (r : Bool) → 53 ≤ k → k < 101 → r ≡ ltb 0 ((k - 53) % 3) → r ≡ signedb k
-signed_high k r h b e = rw (le-leb 53 k h, lt-ltb k 101 b) e
-
-module _ (k x : ℕ) (r : Bool) where
-  pub good_signed : (t : Bool) → t ≡ signedb k → t ≡ true → r ≡ valueb x → r ≡ goodb k x
-  unfolding goodb
-  good_signed t e q f = rw (sym e ∙ q) f
-
-  pub good_error : (t : Bool) → t ≡ signedb k → t ≡ false → k ≡ 102 → r ≡ leb x 255 → r ≡ goodb k x
-  unfolding goodb
-  good_error t e q h f = rw (sym e ∙ q, eq-eqb k 102 h) f
-
-  pub good_plain : (t : Bool) → t ≡ signedb k → t ≡ false → (k ≡ 102 → ⊥) → r ≡ leb x 65535 → r ≡ goodb k x
-  unfolding goodb
-  good_plain t e q h f = rw (sym e ∙ q, ne_eqb k 102 h) f
 
 -- ---- all numbers: those from k on answer what all of them answer
 
@@ -138,61 +103,18 @@ module _ (w : List ℕ) where
 
   -- ---- the whole
 
-  pub state_other : (length w ≡ 104 → ⊥) → false ≡ stateb w
-  unfolding stateb
-  state_other h = rw (ne_eqb (length w) 104 h)
-
-  pub state_wrong : (b : Bool) → length w ≡ 104 → b ≡ good_from 0 w → not b ≡ true → false ≡ stateb w
-  unfolding stateb
-  state_wrong b l f h = rw (eq-eqb (length w) 104 l, ← f, not-true b h)
-
-  pub state_pair : (b r : Bool) → length w ≡ 104 → b ≡ good_from 0 w → not b ≡ false → r ≡ pairb (get_or w 102 0) (get_or w 103 0) → r ≡ stateb w
-  unfolding stateb
-  state_pair b r l f h e = rw (eq-eqb (length w) 104 l, ← f, not-false b h) e
-
-  pub read_none : (z : State) (b : Bool) → z ≡ no_state → b ≡ stateb w → b ≡ false → z ≡ state_of w
-  unfolding state_of
-  read_none z b e f h = rw (← f, h) e
-
-  pub read_all : (returns : List ℕ) (loops : List Loop) (h : Handler) (e : Caught) → stateb w ≡ true → returns ≡ listed 50 (return_at w) → loops ≡ listed 16 (loop_at w)
+  pub read_all : (returns : List ℕ) (loops : List Loop) (h : Option ℕ) (e : Option Caught) → stateb w ≡ true → returns ≡ listed 50 (return_at w) → loops ≡ listed 16 (loop_at w)
       → h ≡ handler_of (get_or w 101 0)
       → e ≡ caught_of (get_or w 102 0) (get_or w 103 0)
       → ◌≡◌ {A = State} (record { at = get_or w 0 0; depth = get_or w 1 0; returns = returns; opened = get_or w 52 0; loops = loops; trap = record { handler = h; caught = e } }) (state_of w)
   unfolding state_of
   read_all returns loops h e f p q r t = rw (f, p, q, r, t)
 
--- ---- a signed number, and a slot
-
-minus : (m : ℕ) → negsuc 0 -ℤ pos m ≡ negsuc m
-minus zero = refl
-minus (suc m) = let e : 0 + m ≡ m = omega arith in rw e
-
-module _ (x : ℕ) where
-  pub value_plain : x < 1000000000000000000 → to_z w64 x ≡ value_of x
-  value_plain h = rw (lt-ltb x 1000000000000000000 h) (back {z = pos x} (abs_fits (omega arith)))
-
-  module _ (h : 1000000000000000000 ≤ x) (e : valueb x ≡ true) where
-    far : 17446744073709551616 < x
-    far = ltb-true 17446744073709551616 x (rw (le-ltb x 1000000000000000000 h) at e)
-
-    pub high_cast : SFits w64 (pos (18446744073709551615 - x))
-    high_cast = abs_fits (omega (arith, far))
-
-    turned : SFits w64 (negsuc (18446744073709551615 - x))
-    turned = abs_fits (omega (arith, far))
-
-    pub high_fits : SFits w64 (negsuc 0 -ℤ to_z w64 (18446744073709551615 - x))
-    high_fits = rw (back high_cast, minus (18446744073709551615 - x)) turned
-
-    pub high_value : to_z w64 (of_z w64 (negsuc 0 -ℤ to_z w64 (18446744073709551615 - x))) ≡ value_of x
-    high_value = rw (le-ltb x 1000000000000000000 h, back high_cast, minus (18446744073709551615 - x)) (back turned)
+-- ---- a slot
 
 pub loop_read : (w : List ℕ) (k : ℕ) (x x' y y' : ℤ) → x ≡ value_of (get_or w (k * 3 + 54) 0) → x' ≡ x → y ≡ value_of (get_or w (k * 3 + 55) 0) → y' ≡ y
     → ◌≡◌ {A = Loop} (record { entry = get_or w (k * 3 + 53) 0; limit = x'; step = y' }) (loop_at w k)
 loop_read w k x x' y y' e f g h = rw (f, e, h, g)
-
-pub none_state : (x : Loop) (z : State) → x ≡ no_loop → z ≡ record { at = 65535; depth = 0; returns = replicate 50 0; opened = 0; loops = replicate 16 x; trap = record { handler = handler.None; caught = caught.None } } → z ≡ no_state
-none_state x z e q = q ∙ rw e
 
 -- The numbers of a state.
 module _ (w : List ℕ) (t : stateb w ≡ true) where

@@ -2,14 +2,16 @@
 #![tactic(auto)]
 
 ghost use Rattle.std.specs.Prelude.{◌≡◌, true, [], ◌∷◌, ◌<◌, ◌≤◌, ltb, eqb, nat_abs, length};
+ghost use Rattle.unit_decode.specs.Units.{code_in};
 ghost use Rattle.rules.specs.Values.{Top};
-ghost use Rattle.rules_unit.specs.Decode.{Fills, SoundDialect, code_of};
+ghost use Rattle.rules_unit.specs.Decode.{SoundDialect};
 ghost use Rattle.rules_run.specs.States.{returnb, returnsb, loopb, emptyb, slotb, slotsb, handlerb, caughtb, soundb};
 ghost use Rattle.rules_host.specs.Laid.{laid};
 ghost use Rattle.rules_host.specs.Numbers.{listed, word, valueb, value_of, loop_number, handler_number, error_number, error_place, handled_number, number_at, numbers_of, signedb, goodb, good_from, pairb, stateb, no_state, return_at, loop_at, handler_of, caught_of, state_of};
 
-use rules_run::{Caught, Handler, Loop, State, Trap};
+use rules_run::{Caught, Loop, State, Trap};
 use rules_unit::Parts;
+use unit_decode::Coded;
 
 // ---- calls
 
@@ -17,24 +19,17 @@ use rules_unit::Parts;
 fn return_sound(n: u16, depth: u16, i: u16, x: u16) -> bool
     ensures { result ≡ returnb n depth i x }
 {
-    if i < depth {
-        return x <= n;
-    }
-    x == 0
+    if i < depth { x <= n } else { x == 0 }
 }
 
 // Whether all return numbers are.
 fn returns_sound(n: u16, depth: u16, returns: [u16; 50]) -> bool
     ensures { result ≡ returnsb n depth 0 returns }
 {
-    let mut i: u16 = 0;
-    while i < 50 {
-        let at = i as usize;
-        let x = returns[at];
-        if !return_sound(n, depth, i, x) {
+    for i in 0..50 {
+        if !return_sound(n, depth, i, returns[usize::from(i)]) {
             return false;
         }
-        i += 1;
     }
     true
 }
@@ -46,85 +41,60 @@ fn is_below(v: i64, top: u64) -> bool
     requires { Top top }
     ensures { result ≡ ltb (nat_abs v) top }
 {
-    let most = top as i64;
-    if most <= v {
-        return false;
-    }
-    0 - most < v
+    v.unsigned_abs() < top
 }
 
 // Whether a number is zero.
 fn is_zero(v: i64) -> bool
     ensures { result ≡ eqb (nat_abs v) 0 }
 {
-    if v == 0 {
-        return true;
-    }
-    false
+    v == 0
 }
 
 // Whether an open loop is one of the unit: it names a FOR, its limit and its step lie in the range of values, and its step is not zero.
-fn loop_sound(unit: &[u8], parts: Parts, l: Loop) -> bool
-    requires fills { Fills unit.now parts }
-    requires sound_dialect { SoundDialect parts.dialect }
-    ensures { result ≡ loopb (code_of unit.now parts) l }
+#[tactic(auto, unfolding(rules_run::specs::States::loopb))]
+fn loop_sound(coded: &Coded, l: Loop) -> bool
+    requires { SoundDialect coded.now.parts.dialect }
+    ensures { result ≡ loopb (code_in coded.now) l }
 {
-    if parts.n <= l.entry {
-        return false;
-    }
-    if unit_decode::statement(unit, parts, l.entry).code != 14 {
-        return false;
-    }
-    let top = parts.dialect.top;
-    if !is_below(l.limit, top) {
-        return false;
-    }
-    if !is_below(l.step, top) {
-        return false;
-    }
-    !is_zero(l.step)
+    let top = coded.parts.dialect.top;
+    l.entry < coded.parts.n
+        && coded.statement(l.entry).code == 14
+        && is_below(l.limit, top)
+        && is_below(l.step, top)
+        && !is_zero(l.step)
 }
 
 // Whether a slot is zero.
+#[tactic(auto, unfolding(rules_run::specs::States::emptyb))]
 fn is_empty(l: Loop) -> bool
     ensures { result ≡ emptyb l }
 {
-    if l.entry != 0 {
-        return false;
-    }
-    if is_zero(l.limit) {
-        return is_zero(l.step);
-    }
-    false
+    l.entry == 0 && is_zero(l.limit) && is_zero(l.step)
 }
 
 // Whether the slot i is that of an open loop, or zero.
-fn slot_sound(unit: &[u8], parts: Parts, opened: u16, i: u16, l: Loop) -> bool
-    requires fills { Fills unit.now parts }
-    requires sound_dialect { SoundDialect parts.dialect }
-    ensures { result ≡ slotb (code_of unit.now parts) opened i l }
+fn slot_sound(coded: &Coded, opened: u16, i: u16, l: Loop) -> bool
+    requires { SoundDialect coded.now.parts.dialect }
+    ensures { result ≡ slotb (code_in coded.now) opened i l }
 {
     if i < opened {
-        return loop_sound(unit, parts, l);
+        loop_sound(coded, l)
+    } else {
+        is_empty(l)
     }
-    is_empty(l)
 }
 
 // Whether all slots are. That there are 16 is said here, for a caller that has them inside a state.
-fn slots_sound(unit: &[u8], parts: Parts, opened: u16, loops: [Loop; 16]) -> bool
-    requires fills { Fills unit.now parts }
-    requires sound_dialect { SoundDialect parts.dialect }
-    ensures value { result ≡ slotsb (code_of unit.now parts) opened 0 loops }
+fn slots_sound(coded: &Coded, opened: u16, loops: [Loop; 16]) -> bool
+    requires { SoundDialect coded.now.parts.dialect }
+    ensures value { result ≡ slotsb (code_in coded.now) opened 0 loops }
     ensures loops_len { length loops ≡ 16 }
 {
-    let mut i: u16 = 0;
-    while i < 16 {
-        let at = i as usize;
-        let l = loops[at];
-        if !slot_sound(unit, parts, opened, i, l) {
+    for i in 0..16 {
+        if !slot_sound(coded, opened, i, loops[usize::from(i)]) {
             return false;
         }
-        i += 1;
     }
     true
 }
@@ -132,62 +102,57 @@ fn slots_sound(unit: &[u8], parts: Parts, opened: u16, loops: [Loop; 16]) -> boo
 // ---- the handler and the last error
 
 // Whether a handler is one of n statements.
-fn handler_sound(n: u16, h: Handler) -> bool
+fn handler_sound(n: u16, h: Option<u16>) -> bool
     ensures { result ≡ handlerb n h }
 {
     match h {
-        Handler::None => true,
-        Handler::At(i) => i < n,
+        None => true,
+        Some(i) => i < n,
     }
 }
 
 // Whether a last error is one that is trapped, of one of n statements.
-fn caught_sound(n: u16, e: Caught) -> bool
+fn caught_sound(n: u16, e: Option<Caught>) -> bool
     ensures { result ≡ caughtb n e }
 {
     match e {
-        Caught::None => true,
-        Caught::Error { number, statement } => {
-            if !rules::trapped(number) {
-                return false;
-            }
-            statement < n
-        }
+        None => true,
+        Some(e) => rules::trapped(e.number) && e.statement < n,
     }
 }
 
 // ---- a sound state
 
 // Whether a resume state is sound for a unit.
-pub fn sound(unit: &[u8], parts: Parts, s: State) -> bool
-    requires fills { Fills unit.now parts }
-    requires sound_dialect { SoundDialect parts.dialect }
-    ensures { result ≡ soundb (code_of unit.now parts) s }
+#[tactic(auto, unfolding(rules_run::specs::States::soundb))]
+pub fn sound(coded: &Coded, s: State) -> bool
+    requires { SoundDialect coded.now.parts.dialect }
+    ensures { result ≡ soundb (code_in coded.now) s }
 {
-    if parts.n < s.at {
+    if coded.parts.n < s.at {
         return false;
     }
     if 50 < s.depth {
         return false;
     }
     let returns = s.returns;
-    if !returns_sound(parts.n, s.depth, returns) {
+    if !returns_sound(coded.parts.n, s.depth, returns) {
         return false;
     }
     if 16 < s.opened {
         return false;
     }
     let loops = s.loops;
-    if !slots_sound(unit, parts, s.opened, loops) {
+    if !slots_sound(coded, s.opened, loops) {
         return false;
     }
     let trap = s.trap;
     let handler = trap.handler;
-    if !handler_sound(parts.n, handler) {
+    if !handler_sound(coded.parts.n, handler) {
         return false;
     }
     let caught = trap.caught;
-    caught_sound(parts.n, caught)
+    caught_sound(coded.parts.n, caught)
 }
 
 // ---- from a state to its numbers
@@ -196,73 +161,54 @@ pub fn sound(unit: &[u8], parts: Parts, s: State) -> bool
 pub fn put_two(numbers: &mut [u64], a: u64, b: u64)
     ensures { numbers.new ≡ laid (a ∷ b ∷ []) numbers.old }
 {
-    let n = numbers.len();
-    if n < 1 {
-        return;
-    }
-    numbers[0] = a;
-    if n < 2 {
-        return;
-    }
-    numbers[1] = b;
+    rules_host::lay(&[a, b], numbers)
 }
 
 // The number that stands for a value: two's complement, as C holds it.
 fn word(v: i64) -> u64
     ensures { result ≡ word v }
 {
-    if v < 0 {
-        return 18446744073709551615 - (-(v + 1)) as u64;
-    }
-    v as u64
+    v.cast_unsigned()
 }
 
 // The entry, the limit or the step of a slot.
 fn loop_number(l: Loop, r: usize) -> u64
     ensures { result ≡ loop_number l r }
 {
-    if r == 0 {
-        return l.entry as u64;
+    match r {
+        0 => u64::from(l.entry),
+        1 => word(l.limit),
+        _ => word(l.step),
     }
-    if r == 1 {
-        return word(l.limit);
-    }
-    word(l.step)
 }
 
 // The handler and one more, 0 where there is none.
-fn handler_number(h: Handler) -> u64
+fn handler_number(h: Option<u16>) -> u64
     ensures { result ≡ handler_number h }
 {
     match h {
-        Handler::None => 0,
-        Handler::At(i) => i as u64 + 1,
+        None => 0,
+        Some(i) => u64::from(i) + 1,
     }
 }
 
 // The number of the last error, 0 where there is none.
-fn error_number(e: Caught) -> u64
+fn error_number(e: Option<Caught>) -> u64
     ensures { result ≡ error_number e }
 {
     match e {
-        Caught::None => 0,
-        Caught::Error {
-            number,
-            statement: _,
-        } => number as u64,
+        None => 0,
+        Some(e) => u64::from(e.number),
     }
 }
 
 // The statement of the last error, 0 where there is none.
-fn error_place(e: Caught) -> u64
+fn error_place(e: Option<Caught>) -> u64
     ensures { result ≡ error_place e }
 {
     match e {
-        Caught::None => 0,
-        Caught::Error {
-            number: _,
-            statement,
-        } => statement as u64,
+        None => 0,
+        Some(e) => u64::from(e.statement),
     }
 }
 
@@ -283,21 +229,22 @@ fn handled_number(s: State, k: usize) -> u64
 }
 
 // The number k of a state.
+#[tactic(auto, unfolding(rules_host::specs::Numbers::number_at))]
 fn number_at(s: State, k: usize) -> u64
     requires { k < 104 }
     ensures { result ≡ number_at s k }
 {
     if k == 0 {
-        return s.at as u64;
+        return u64::from(s.at);
     }
     if k == 1 {
-        return s.depth as u64;
+        return u64::from(s.depth);
     }
     if k < 52 {
-        return s.returns[k - 2] as u64;
+        return u64::from(s.returns[k - 2]);
     }
     if k == 52 {
-        return s.opened as u64;
+        return u64::from(s.opened);
     }
     if k < 101 {
         return loop_number(s.loops[(k - 53) / 3], (k - 53) % 3);
@@ -309,13 +256,8 @@ fn number_at(s: State, k: usize) -> u64
 pub fn write_state(numbers: &mut [u64], s: State)
     ensures { numbers.new ≡ laid (numbers_of s) numbers.old }
 {
-    let mut k: usize = 0;
-    while k < 104 {
-        if numbers.len() <= k {
-            return;
-        }
+    for k in 0..numbers.len().min(104) {
         numbers[k] = number_at(s, k);
-        k += 1;
     }
 }
 
@@ -325,10 +267,7 @@ pub fn write_state(numbers: &mut [u64], s: State)
 fn value_good(x: u64) -> bool
     ensures { result ≡ valueb x }
 {
-    if x < 1000000000000000000 {
-        return true;
-    }
-    17446744073709551616 < x
+    x < 1000000000000000000 || 17446744073709551616 < x
 }
 
 // The value that a number stands for.
@@ -336,48 +275,38 @@ fn value_of(x: u64) -> i64
     requires { valueb x ≡ true }
     ensures { result ≡ value_of x }
 {
-    if x < 1000000000000000000 {
-        return x as i64;
-    }
-    -1 - (18446744073709551615 - x) as i64
+    x.cast_signed()
 }
 
 // Whether the number k is a limit or a step.
 fn is_signed(k: usize) -> bool
     ensures { result ≡ signedb k }
 {
-    if k < 53 {
-        return false;
-    }
-    if 101 <= k {
-        return false;
-    }
-    0 < (k - 53) % 3
+    53 <= k && k < 101 && 0 < (k - 53) % 3
 }
 
 // Whether the number x stands for something at the place k.
+#[tactic(auto, unfolding(rules_host::specs::Numbers::goodb))]
 fn number_good(k: usize, x: u64) -> bool
     ensures { result ≡ goodb k x }
 {
     if is_signed(k) {
-        return value_good(x);
+        value_good(x)
+    } else if k == 102 {
+        x <= 255
+    } else {
+        x <= 65535
     }
-    if k == 102 {
-        return x <= 255;
-    }
-    x <= 65535
 }
 
 // Whether all numbers do.
 fn all_good(numbers: &[u64]) -> bool
     ensures { result ≡ good_from 0 numbers.now }
 {
-    let mut k: usize = 0;
-    while k < numbers.len() {
-        if !number_good(k, numbers[k]) {
+    for (k, x) in numbers.iter().enumerate() {
+        if !number_good(k, *x) {
             return false;
         }
-        k += 1;
     }
     true
 }
@@ -386,13 +315,11 @@ fn all_good(numbers: &[u64]) -> bool
 fn pair_good(number: u64, statement: u64) -> bool
     ensures { result ≡ pairb number statement }
 {
-    if number == 0 {
-        return statement == 0;
-    }
-    true
+    number != 0 || statement == 0
 }
 
 // Whether numbers are those of a state.
+#[tactic(auto, unfolding(rules_host::specs::Numbers::stateb))]
 fn is_state(numbers: &[u64]) -> bool
     ensures { result ≡ stateb numbers.now }
 {
@@ -412,10 +339,8 @@ fn returns_of(numbers: &[u64]) -> [u16; 50]
     ensures { result ≡ listed 50 (return_at numbers.now) }
 {
     let mut returns = [0u16; 50];
-    let mut i: usize = 0;
-    while i < 50 {
+    for i in 0..50 {
         returns[i] = numbers[i + 2] as u16;
-        i += 1;
     }
     returns
 }
@@ -430,11 +355,7 @@ fn loop_at(numbers: &[u64], k: usize) -> Loop
     let entry = numbers[k * 3 + 53] as u16;
     let limit = value_of(numbers[k * 3 + 54]);
     let step = value_of(numbers[k * 3 + 55]);
-    Loop {
-        entry: entry,
-        limit: limit,
-        step: step,
-    }
+    Loop { entry, limit, step }
 }
 
 // The slots.
@@ -445,38 +366,36 @@ fn loops_of(numbers: &[u64]) -> [Loop; 16]
 {
     let none = rules_run::no_loop();
     let mut loops = [none; 16];
-    let mut k: usize = 0;
-    while k < 16 {
+    for k in 0..16 {
         loops[k] = loop_at(numbers, k);
-        k += 1;
     }
     loops
 }
 
 // The handler.
-fn handler_of(x: u64) -> Handler
+fn handler_of(x: u64) -> Option<u16>
     requires { x ≤ 65535 }
     ensures { result ≡ handler_of x }
 {
     if x == 0 {
-        return Handler::None;
+        return None;
     }
-    Handler::At((x - 1) as u16)
+    Some((x - 1) as u16)
 }
 
 // The last error.
-fn caught_of(number: u64, statement: u64) -> Caught
+fn caught_of(number: u64, statement: u64) -> Option<Caught>
     requires number_bound { number ≤ 255 }
     requires statement_bound { statement ≤ 65535 }
     ensures { result ≡ caught_of number statement }
 {
     if number == 0 {
-        return Caught::None;
+        return None;
     }
-    Caught::Error {
+    Some(Caught {
         number: number as u8,
         statement: statement as u16,
-    }
+    })
 }
 
 // A state that is sound for no unit, since no unit has so many statements.
@@ -491,13 +410,14 @@ fn no_state() -> State
         opened: 0,
         loops: [none; 16],
         trap: Trap {
-            handler: Handler::None,
-            caught: Caught::None,
+            handler: None,
+            caught: None,
         },
     }
 }
 
 // The state that the numbers of one stand for.
+#[tactic(auto, using(crate::proofs::Reading::told), unfolding(rules_host::specs::Numbers::state_of))]
 fn state_of(numbers: &[u64]) -> State
     requires { stateb numbers.now ≡ true }
     ensures { result ≡ state_of numbers.now }
@@ -510,25 +430,24 @@ fn state_of(numbers: &[u64]) -> State
     let handler = handler_of(numbers[101]);
     let caught = caught_of(numbers[102], numbers[103]);
     State {
-        at: at,
-        depth: depth,
-        returns: returns,
-        opened: opened,
-        loops: loops,
-        trap: Trap {
-            handler: handler,
-            caught: caught,
-        },
+        at,
+        depth,
+        returns,
+        opened,
+        loops,
+        trap: Trap { handler, caught },
     }
 }
 
 // The state that 104 numbers stand for: the statement, the open calls, the 50 return numbers, the open loops, the 16 slots, the handler and the last error.
 // Another count than 104, or a number that stands for nothing at its place, stands for no state.
+#[tactic(auto, unfolding(rules_host::specs::Numbers::state_of))]
 pub fn read_state(numbers: &[u64]) -> State
     ensures { result ≡ state_of numbers.now }
 {
     if is_state(numbers) {
-        return state_of(numbers);
+        state_of(numbers)
+    } else {
+        no_state()
     }
-    no_state()
 }

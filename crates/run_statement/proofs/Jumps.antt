@@ -1,5 +1,6 @@
 -- Where a jump on a number goes on: one law for each way out of the code.
 -- Assumes nothing.
+use Rattle.std.specs.Prelude.{Result, Err, Ok}
 use Prim.Native.Nat.{ℕ, zero, suc, ◌+◌, ◌*◌, ◌^◌, ◌<◌, ◌≤◌}
 use native.Mathlib.Omega.{arith}
 use mathlib.Core.Path.{◌≡◌, refl, sym, ◌∙◌, ap}
@@ -11,8 +12,6 @@ use borrow.Author.Tests.{le-leb, lt-leb}
 use mir.Syntax.{w64}
 use mir.Val.{SFits, to_z, of_z}
 use Rattle.rules.specs.declared.Fault.{Fault}
-use Rattle.rules.specs.declared.Num.{Num}
-use Rattle.rules.specs.declared.Num.TheVariants.{Value, Failed}
 use Rattle.rules.specs.Values.{Val, is_neg}
 use Rattle.rules.proofs.Signed.{back, again, zero_abs, pos_abs}
 use Rattle.rules_unit.specs.Codes.{Code}
@@ -21,14 +20,14 @@ use Rattle.rules_run.specs.declared.Flow.{Flow}
 use Rattle.rules_run.specs.declared.Flow.TheVariants as flow
 use Rattle.rules_run.specs.declared.Turn.{Turn}
 use Rattle.rules_run.specs.Evaluation.{number_of}
-use Rattle.rules_run.specs.Turns.{failed, goes, on_number, if_zero, choose}
+use Rattle.rules_run.specs.Turns.{goes, on_number, if_zero, choose}
 
 -- x is what the callee found, w what the rule has, and r the number that it is
-module _ (c : Code) (d : List ℕ) (x w : Worked) (r : Num) (k : ℤ → Flow) (t : Turn) (e : x ≡ w) (q : r ≡ number_of c d x) where
-  pub jump_by : (f : Flow) {v : ℤ} → r ≡ Value v → SFits w64 v → f ≡ k (to_z w64 (of_z w64 v)) → t ≡ goes f → t ≡ on_number (number_of c d w) k
+module _ (c : Code) (d : List ℕ) (x w : Result Worked Fault) (r : Result ℤ Fault) (k : ℤ → Flow) (t : Result Turn Fault) (e : x ≡ w) (q : r ≡ number_of c d x) where
+  pub jump_by : (f : Flow) {v : ℤ} → r ≡ Ok v → SFits w64 v → f ≡ k (to_z w64 (of_z w64 v)) → t ≡ goes f → t ≡ on_number (number_of c d w) k
   jump_by f {v} h s g j = rw (← e, sym q ∙ h) (j ∙ ap goes (g ∙ ap k (back s)))
 
-  pub jump_failed : (f : Fault) → r ≡ Failed f → t ≡ failed f → t ≡ on_number (number_of c d w) k
+  pub jump_failed : (f : Fault) → r ≡ Err f → t ≡ Err f → t ≡ on_number (number_of c d w) k
   jump_failed f h j = rw (← e, sym q ∙ h) j
 
 -- ---- go to the target if a number is zero

@@ -1,5 +1,7 @@
 -- What is done at a place that is found, one law for each way.
 -- Assumes nothing.
+use Rattle.std.specs.Prelude.{Result}
+use Rattle.rules.specs.declared.Fault.{Fault}
 use Prim.Native.Nat.{ℕ}
 use mathlib.Core.Path.{◌≡◌, ◌∙◌, ap}
 use mathlib.Core.Bool.{Bool}
@@ -15,9 +17,9 @@ use Rattle.rules_unit.specs.declared.Act.TheVariants as act
 
 -- x is what the statement does there
 
-module _ (c : Code) (d : List ℕ) (x : Act) (s : Statement) (decimal : Bool) (a n : ℕ) (t : Turn) where
+module _ (c : Code) (d : List ℕ) (x : Act) (s : Statement) (decimal : Bool) (a n : ℕ) (t : Result Turn Fault) where
   -- y is what the callee found of the source
-  pub at_set : (y : Worked) → x ≡ act.Set → y ≡ worked_of c d (c.items s.b) → t ≡ move_worked c d decimal a n y → t ≡ act_at c d x s decimal a n
+  pub at_set : (y : Result Worked Fault) → x ≡ act.Set → y ≡ worked_of c d (c.items s.b) → t ≡ move_worked c d decimal a n y → t ≡ act_at c d x s decimal a n
   at_set y h e q = rw h (q ∙ ap (move_worked c d decimal a n) e)
 
   -- the others

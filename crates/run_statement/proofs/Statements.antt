@@ -1,6 +1,8 @@
 -- What a statement answers: one law for every verb, and one for the verbs that work on loops. And the numbers of statements that are words, since what
 -- they number lies inside the unit.
 -- Assumes nothing.
+use Rattle.rules.specs.declared.Fault.{Fault}
+use Rattle.std.specs.Prelude.{Result}
 use Prim.Native.Nat.{ℕ, ◌+◌, ◌<◌}
 use native.Mathlib.Omega.{arith}
 use mathlib.Core.Path.{◌≡◌, ap, sym, ◌∙◌, subst}
@@ -19,12 +21,12 @@ use Rattle.run_passes.specs.Passes.{loop_turn}
 -- s is the statement as the code decodes it, v its verb
 module _ (c : Code) (i : ℕ) (s : Statement) (v w : Verb) (e : s ≡ c.statement i) (f : v ≡ verb_of s.code) (h : v ≡ w) where
   -- t is what the arm of w answers
-  pub turn_as : (l : Look) (d : List ℕ) (t : Turn) → t ≡ turn_by c l i d w s → t ≡ turn_of c l i d
+  pub turn_as : (l : Look) (d : List ℕ) (t : Result Turn Fault) → t ≡ turn_by c l i d w s → t ≡ turn_of c l i d
   unfolding turn_of
   turn_as l d t q = rw (← e, ← f, h) q
 
   -- t is what the callee answers that the statements which work on loops share
-  pub turn_loop : (l : Look) (d : List ℕ) (t : Turn) → t ≡ loop_turn c l d v s → loop_turn c l d w s ≡ turn_by c l i d w s → t ≡ turn_of c l i d
+  pub turn_loop : (l : Look) (d : List ℕ) (t : Result Turn Fault) → t ≡ loop_turn c l d v s → loop_turn c l d w s ≡ turn_by c l i d w s → t ≡ turn_of c l i d
   unfolding turn_of
   turn_loop l d t q g = rw (← e, ← f, h) ((rw h at q) ∙ g)
 

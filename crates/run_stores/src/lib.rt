@@ -2,15 +2,18 @@
 #![tactic(auto)]
 
 ghost use Rattle.std.specs.Prelude.{◌≡◌, cond, ◌+◌, ◌^◌, ◌≤◌, length, take, drop};
+ghost use Rattle.unit_decode.specs.Units.{code_in};
 ghost use Rattle.rules.specs.Values.{Val};
-ghost use Rattle.rules.specs.Charts.{Charts};
-ghost use Rattle.rules.specs.Moves.{written, shown, fitted, upper as toUpper, lower as toLower};
+ghost use Rattle.rules.specs.Moves.{written, shown, fitted};
 ghost use Rattle.rules.specs.Masks.{rightmost, formatted};
-ghost use Rattle.rules_unit.specs.Decode.{Fills, SoundDialect, code_of};
+ghost use Rattle.rules_unit.specs.Decode.{SoundDialect};
 ghost use Rattle.rules_run.specs.Turns.{stored, cased, cleared, applied, Room};
 
+use alpha::Cases;
+use number::Tens;
 use rules_run::Write;
 use rules_unit::Parts;
+use unit_decode::Coded;
 
 // A number in a decimal span.
 fn store_number(parts: Parts, bytes: &mut [u8], start: usize, len: usize, v: i64)
@@ -83,24 +86,15 @@ fn move_text(bytes: &mut [u8], start: usize, len: usize, from: usize, count: usi
 }
 
 // An alpha literal, which lies in the unit.
-fn store_literal(
-    unit: &[u8],
-    parts: Parts,
-    bytes: &mut [u8],
-    start: usize,
-    len: usize,
-    place: u16,
-    count: u16,
-)
-    requires fills { Fills unit.now parts }
+fn store_literal(coded: &Coded, bytes: &mut [u8], start: usize, len: usize, place: u16, count: u16)
     requires len_in_bounds { start + len ≤ length bytes.old }
-    requires count_in_bounds { place + count ≤ length (code_of unit.now parts).literals }
-    ensures { bytes.new ≡ stored bytes.old start (fitted len (take count (drop place (code_of unit.now parts).literals))) }
+    requires count_in_bounds { place + count ≤ length (code_in coded.now).literals }
+    ensures { bytes.new ≡ stored bytes.old start (fitted len (take count (drop place (code_in coded.now).literals))) }
 {
-    let from = unit_decode::literals_offset(parts) + unit_decode::long(place);
+    let from = unit_decode::literals_offset(coded.parts) + unit_decode::long(place);
     let to = from + unit_decode::long(count);
     let end = start + len;
-    alpha::fit(&mut bytes[start..end], &unit[from..to])
+    alpha::fit(&mut bytes[start..end], &coded.unit[from..to])
 }
 
 // The character that CLEAR writes: a zero to decimal, a space to alpha.
@@ -120,23 +114,15 @@ fn store_cleared(bytes: &mut [u8], start: usize, len: usize, decimal: bool)
 }
 
 // UPCASE or LOCASE of a span, by its chart.
-fn store_cased(
-    uppers: &[u8; 256],
-    lowers: &[u8; 256],
-    bytes: &mut [u8],
-    start: usize,
-    len: usize,
-    upper: bool,
-)
-    requires charts { Charts toUpper 256 uppers.now × Charts toLower 256 lowers.now }
-    requires len_in_bounds { start + len ≤ length bytes.old }
+fn store_cased(cases: &Cases, bytes: &mut [u8], start: usize, len: usize, upper: bool)
+    requires { start + len ≤ length bytes.old }
     ensures { bytes.new ≡ stored bytes.old start (cased upper (take len (drop start bytes.old))) }
 {
     let end = start + len;
     if upper {
-        return alpha::upcase(uppers, &mut bytes[start..end]);
+        return cases.upcase(&mut bytes[start..end]);
     }
-    alpha::locase(lowers, &mut bytes[start..end])
+    cases.locase(&mut bytes[start..end])
 }
 
 // A mask inside the data: the last of the count bytes at from, stored at the right end of the len bytes at start, with spaces before them.
@@ -160,18 +146,17 @@ fn format_in(bytes: &mut [u8], start: usize, len: usize, from: usize, count: usi
     requires val { Val (10 ^ 18) v }
     ensures { bytes.new ≡ stored bytes.old start (formatted len (take count (drop from bytes.old)) v) }
 {
-    let t = number::powers();
+    let tens = Tens::new();
     let last = from + count;
-    let g = run_masks::plan(&t, len, &bytes[from..last], v);
+    let g = run_masks::plan(&tens, len, &bytes[from..last], v);
     lay_text(bytes, start, len, from, count);
     let end = start + len;
-    run_masks::finish(&t, g, &mut bytes[start..end])
+    run_masks::finish(&tens, g, &mut bytes[start..end])
 }
 
 // A number by a mask that is an alpha literal, which lies in the unit.
 fn format_literal(
-    unit: &[u8],
-    parts: Parts,
+    coded: &Coded,
     bytes: &mut [u8],
     start: usize,
     len: usize,
@@ -179,36 +164,26 @@ fn format_literal(
     count: usize,
     v: i64,
 )
-    requires fills { Fills unit.now parts }
     requires len_in_bounds { start + len ≤ length bytes.old }
     requires val { Val (10 ^ 18) v }
-    requires count_in_bounds { place + count ≤ length (code_of unit.now parts).literals }
-    ensures { bytes.new ≡ stored bytes.old start (formatted len (take count (drop place (code_of unit.now parts).literals)) v) }
+    requires count_in_bounds { place + count ≤ length (code_in coded.now).literals }
+    ensures { bytes.new ≡ stored bytes.old start (formatted len (take count (drop place (code_in coded.now).literals)) v) }
 {
-    let from = unit_decode::literals_offset(parts) + place;
+    let from = unit_decode::literals_offset(coded.parts) + place;
     let to = from + count;
     let end = start + len;
-    run_masks::format(&mut bytes[start..end], &unit[from..to], v)
+    run_masks::format(&mut bytes[start..end], &coded.unit[from..to], v)
 }
 
 // Stores what a statement answered; UPCASE and LOCASE go by the charts. Data changes here and nowhere else.
-pub fn store(
-    unit: &[u8],
-    parts: Parts,
-    uppers: &[u8; 256],
-    lowers: &[u8; 256],
-    bytes: &mut [u8],
-    w: Write,
-)
-    requires charts { Charts toUpper 256 uppers.now × Charts toLower 256 lowers.now }
-    requires fills { Fills unit.now parts }
-    requires sound_dialect { SoundDialect parts.dialect }
-    requires room { Room (code_of unit.now parts) (length bytes.old) w }
-    ensures { bytes.new ≡ applied (code_of unit.now parts) bytes.old w }
+pub fn store(coded: &Coded, cases: &Cases, bytes: &mut [u8], w: Write)
+    requires sound_dialect { SoundDialect coded.now.parts.dialect }
+    requires room { Room (code_in coded.now) (length bytes.old) w }
+    ensures { bytes.new ≡ applied (code_in coded.now) bytes.old w }
 {
     match w {
         Write::Nothing => {}
-        Write::Number { start, len, value } => store_number(parts, bytes, start, len, value),
+        Write::Number { start, len, value } => store_number(coded.parts, bytes, start, len, value),
         Write::Show { start, len, value } => store_shown(bytes, start, len, value),
         Write::Move {
             start,
@@ -221,13 +196,13 @@ pub fn store(
             len,
             place,
             count,
-        } => store_literal(unit, parts, bytes, start, len, place, count),
+        } => store_literal(coded, bytes, start, len, place, count),
         Write::Clear {
             start,
             len,
             decimal,
         } => store_cleared(bytes, start, len, decimal),
-        Write::Case { start, len, upper } => store_cased(uppers, lowers, bytes, start, len, upper),
+        Write::Case { start, len, upper } => store_cased(cases, bytes, start, len, upper),
         Write::Edit {
             start,
             len,
@@ -241,6 +216,6 @@ pub fn store(
             place,
             count,
             value,
-        } => format_literal(unit, parts, bytes, start, len, place, count, value),
+        } => format_literal(coded, bytes, start, len, place, count, value),
     }
 }

@@ -3,16 +3,11 @@
 use Prim.Native.Nat.{ℕ}
 use mathlib.Core.Path.{◌≡◌, sym, ap, ◌∙◌}
 use mathlib.Core.List.{List}
-use lib.ListN.{length}
 use Prim.Native.String.{String}
 use borrow.Author.Tests.{ne_eqb}
 use Rattle.rules.proofs.Walk.{cond_no}
 use Rattle.rules_host.specs.Laid.{laid}
 use Rattle.rules_host.specs.Words.{Said, said, codes, stop_text, words_of, said_of, breach_text, breach_words_of, breach_said}
-
--- What `put` leaves.
-pub put_by : (xs l m : List ℕ) (n : ℕ) → n ≡ length xs → m ≡ laid xs l → ◌≡◌ {A = Said} (record { size = n; text = m }) (said xs l)
-put_by xs l m n e f = rw (e, f)
 
 -- The number is k, whose words are ws; and they were put.
 pub said_by : (n k : ℕ) (ws t : List ℕ) (z : Said) → n ≡ k → z ≡ said ws t → words_of k ≡ ws → z ≡ said_of n t

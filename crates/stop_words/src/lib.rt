@@ -8,16 +8,8 @@ ghost use Rattle.rules_host.specs.Words.{Said, said, said_of, breach_said};
 fn put(from: &[u8], text: &mut [u8]) -> usize
     ensures { ◌≡◌ {A = Said} (record { size = result; text = text.new }) (said from.now text.old) }
 {
-    let n = from.len();
-    let mut i: usize = 0;
-    while i < n {
-        if text.len() <= i {
-            return n;
-        }
-        text[i] = from[i];
-        i += 1;
-    }
-    n
+    rules_host::lay(from, text);
+    from.len()
 }
 
 // The words of a stop's number. The answer is their whole length, also where `text` is shorter; as many of their bytes as fit are

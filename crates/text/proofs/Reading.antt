@@ -1,5 +1,6 @@
 -- Laws of reading a decimal, one for each way through the loops of `text::read` and `text::figures` and each way out of them.
 -- Assumes nothing.
+use Rattle.std.specs.Prelude.{Err, Ok}
 use mathlib.Core.Path.{◌≡◌, refl, sym, ap, ◌∙◌}
 use mathlib.Core.Bool.{true, false}
 use mathlib.Core.List.{List, [], ◌∷◌}
@@ -10,18 +11,17 @@ use lib.IntN.{pos}
 use lib.ListN.{length, get_or, drop, drop_of_length-le}
 use lib.Seq.{drop-cons}
 use borrow.Author.Tests.{lt-ltb, le-ltb, ne_eqb}
-use Rattle.rules.specs.declared.Num.TheVariants.{Value, Failed}
 use Rattle.rules.specs.declared.Fault.TheVariants as fault
 use Rattle.rules.specs.Values.{is_from, last_digit, read_from, padded_read, read_of}
 
 -- ---- before the loops
 
-pub read_empty : (limit sign : ℕ) (s : List ℕ) → length s ≡ 0 → read_of limit sign s ≡ Failed fault.BadDigit
+pub read_empty : (limit sign : ℕ) (s : List ℕ) → length s ≡ 0 → read_of limit sign s ≡ Err fault.BadDigit
 unfolding read_of
 read_empty limit sign [] e = refl
 read_empty limit sign (b ∷ bs) e = absurd (omega arith)
 
-pub read_long : (limit sign : ℕ) (s : List ℕ) → limit < length s → read_of limit sign s ≡ Failed fault.TooLong
+pub read_long : (limit sign : ℕ) (s : List ℕ) → limit < length s → read_of limit sign s ≡ Err fault.TooLong
 unfolding read_of
 read_long limit sign [] h = absurd (omega arith)
 read_long limit sign (b ∷ bs) h = simp (lt-ltb limit (suc (length bs)) h)
@@ -46,14 +46,14 @@ module _ (sign : ℕ) (s : List ℕ) (i : ℕ) where
   unfolding padded_read
   padded_figures h n = rw (drop_next s i h, ne_eqb (get_or s i 0) 32 n)
 
-  pub padded_empty : length s ≤ i → padded_read sign (drop i s) ≡ Value (pos 0)
+  pub padded_empty : length s ≤ i → padded_read sign (drop i s) ≡ Ok (pos 0)
   unfolding padded_read
   padded_empty h = rw (drop_of_length-le s h)
 
 -- ---- one character
 
 module _ (sign acc : ℕ) (s : List ℕ) (i : ℕ) where
-  pub read_bad : i + 1 < length s → is_from 48 (get_or s i 0) ≡ false → read_from sign acc (get_or s i 0) (drop (i + 1) s) ≡ Failed fault.BadDigit
+  pub read_bad : i + 1 < length s → is_from 48 (get_or s i 0) ≡ false → read_from sign acc (get_or s i 0) (drop (i + 1) s) ≡ Err fault.BadDigit
   unfolding read_from
   read_bad h e = rw (drop_next s (i + 1) h) (simp e)
 

@@ -1,10 +1,10 @@
 -- Laws of text that is written from the right, and of a number's width: each character goes by its place counted from the right.
 -- Assumes nothing.
 use mathlib.Core.Path.{◌≡◌, refl, sym, ap, ap₂, ◌∙◌}
-use mathlib.Core.Bool.{true, false}
+use mathlib.Core.Bool.{true}
 use mathlib.Core.List.{List, [], ◌∷◌}
 use Prim.Native.Nat.{ℕ, zero, suc, ◌+◌, ◌-◌, ◌/◌, ◌%◌, ◌^◌, ◌≤◌, ◌<◌}
-use native.Mathlib.Nat.{pow-suc, div-div-eq-div-mul, div-one, le_refl, sub_self, sub-zero, mod-lt}
+use native.Mathlib.Nat.{pow-suc, div-div-eq-div-mul, div-one, le_refl, sub_self, mod-lt}
 use native.Mathlib.Numerals.{add-one}
 use native.Mathlib.Omega.{arith}
 use lib.Dec.{lit<}
@@ -34,10 +34,6 @@ module _ (f : ℕ → ℕ) where
       let k : n - (i - 1) ≡ suc (n - i) = omega arith in
       let j : i - 1 + 1 ≡ i = omega arith in
       rw k (right_more s (i - 1) (n - i) b (omega arith) (ap (λ (x : ℕ). drop x s) j ∙ d) e)
-
-  pub right_end : (s : List ℕ) (n i : ℕ) → i ≤ 0 → drop i s ≡ placed f (n - i) → s ≡ placed f n
-  right_end s n zero h e = e ∙ ap (placed f) (sub-zero n)
-  right_end s n (suc i) h e = absurd (omega arith)
 
 -- ---- the digits that are left
 
@@ -75,12 +71,6 @@ some_room (suc n) m h = omega arith
 
 pub written_minus : (sign n : ℕ) (v : ℤ) → is_neg v ≡ true → 0 < nat_abs v % 10 ^ n → written sign n v ≡ placed (digit_at sign (nat_abs v)) n
 written_minus sign n v e h = simp (e, lt-ltb 0 (nat_abs v % 10 ^ n) h)
-
-pub written_zero : (sign n : ℕ) (v : ℤ) → is_neg v ≡ true → nat_abs v % 10 ^ n ≤ 0 → written sign n v ≡ placed (digit_at 48 (nat_abs v)) n
-written_zero sign n v e h = simp (e, le-ltb 0 (nat_abs v % 10 ^ n) h)
-
-pub written_plain : (sign n : ℕ) (v : ℤ) → is_neg v ≡ false → written sign n v ≡ placed (digit_at 48 (nat_abs v)) n
-written_plain sign n v e = simp e
 
 -- ---- the width: with w digits tried, 18 - w are still to be tried
 

@@ -3,77 +3,70 @@
 
 ghost use Rattle.std.specs.Prelude.{◌≡◌, ◌+◌, ◌^◌, ◌≤◌, ◌<◌, length, get_or, drop};
 ghost use Rattle.rules.specs.Values.{Val, Top, Limit, Letters, last_digit, read_from, read_of};
-ghost use Rattle.rules.specs.Arithmetic.{Powers};
 ghost use Rattle.rules.specs.Moves.{placed, digit_at, written, width, shown_at, shown, alpha_of};
 
-use rules::{Fault, Num};
+use number::Tens;
+use rules::Fault;
 
 // The number of a decimal whose last character is b, after the digits of acc; 22 where b is neither a digit nor a sign letter.
-fn last_digit(sign: u64, acc: u64, b: u64) -> Num
+fn last_digit(sign: u64, acc: u64, b: u64) -> Result<i64, Fault>
     requires letters { Letters sign }
     requires acc_bound { acc < 10 ^ 17 }
     ensures { result ≡ last_digit sign acc b }
 {
     if b < 48 {
-        return Num::Failed(Fault::BadDigit);
+        return Err(Fault::BadDigit);
     }
     if b < 58 {
-        return Num::Value(number::with_sign(false, acc * 10 + (b - 48)));
+        return Ok(number::with_sign(false, acc * 10 + (b - 48)));
     }
     if b < sign {
-        return Num::Failed(Fault::BadDigit);
+        return Err(Fault::BadDigit);
     }
     if b < sign + 10 {
-        return Num::Value(number::with_sign(true, acc * 10 + (b - sign)));
+        return Ok(number::with_sign(true, acc * 10 + (b - sign)));
     }
-    Num::Failed(Fault::BadDigit)
+    Err(Fault::BadDigit)
 }
 
 // Reads the characters of a decimal that stand at `from` and behind it; 22 where they are not valid. Its caller has passed over spaces before them.
-fn figures(sign: u64, s: &[u8], from: usize) -> Num
+// Tried: the loop over a part of s that starts at `from`, 2.7 % more instructions in a whole run.
+fn figures(sign: u64, s: &[u8], from: usize) -> Result<i64, Fault>
     requires from_in_bounds { (from < length s.now) × (length s.now ≤ 18) }
     requires letters { Letters sign }
     ensures { result ≡ read_from sign 0 (get_or s.now from 0) (drop (from + 1) s.now) }
 {
     let end = s.len() - 1;
     let mut acc: u64 = 0;
-    let mut i = from;
-    while i < end {
-        let b = number::of_byte(s[i]);
-        if b < 48 {
-            return Num::Failed(Fault::BadDigit);
-        }
-        if 57 < b {
-            return Num::Failed(Fault::BadDigit);
+    for i in from..end {
+        let b = u64::from(s[i]);
+        if b < 48 || 57 < b {
+            return Err(Fault::BadDigit);
         }
         acc = acc * 10 + (b - 48);
-        i += 1;
     }
-    last_digit(sign, acc, number::of_byte(s[end]))
+    last_digit(sign, acc, u64::from(s[end]))
 }
 
 // Reads a decimal, of which leading spaces are zeros: 20 where it is longer than limit, spaces counted, and 22 where it is not valid.
-pub fn read(limit: usize, sign: u64, s: &[u8]) -> Num
+pub fn read(limit: usize, sign: u64, s: &[u8]) -> Result<i64, Fault>
     requires limit { Limit limit }
     requires letters { Letters sign }
     ensures { result ≡ read_of limit sign s.now }
 {
-    let n = s.len();
-    if n == 0 {
-        return Num::Failed(Fault::BadDigit);
+    if s.is_empty() {
+        return Err(Fault::BadDigit);
     }
-    if limit < n {
-        return Num::Failed(Fault::TooLong);
+    if limit < s.len() {
+        return Err(Fault::TooLong);
     }
-    let mut from = 0;
-    while from < n {
-        let other = s[from] != 32;
+    for (from, b) in s.iter().enumerate() {
+        let other = *b != 32;
         if other {
             return figures(sign, s, from);
         }
-        from += 1;
     }
-    Num::Value(0)
+    Ok(0)
 }
 
 // The last digits of m, as many as there is room for, from the right.
@@ -81,11 +74,9 @@ fn put_digits(s: &mut [u8], m: u64)
     ensures { s.new ≡ placed (digit_at 48 m) (length s.old) }
 {
     let mut left = m;
-    let mut i = s.len();
-    while 0 < i {
-        i -= 1;
+    for i in (0..s.len()).rev() {
         s[i] = (48 + left % 10) as u8;
-        left = left / 10;
+        left /= 10;
     }
 }
 
@@ -109,35 +100,26 @@ pub fn write(sign: u8, s: &mut [u8], v: i64)
 }
 
 // How many digits m has.
-fn width_of(m: u64) -> usize
+fn width_of(tens: &Tens, m: u64) -> usize
     ensures { (result ≡ width m) × (result ≤ 18) }
 {
-    let t = number::powers();
-    let mut w = 1;
-    while w < 18 {
-        if m < t[w] {
+    for w in 1..18 {
+        if m < tens.power(w) {
             return w;
         }
-        w += 1;
     }
-    w
+    18
 }
 
 // What stands at the place k, counted from the right, where a number of w digits is shown: a digit is found by the power of its place.
-fn shown_at(powers: &[u64; 19], neg: bool, m: u64, w: usize, k: usize) -> u8
-    requires powers { Powers powers.now }
-    requires w_bound { w ≤ 18 }
+fn shown_at(tens: &Tens, neg: bool, m: u64, w: usize, k: usize) -> u8
+    requires { w ≤ 18 }
     ensures { result ≡ shown_at neg m w k }
 {
     if k < w {
-        return (48 + m / powers[k] % 10) as u8;
+        return (48 + tens.digit(m, k)) as u8;
     }
-    if neg {
-        if k == w {
-            return 45;
-        }
-    }
-    32
+    if neg && k == w { 45 } else { 32 }
 }
 
 // Shows a number in alpha.
@@ -148,48 +130,41 @@ pub fn show(s: &mut [u8], v: i64)
     let n = s.len();
     let neg = number::is_neg(v);
     let m = number::magnitude(v);
-    let w = width_of(m);
-    let powers = number::powers();
-    let mut i = n;
-    while 0 < i {
-        i -= 1;
-        s[i] = shown_at(&powers, neg, m, w, n - 1 - i);
+    let tens = Tens::new();
+    let w = width_of(&tens, m);
+    for i in (0..n).rev() {
+        s[i] = shown_at(&tens, neg, m, w, n - 1 - i);
     }
 }
 
 // Alpha to number. From top on acc stands still: what is left can only turn 20 into 22.
-pub fn from_alpha(top: u64, s: &[u8]) -> Num
+pub fn from_alpha(top: u64, s: &[u8]) -> Result<i64, Fault>
     requires { Top top }
     ensures { result ≡ alpha_of top s.now }
 {
     let mut minus = false;
     let mut acc: u64 = 0;
-    let mut i = 0;
-    while i < s.len() {
-        let b = number::of_byte(s[i]);
+    for x in s {
+        let b = u64::from(*x);
         if b == 45 {
             let twice = minus;
             if twice {
-                return Num::Failed(Fault::BadDigit);
+                return Err(Fault::BadDigit);
             }
             minus = true;
         } else if b != 32 {
             if b != 43 {
-                if b < 48 {
-                    return Num::Failed(Fault::BadDigit);
-                }
-                if 57 < b {
-                    return Num::Failed(Fault::BadDigit);
+                if b < 48 || 57 < b {
+                    return Err(Fault::BadDigit);
                 }
                 if acc < top {
                     acc = acc * 10 + (b - 48);
                 }
             }
         }
-        i += 1;
     }
     if acc < top {
-        return Num::Value(number::with_sign(minus, acc));
+        return Ok(number::with_sign(minus, acc));
     }
-    Num::Failed(Fault::TooLong)
+    Err(Fault::TooLong)
 }

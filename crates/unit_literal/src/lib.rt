@@ -1,13 +1,14 @@
 // The alpha literal of a statement.
 #![tactic(auto)]
 
-ghost use Rattle.std.specs.Prelude.{◌≡◌, ◌∷◌, ◌<◌};
-ghost use Rattle.rules_unit.specs.Decode.{Fills, literals_at, items_at, code_of};
+ghost use Rattle.std.specs.Prelude.{◌≡◌, ◌∷◌, ◌<◌, Ok};
+ghost use Rattle.unit_decode.specs.Units.{code_in};
+ghost use Rattle.rules_unit.specs.Decode.{literals_at, items_at};
 ghost use Rattle.rules_unit.specs.Literals.{nowhere, lone_text, stretch_by, stretch_in, stretch_of, literal_of};
 ghost use Rattle.rules_unit.specs.declared.Item.TheVariants as item;
-ghost use Rattle.rules_unit.specs.declared.Checked.TheVariants as checked;
 
-use rules_unit::{Checked, Item, Parts, Statement, Stretch};
+use rules_unit::{Item, Parts, Statement, Stretch};
+use unit_decode::Coded;
 
 // No stretch: none of the unit.
 fn empty_stretch() -> Stretch
@@ -52,35 +53,31 @@ fn lone_text(s: &[u8], at: usize, from: usize) -> Stretch
 }
 
 // The stretch of the expression at an offset of the unit's expressions.
-fn source_text(unit: &[u8], parts: Parts, source: u16) -> Stretch
-    requires { Fills unit.now parts }
-    ensures { result ≡ lone_text (literals_at parts) ((code_of unit.now parts).items source) }
+fn source_text(coded: &Coded, source: u16) -> Stretch
+    ensures { result ≡ lone_text (literals_at coded.now.parts) ((code_in coded.now).items source) }
 {
-    let start = unit_decode::expressions_offset(parts);
-    let end = unit_decode::literals_offset(parts);
-    lone_text(&unit[start..end], unit_decode::long(source), end)
+    let from = unit_decode::literals_offset(coded.parts);
+    lone_text(coded.expressions(), unit_decode::long(source), from)
 }
 
 // The stretch of a statement: only a SET has one.
-fn stretch_by(unit: &[u8], parts: Parts, s: Statement) -> Stretch
-    requires { Fills unit.now parts }
-    ensures { result ≡ stretch_by (code_of unit.now parts) (literals_at parts) s }
+fn stretch_by(coded: &Coded, s: Statement) -> Stretch
+    ensures { result ≡ stretch_by (code_in coded.now) (literals_at coded.now.parts) s }
 {
     if s.code != 1 {
         return empty_stretch();
     }
-    source_text(unit, parts, s.b)
+    source_text(coded, s.b)
 }
 
 // The stretch of the statement i of a unit that is checked.
-fn stretch_in(unit: &[u8], parts: Parts, i: usize) -> Stretch
-    requires { Fills unit.now parts }
-    ensures { result ≡ stretch_in unit.now i (checked.Passed parts) }
+fn stretch_in(coded: &Coded, i: usize) -> Stretch
+    ensures { result ≡ stretch_in coded.now.unit.now i (Ok coded.now.parts) }
 {
-    if unit_decode::long(parts.n) <= i {
+    if unit_decode::long(coded.parts.n) <= i {
         return empty_stretch();
     }
-    stretch_by(unit, parts, unit_decode::statement(unit, parts, i as u16))
+    stretch_by(coded, coded.statement(i as u16))
 }
 
 // Where the alpha literal of the statement i lies in the unit; at 0, of no bytes, where there is none.
@@ -89,8 +86,8 @@ pub fn stretch(unit: &[u8], i: usize) -> Stretch
 {
     let answer = unit_check::check(unit);
     match answer {
-        Checked::Passed(parts) => stretch_in(unit, parts, i),
-        Checked::Refused(_) => empty_stretch(),
+        Ok(parts) => stretch_in(&Coded { unit, parts }, i),
+        Err(_) => empty_stretch(),
     }
 }
 

@@ -2,5 +2,4 @@ pub mod Items
 pub mod Leads
 pub mod Literals
 pub mod Notes
-pub mod Parts
 pub mod Turns

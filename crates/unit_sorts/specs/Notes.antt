@@ -2,17 +2,17 @@
 --   is_wrong k                whether a sort is Wrong
 --   note_of k                 the note of the sort k; sort_by m is the sort of which m is the note
 --   noted_at notes e n        the sort noted for the items from the offset e on, where n values are held before them; Wrong where none is noted
---   expressions_of u p        the expressions of a unit
---   Noted c s notes          every sort noted of the expressions s is so; NotedOf u p notes says it of a unit
+--   Noted c s notes          every sort noted of the expressions s is so; NotedIn c notes says it of those in c
 -- A note is one byte for each offset: the values held before it, times 8, and the note of the sort. Wrong is not noted.
 -- Assumes nothing.
-use Rattle.std.specs.Prelude.{◌≡◌, Bool, true, false, cond, List, ℕ, ◌/◌, ◌%◌, eqb, get_or, take, drop}
-use Rattle.rules_unit.specs.declared.Parts.{Parts}
+use Rattle.std.specs.Prelude.{◌≡◌, Bool, true, false, cond, List, ℕ, ◌/◌, ◌%◌, eqb, get_or}
 use Rattle.rules_unit.specs.declared.Sort.{Sort}
 use Rattle.rules_unit.specs.declared.Sort.TheVariants as sort
 use Rattle.rules_unit.specs.Codes.{Code}
-use Rattle.rules_unit.specs.Decode.{expressions_at, items_at, code_of}
+use Rattle.rules_unit.specs.Decode.{items_at}
 use Rattle.rules_unit.specs.Expressions.{sort_from}
+use Rattle.unit_decode.specs.declared.filled.Coded.{Coded}
+use Rattle.unit_decode.specs.Units.{code_in, expressions_in}
 
 abbrev pub is_wrong : Sort → Bool
 is_wrong sort.Wrong = true
@@ -41,8 +41,5 @@ noted_at notes e n = cond (eqb (get_or notes e 0 / 8) n) (sort_by (get_or notes 
 pub record Noted (c : Code) (s notes : List ℕ) : Type 0 where
   pub so : (e n : ℕ) → is_wrong (noted_at notes e n) ≡ false → noted_at notes e n ≡ sort_from c (items_at s e) n sort.Number
 
-abbrev pub expressions_of : List ℕ → Parts → List ℕ
-expressions_of u p = take p.e (drop (expressions_at p) u)
-
-abbrev pub NotedOf : List ℕ → Parts → List ℕ → Type 0
-NotedOf u p notes = Noted (code_of u p) (expressions_of u p) notes
+abbrev pub NotedIn : Coded → List ℕ → Type 0
+NotedIn c notes = Noted (code_in c) (expressions_in c) notes

@@ -3,13 +3,15 @@
 #![tactic(auto)]
 
 ghost use Rattle.std.specs.Prelude.{◌≡◌, true, false, ◌+◌, ◌*◌, ◌<◌, ◌≤◌, set};
+ghost use Rattle.unit_decode.specs.Units.{code_in};
 ghost use Rattle.rules_unit.specs.Codes.{is_decimal};
-ghost use Rattle.rules_unit.specs.Decode.{Fills, items_at, code_of};
+ghost use Rattle.rules_unit.specs.Decode.{items_at};
 ghost use Rattle.rules_unit.specs.Expressions.{digitsb, numberb, textb, itemb, place_sort, sort_of, goes_on, sort_from, sort_at};
 ghost use Rattle.rules_unit.specs.declared.Sort.TheVariants as sort;
-ghost use Rattle.unit_sorts.specs.Notes.{is_wrong, note_of, sort_by, noted_at, Noted, NotedOf};
+ghost use Rattle.unit_sorts.specs.Notes.{is_wrong, note_of, sort_by, noted_at, Noted, NotedIn};
 
 use rules_unit::{Item, Parts, Sort};
+use unit_decode::Coded;
 
 // Whether all characters are 0 to 9.
 fn digits(s: &[u8]) -> bool
@@ -30,47 +32,44 @@ fn digits(s: &[u8]) -> bool
 }
 
 // Whether a number literal has 1 to the dialect's digits and lies inside the literals.
-fn number_good(unit: &[u8], parts: Parts, place: u16, len: u16) -> bool
-    requires { Fills unit.now parts }
-    ensures { result ≡ numberb (code_of unit.now parts) place len }
+fn number_good(coded: &Coded, place: u16, len: u16) -> bool
+    ensures { result ≡ numberb (code_in coded.now) place len }
 {
     if len < 1 {
         return false;
     }
-    if parts.dialect.limit < len {
+    if coded.parts.dialect.limit < len {
         return false;
     }
     let from = unit_decode::long(place);
     let n = unit_decode::long(len);
-    let most = unit_decode::long(parts.p);
+    let most = unit_decode::long(coded.parts.p);
     if most < from + n {
         return false;
     }
-    let start = unit_decode::literals_offset(parts) + from;
+    let start = unit_decode::literals_offset(coded.parts) + from;
     let end = start + n;
-    digits(&unit[start..end])
+    digits(&coded.unit[start..end])
 }
 
 // Whether an alpha literal has characters and lies inside the literals. The unit is named for the contract alone.
-pub fn text_good(unit: &[u8], parts: Parts, place: u16, len: u16) -> bool
-    requires { Fills unit.now parts }
-    ensures { result ≡ textb (code_of unit.now parts) place len }
+pub fn text_good(coded: &Coded, place: u16, len: u16) -> bool
+    ensures { result ≡ textb (code_in coded.now) place len }
 {
     if len < 1 {
         return false;
     }
-    unit_decode::long(place) + unit_decode::long(len) <= unit_decode::long(parts.p)
+    unit_decode::long(place) + unit_decode::long(len) <= unit_decode::long(coded.parts.p)
 }
 
 // Whether an item keeps its own rule.
-fn item_good(unit: &[u8], parts: Parts, item: Item) -> bool
-    requires { Fills unit.now parts }
-    ensures { result ≡ itemb (code_of unit.now parts) item }
+fn item_good(coded: &Coded, item: Item) -> bool
+    ensures { result ≡ itemb (code_in coded.now) item }
 {
     match item {
-        Item::Number { place, len } => number_good(unit, parts, place, len),
-        Item::Reference { form: _, field } => field < parts.f,
-        Item::Text { place, len } => text_good(unit, parts, place, len),
+        Item::Number { place, len } => number_good(coded, place, len),
+        Item::Reference { form: _, field } => field < coded.parts.f,
+        Item::Text { place, len } => text_good(coded, place, len),
         Item::Operator(_) => true,
         Item::End => false,
         Item::Bad => false,
@@ -85,25 +84,23 @@ fn place_sort(decimal: bool) -> Sort
 }
 
 // The sort of a reference to the field i.
-fn field_sort(unit: &[u8], parts: Parts, i: u16) -> Sort
-    requires fills { Fills unit.now parts }
-    requires i_lt_f { i < parts.f }
-    ensures { result ≡ place_sort (is_decimal ((code_of unit.now parts).field i).kind) }
+fn field_sort(coded: &Coded, i: u16) -> Sort
+    requires { i < coded.now.parts.f }
+    ensures { result ≡ place_sort (is_decimal ((code_in coded.now).field i).kind) }
 {
-    let field = unit_decode::field(unit, parts, i);
+    let field = coded.field(i);
     let kind = field.kind;
     place_sort(unit_decode::is_decimal(kind))
 }
 
 // The sort that an item gives as the last one.
-fn sort_of(unit: &[u8], parts: Parts, item: Item) -> Sort
-    requires fills { Fills unit.now parts }
-    requires item_value { itemb (code_of unit.now parts) item ≡ true }
-    ensures { result ≡ sort_of (code_of unit.now parts) item }
+fn sort_of(coded: &Coded, item: Item) -> Sort
+    requires { itemb (code_in coded.now) item ≡ true }
+    ensures { result ≡ sort_of (code_in coded.now) item }
 {
     match item {
         Item::Number { place: _, len: _ } => Sort::Number,
-        Item::Reference { form: _, field } => field_sort(unit, parts, field),
+        Item::Reference { form: _, field } => field_sort(coded, field),
         Item::Text { place: _, len: _ } => Sort::Text,
         Item::Operator(_) => Sort::Number,
         Item::End => Sort::Wrong,
@@ -200,10 +197,9 @@ fn note(notes: &mut [u8], at: usize, n: u16, k: Sort)
 // ---- expressions
 
 // The sort of the expression at an offset of the expressions s.
-fn sort_in(unit: &[u8], parts: Parts, s: &[u8], notes: &[u8], at: usize) -> Sort
-    requires fills { Fills unit.now parts }
-    requires noted { Noted (code_of unit.now parts) s.now notes.now }
-    ensures { result ≡ sort_from (code_of unit.now parts) (items_at s.now at) 0 sort.Number }
+fn sort_in(coded: &Coded, s: &[u8], notes: &[u8], at: usize) -> Sort
+    requires { Noted (code_in coded.now) s.now notes.now }
+    ensures { result ≡ sort_from (code_in coded.now) (items_at s.now at) 0 sort.Number }
 {
     let mut k = Sort::Number;
     let mut n: u16 = 0;
@@ -223,7 +219,7 @@ fn sort_in(unit: &[u8], parts: Parts, s: &[u8], notes: &[u8], at: usize) -> Sort
         if !is_wrong(known) {
             return known;
         }
-        if !item_good(unit, parts, item) {
+        if !item_good(coded, item) {
             return Sort::Wrong;
         }
         let taken = unit_decode::takes_of(item);
@@ -233,7 +229,7 @@ fn sort_in(unit: &[u8], parts: Parts, s: &[u8], notes: &[u8], at: usize) -> Sort
         if 16 < n - taken + 1 {
             return Sort::Wrong;
         }
-        k = sort_of(unit, parts, item);
+        k = sort_of(coded, item);
         n = n - taken + 1;
         i = i + unit_decode::width_of(item);
     }
@@ -242,15 +238,15 @@ fn sort_in(unit: &[u8], parts: Parts, s: &[u8], notes: &[u8], at: usize) -> Sort
 
 // Notes the sort k of the expression at an offset of the expressions s, for each of its items up to one for which it is noted. The unit is
 // named for the contract alone.
-fn note_in(unit: &[u8], parts: Parts, s: &[u8], notes: &mut [u8], at: usize, k: Sort)
-    requires noted { Noted (code_of unit.now parts) s.now notes.old }
+fn note_in(coded: &Coded, s: &[u8], notes: &mut [u8], at: usize, k: Sort)
+    requires noted { Noted (code_in coded.now) s.now notes.old }
     requires k_value { is_wrong k ≡ false }
-    requires k_value_2 { k ≡ sort_from (code_of unit.now parts) (items_at s.now at) 0 sort.Number }
-    ensures { Noted (code_of unit.now parts) s.now notes.new }
+    requires k_value_2 { k ≡ sort_from (code_in coded.now) (items_at s.now at) 0 sort.Number }
+    ensures { Noted (code_in coded.now) s.now notes.new }
 {
     let mut n: u16 = 0;
     let mut i = at;
-    while i < unit_decode::long(parts.e) {
+    while i < unit_decode::long(coded.parts.e) {
         let item = unit_decode::item_at(s, i);
         if let Item::End = item {
             return;
@@ -265,19 +261,17 @@ fn note_in(unit: &[u8], parts: Parts, s: &[u8], notes: &mut [u8], at: usize, k: 
 }
 
 // The sort of the expression at an offset; Wrong where it is badly formed. What is found is noted, and what is noted is not looked for again.
-pub fn sort_at(unit: &[u8], parts: Parts, notes: &mut [u8], e: u16) -> Sort
-    requires fills { Fills unit.now parts }
-    requires noted_of { NotedOf unit.now parts notes.old }
-    ensures value { result ≡ sort_at (code_of unit.now parts) e }
-    ensures noted_of_2 { NotedOf unit.now parts notes.new }
+pub fn sort_at(coded: &Coded, notes: &mut [u8], e: u16) -> Sort
+    requires { NotedIn coded.now notes.old }
+    ensures value { result ≡ sort_at (code_in coded.now) e }
+    ensures noted_of_2 { NotedIn coded.now notes.new }
 {
-    let start = unit_decode::expressions_offset(parts);
-    let end = unit_decode::literals_offset(parts);
+    let s = coded.expressions();
     let at = unit_decode::long(e);
-    let k = sort_in(unit, parts, &unit[start..end], notes, at);
+    let k = sort_in(coded, s, notes, at);
     if is_wrong(k) {
         return k;
     }
-    note_in(unit, parts, &unit[start..end], notes, at, k);
+    note_in(coded, s, notes, at, k);
     k
 }

@@ -1,5 +1,6 @@
 -- The uses of a statement, tested one by one; the laws of the list hold for any number.
 -- Assumes nothing.
+use Rattle.std.specs.Prelude.{None, Option}
 use mathlib.Core.Path.{◌≡◌, refl, sym, ap, ◌∙◌}
 use mathlib.Core.Bool.{Bool, true, false, cond, not}
 use mathlib.Core.List.{List, [], ◌∷◌}
@@ -17,15 +18,14 @@ use Rattle.rules_unit.specs.declared.Row.{Row}
 use Rattle.rules_unit.specs.declared.Sort.{Sort}
 use Rattle.rules_unit.specs.declared.Want.{Want}
 use Rattle.rules_unit.specs.declared.Use.{Use}
-use Rattle.rules_unit.specs.declared.Use.TheVariants as used
 use Rattle.rules_unit.specs.Codes.{Code}
 use Rattle.rules_unit.specs.Decode.{code_of}
 use Rattle.rules_unit.specs.Expressions.{sort_at, next_at, suits, useb, usesb}
-use Rattle.rules_unit.specs.Table.{verb_of, row_of, use_of, more_of, uses_by, uses_of}
+use Rattle.rules_unit.specs.Table.{verb_of, row_of, use_of, more_of, uses_by, uses_of, used}
 
 -- ---- any list of uses
 
-uses_suc : (c : Code) (us : List Use) (k : ℕ) → usesb c (drop k us) ≡ cond (useb c (get_or us k used.Nothing)) (usesb c (drop (suc k) us)) false
+uses_suc : (c : Code) (us : List (Option Use)) (k : ℕ) → usesb c (drop k us) ≡ cond (useb c (get_or us k None)) (usesb c (drop (suc k) us)) false
 unfolding usesb
 uses_suc c [] zero = refl
 uses_suc c [] (suc k) = refl
@@ -33,17 +33,17 @@ uses_suc c (x ∷ us) zero = refl
 uses_suc c (x ∷ us) (suc k) = uses_suc c us k
 
 -- what is left from the use k on is that use, and what is left after it
-pub uses_step : (c : Code) (us : List Use) (k : ℕ) → usesb c (drop k us) ≡ cond (useb c (get_or us k used.Nothing)) (usesb c (drop (k + 1) us)) false
+pub uses_step : (c : Code) (us : List (Option Use)) (k : ℕ) → usesb c (drop k us) ≡ cond (useb c (get_or us k None)) (usesb c (drop (k + 1) us)) false
 uses_step c us k = rw (add-one k) (uses_suc c us k)
 
-pub uses_end : (c : Code) (us : List Use) (k : ℕ) → length us ≤ k → usesb c (drop k us) ≡ true
+pub uses_end : (c : Code) (us : List (Option Use)) (k : ℕ) → length us ≤ k → usesb c (drop k us) ≡ true
 unfolding usesb
 uses_end c us k h = rw (drop_of_length-le us h)
 
 -- ---- the uses of a statement
 
 -- the use of a part, where its role is known
-pub use_as : (r q : Role) (x : ℕ) (y : Use) → r ≡ q → y ≡ use_of q x → y ≡ use_of r x
+pub use_as : (r q : Role) (x : ℕ) (y : Option Use) → r ≡ q → y ≡ use_of q x → y ≡ use_of r x
 use_as r q x y e w = rw e w
 
 -- how many uses, where the role of b is known
@@ -62,29 +62,29 @@ more_numbers c role.End x h = absurd (omega arith)
 more_numbers c role.Never x h = absurd (omega arith)
 
 -- the numbers behind the one at e, where y is the offset that the code has found for the next one, and z for the one after it
-module _ (u : List ℕ) (p : Parts) (e k y : ℕ) (x : Use) (ey : y ≡ next_at (code_of u p) e) where
-  pub behind_second : x ≡ use_of role.Numbers y → k ≡ 0 → x ≡ get_or (more_of (code_of u p) role.Numbers e) k used.Nothing
+module _ (u : List ℕ) (p : Parts) (e k y : ℕ) (x : Option Use) (ey : y ≡ next_at (code_of u p) e) where
+  pub behind_second : x ≡ use_of role.Numbers y → k ≡ 0 → x ≡ get_or (more_of (code_of u p) role.Numbers e) k None
   behind_second q h = rw (h, ← ey) q
 
-  pub behind_third : (z : ℕ) → z ≡ next_at (code_of u p) y → x ≡ use_of role.Numbers z → k ≡ 1 → x ≡ get_or (more_of (code_of u p) role.Numbers e) k used.Nothing
+  pub behind_third : (z : ℕ) → z ≡ next_at (code_of u p) y → x ≡ use_of role.Numbers z → k ≡ 1 → x ≡ get_or (more_of (code_of u p) role.Numbers e) k None
   behind_third z ez q h = rw (h, ← ey, ← ez) q
 
-pub behind_none : (u : List ℕ) (p : Parts) (e k : ℕ) → (k ≡ 0 → ⊥) → (k ≡ 1 → ⊥) → used.Nothing ≡ get_or (more_of (code_of u p) role.Numbers e) k used.Nothing
+pub behind_none : (u : List ℕ) (p : Parts) (e k : ℕ) → (k ≡ 0 → ⊥) → (k ≡ 1 → ⊥) → None ≡ get_or (more_of (code_of u p) role.Numbers e) k None
 behind_none u p e k h g =
-    let past : 2 ≤ k = omega arith in sym (get_or-eq_default (more_of (code_of u p) role.Numbers e) used.Nothing past)
+    let past : 2 ≤ k = omega arith in sym (get_or-eq_default (more_of (code_of u p) role.Numbers e) None past)
 
-module _ (u : List ℕ) (p : Parts) (s : Statement) (r : Row) (k : ℕ) (x : Use) where
-  pub use_a : x ≡ use_of r.a s.a → k ≡ 0 → x ≡ get_or (uses_by (code_of u p) r s) k used.Nothing
+module _ (u : List ℕ) (p : Parts) (s : Statement) (r : Row) (k : ℕ) (x : Option Use) where
+  pub use_a : x ≡ use_of r.a s.a → k ≡ 0 → x ≡ get_or (uses_by (code_of u p) r s) k None
   use_a e h = rw h e
 
-  pub use_b : x ≡ use_of r.b s.b → k ≡ 1 → x ≡ get_or (uses_by (code_of u p) r s) k used.Nothing
+  pub use_b : x ≡ use_of r.b s.b → k ≡ 1 → x ≡ get_or (uses_by (code_of u p) r s) k None
   use_b e h = rw h e
 
-  pub use_c : x ≡ use_of r.c s.c → k ≡ 2 → x ≡ get_or (uses_by (code_of u p) r s) k used.Nothing
+  pub use_c : x ≡ use_of r.c s.c → k ≡ 2 → x ≡ get_or (uses_by (code_of u p) r s) k None
   use_c e h = rw h e
 
   pub use_more : k < length (uses_by (code_of u p) r s) → (k ≡ 0 → ⊥) → (k ≡ 1 → ⊥) → (k ≡ 2 → ⊥)
-      → x ≡ get_or (more_of (code_of u p) role.Numbers s.b) (k - 3) used.Nothing → x ≡ get_or (uses_by (code_of u p) r s) k used.Nothing
+      → x ≡ get_or (more_of (code_of u p) role.Numbers s.b) (k - 3) None → x ≡ get_or (uses_by (code_of u p) r s) k None
   use_more l h g f e =
       let past : k ≡ suc (suc (suc (k - 3))) = omega arith in
       let more : 0 < length (more_of (code_of u p) r.b s.b) = omega (arith, l) in
@@ -96,11 +96,11 @@ pub uses_own : (c : Code) (s : Statement) (v : Verb) (r : Row) (z : Bool) → v 
 uses_own c s v r z ev er e = e ∙ ap (λ (x : Row). usesb c (uses_by c x s)) (er ∙ ap row_of ev)
 
 -- the loop over the uses: k is the next one, x that use, r what is found of it, and z what the whole loop answers
-module _ (u : List ℕ) (p : Parts) (us : List Use) (k : ℕ) (z : Bool) (left : usesb (code_of u p) (drop k us) ≡ z) where
+module _ (u : List ℕ) (p : Parts) (us : List (Option Use)) (k : ℕ) (z : Bool) (left : usesb (code_of u p) (drop k us) ≡ z) where
   pub uses_over : (n : ℕ) → n ≡ length us → n ≤ k → true ≡ z
   uses_over n e h = sym (uses_end (code_of u p) us k (omega (arith, e, h))) ∙ left
 
-  module _ (x : Use) (r : Bool) (e : x ≡ get_or us k used.Nothing) (f : r ≡ useb (code_of u p) x) where
+  module _ (x : Option Use) (r : Bool) (e : x ≡ get_or us k None) (f : r ≡ useb (code_of u p) x) where
     step : usesb (code_of u p) (drop k us) ≡ cond r (usesb (code_of u p) (drop (k + 1) us)) false
     step = uses_step (code_of u p) us k ∙ rw (← e, ← f)
 
@@ -113,9 +113,9 @@ module _ (u : List ℕ) (p : Parts) (us : List Use) (k : ℕ) (z : Bool) (left :
 -- ---- one use
 
 module _ (u : List ℕ) (p : Parts) where
-  pub no_use : (x : Use) → x ≡ used.Nothing → true ≡ useb (code_of u p) x
+  pub no_use : (x : Option Use) → x ≡ None → true ≡ useb (code_of u p) x
   no_use x e = rw e
 
-  pub use_rule : (x : Use) (w : Want) (at : ℕ) (t : Bool) (k : Sort) (r : Bool) → x ≡ used.Of w at t → k ≡ sort_at (code_of u p) at → r ≡ suits w k
+  pub use_rule : (x : Option Use) (w : Want) (at : ℕ) (t : Bool) (k : Sort) (r : Bool) → x ≡ used w at t → k ≡ sort_at (code_of u p) at → r ≡ suits w k
       → r ≡ useb (code_of u p) x
   use_rule x w at t k r e f q = rw e (q ∙ ap (suits w) f)

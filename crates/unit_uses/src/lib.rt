@@ -1,50 +1,50 @@
 // The expressions of a statement: their uses, and whether each is of the sort that its use wants.
 #![tactic(auto)]
 
-ghost use Rattle.std.specs.Prelude.{◌≡◌, true, false, ◌<◌, length, get_or};
+ghost use Rattle.std.specs.Prelude.{◌≡◌, true, false, ◌<◌, length, get_or, None};
+ghost use Rattle.unit_decode.specs.Units.{code_in, RowsIn};
 ghost use Rattle.rules_unit.specs.declared.Role.TheVariants as role;
-ghost use Rattle.rules_unit.specs.declared.Use.TheVariants as used;
 ghost use Rattle.rules_unit.specs.declared.Want.TheVariants as want;
-ghost use Rattle.rules_unit.specs.Decode.{Fills, code_of};
+ghost use Rattle.rules_unit.specs.Decode.{code_of};
 ghost use Rattle.rules_unit.specs.Expressions.{suits, useb, usesb};
 ghost use Rattle.rules_unit.specs.Table.{use_of, more_of, uses_by, uses_of};
-ghost use Rattle.unit_decode.specs.Rows.{RowsOf};
-ghost use Rattle.unit_sorts.specs.Notes.{NotedOf};
+ghost use Rattle.unit_sorts.specs.Notes.{NotedIn};
 
 use rules_unit::{Parts, Role, Row, Sort, Statement, Use, Want};
+use unit_decode::Coded;
 
 // The use of a number at an offset, which is read.
-fn read_number(e: u16) -> Use
+fn read_number(e: u16) -> Option<Use>
     ensures { result ≡ use_of role.Numbers e }
 {
-    Use::Of {
+    Some(Use {
         want: Want::Number,
         at: e,
         written: false,
-    }
+    })
 }
 
 // How a part of a statement uses an expression, by its role; Nothing where it uses none.
-fn use_of(role: Role, x: u16) -> Use
+fn use_of(role: Role, x: u16) -> Option<Use>
     ensures { result ≡ use_of role x }
 {
     match role {
-        Role::Unused => Use::Nothing,
-        Role::Written(w) => Use::Of {
+        Role::Unused => None,
+        Role::Written(w) => Some(Use {
             want: w,
             at: x,
             written: true,
-        },
-        Role::Read(w) => Use::Of {
+        }),
+        Role::Read(w) => Some(Use {
             want: w,
             at: x,
             written: false,
-        },
-        Role::Target => Use::Nothing,
-        Role::Table => Use::Nothing,
+        }),
+        Role::Target => None,
+        Role::Table => None,
         Role::Numbers => read_number(x),
-        Role::End => Use::Nothing,
-        Role::Never => Use::Nothing,
+        Role::End => None,
+        Role::Never => None,
     }
 }
 
@@ -67,29 +67,27 @@ pub fn count_of(unit: &[u8], parts: Parts, row: Row, s: Statement) -> usize
 }
 
 // The use k of the numbers behind the one at an offset, in a row with it; Nothing where there is none. Where they start is noted.
-fn number_behind(unit: &[u8], parts: Parts, rows: &mut [u16], e: u16, k: usize) -> Use
-    requires fills { Fills unit.now parts }
-    requires rows_of { RowsOf unit.now parts rows.old }
-    ensures value { result ≡ get_or (more_of (code_of unit.now parts) role.Numbers e) k used.Nothing }
-    ensures rows_of_2 { RowsOf unit.now parts rows.new }
+fn number_behind(coded: &Coded, rows: &mut [u16], e: u16, k: usize) -> Option<Use>
+    requires { RowsIn coded.now rows.old }
+    ensures value { result ≡ get_or (more_of (code_in coded.now) role.Numbers e) k None }
+    ensures rows_of_2 { RowsIn coded.now rows.new }
 {
-    let second = unit_decode::next_noted(unit, parts, rows, e);
+    let second = coded.next_noted(rows, e);
     if k == 0 {
         return read_number(second);
     }
     if k == 1 {
-        return read_number(unit_decode::next_noted(unit, parts, rows, second));
+        return read_number(coded.next_noted(rows, second));
     }
-    Use::Nothing
+    None
 }
 
 // The use k of a statement whose row is given, from 0, in the order in which they are worked out. Where the numbers in a row start is noted.
-pub fn use_by(unit: &[u8], parts: Parts, rows: &mut [u16], row: Row, s: Statement, k: usize) -> Use
-    requires fills { Fills unit.now parts }
-    requires rows_of { RowsOf unit.now parts rows.old }
-    requires k_in_bounds { k < length (uses_by (code_of unit.now parts) row s) }
-    ensures value { result ≡ get_or (uses_by (code_of unit.now parts) row s) k used.Nothing }
-    ensures rows_of_2 { RowsOf unit.now parts rows.new }
+pub fn use_by(coded: &Coded, rows: &mut [u16], row: Row, s: Statement, k: usize) -> Option<Use>
+    requires rows_of { RowsIn coded.now rows.old }
+    requires k_in_bounds { k < length (uses_by (code_in coded.now) row s) }
+    ensures value { result ≡ get_or (uses_by (code_in coded.now) row s) k None }
+    ensures rows_of_2 { RowsIn coded.now rows.new }
 {
     let a = row.a;
     let b = row.b;
@@ -103,7 +101,7 @@ pub fn use_by(unit: &[u8], parts: Parts, rows: &mut [u16], row: Row, s: Statemen
     if k == 2 {
         return use_of(c, s.c);
     }
-    number_behind(unit, parts, rows, s.b, k - 3)
+    number_behind(coded, rows, s.b, k - 3)
 }
 
 // Whether the sort k is that of a place.
@@ -199,42 +197,29 @@ fn suits_use(w: Want, k: Sort) -> bool
 }
 
 // Whether the expression of a use is well formed and of the sort wanted. What is found of it is noted.
-fn use_good(unit: &[u8], parts: Parts, notes: &mut [u8], u: Use) -> bool
-    requires fills { Fills unit.now parts }
-    requires noted_of { NotedOf unit.now parts notes.old }
-    ensures value { result ≡ useb (code_of unit.now parts) u }
-    ensures noted_of_2 { NotedOf unit.now parts notes.new }
+fn use_good(coded: &Coded, notes: &mut [u8], u: Option<Use>) -> bool
+    requires { NotedIn coded.now notes.old }
+    ensures value { result ≡ useb (code_in coded.now) u }
+    ensures noted_of_2 { NotedIn coded.now notes.new }
 {
     match u {
-        Use::Nothing => true,
-        Use::Of {
-            want,
-            at,
-            written: _,
-        } => suits_use(want, unit_sorts::sort_at(unit, parts, notes, at)),
+        None => true,
+        Some(u) => suits_use(u.want, unit_sorts::sort_at(coded, notes, u.at)),
     }
 }
 
 // Whether the expressions of a statement whose row is given are well formed and of the sorts that it wants. What is found of them is noted.
-fn uses_good_by(
-    unit: &[u8],
-    parts: Parts,
-    notes: &mut [u8],
-    rows: &mut [u16],
-    row: Row,
-    s: Statement,
-) -> bool
-    requires fills { Fills unit.now parts }
-    requires noted_of { NotedOf unit.now parts notes.old }
-    requires rows_of { RowsOf unit.now parts rows.old }
-    ensures value { result ≡ usesb (code_of unit.now parts) (uses_by (code_of unit.now parts) row s) }
-    ensures noted_of_2 { NotedOf unit.now parts notes.new }
-    ensures rows_of_2 { RowsOf unit.now parts rows.new }
+fn uses_good_by(coded: &Coded, notes: &mut [u8], rows: &mut [u16], row: Row, s: Statement) -> bool
+    requires noted_of { NotedIn coded.now notes.old }
+    requires rows_of { RowsIn coded.now rows.old }
+    ensures value { result ≡ usesb (code_in coded.now) (uses_by (code_in coded.now) row s) }
+    ensures noted_of_2 { NotedIn coded.now notes.new }
+    ensures rows_of_2 { RowsIn coded.now rows.new }
 {
-    let count = count_of(unit, parts, row, s);
+    let count = count_of(coded.unit, coded.parts, row, s);
     let mut k: usize = 0;
     while k < count {
-        if !use_good(unit, parts, notes, use_by(unit, parts, rows, row, s, k)) {
+        if !use_good(coded, notes, use_by(coded, rows, row, s, k)) {
             return false;
         }
         k += 1;
@@ -243,20 +228,13 @@ fn uses_good_by(
 }
 
 // The same of a statement, whose row is looked up once.
-pub fn uses_good(
-    unit: &[u8],
-    parts: Parts,
-    notes: &mut [u8],
-    rows: &mut [u16],
-    s: Statement,
-) -> bool
-    requires fills { Fills unit.now parts }
-    requires noted_of { NotedOf unit.now parts notes.old }
-    requires rows_of { RowsOf unit.now parts rows.old }
-    ensures value { result ≡ usesb (code_of unit.now parts) (uses_of (code_of unit.now parts) s) }
-    ensures noted_of_2 { NotedOf unit.now parts notes.new }
-    ensures rows_of_2 { RowsOf unit.now parts rows.new }
+pub fn uses_good(coded: &Coded, notes: &mut [u8], rows: &mut [u16], s: Statement) -> bool
+    requires noted_of { NotedIn coded.now notes.old }
+    requires rows_of { RowsIn coded.now rows.old }
+    ensures value { result ≡ usesb (code_in coded.now) (uses_of (code_in coded.now) s) }
+    ensures noted_of_2 { NotedIn coded.now notes.new }
+    ensures rows_of_2 { RowsIn coded.now rows.new }
 {
     let row = unit_decode::row_of(unit_decode::verb_of(s.code));
-    uses_good_by(unit, parts, notes, rows, row, s)
+    uses_good_by(coded, notes, rows, row, s)
 }

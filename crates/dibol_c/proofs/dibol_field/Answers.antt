@@ -6,5 +6,5 @@ use Rattle.dibol_c.proofs.dibol_field.Goals as goal
 pub returns-in-None : goal.returns-in-None
 returns-in-None c = search tells_field depth 3
 
-pub returns-in-Of : goal.returns-in-Of
-returns-in-Of c = search tells_field depth 3
+pub returns-in-Some : goal.returns-in-Some
+returns-in-Some c = search tells_field depth 3

@@ -3,8 +3,8 @@
 use Rattle.dibol_c.proofs.Told.{tells_parts}
 use Rattle.dibol_c.proofs.dibol_parts.Goals as goal
 
-pub returns-in-Passed : goal.returns-in-Passed
-returns-in-Passed c = search tells_parts depth 3
+pub returns-in-Ok : goal.returns-in-Ok
+returns-in-Ok c = search tells_parts depth 3
 
-pub returns-in-Refused : goal.returns-in-Refused
-returns-in-Refused c = search tells_parts depth 3
+pub returns-in-Err : goal.returns-in-Err
+returns-in-Err c = search tells_parts depth 3

@@ -9,7 +9,7 @@ pub breach_of-requires-clause-ahead : goal.breach_of-requires-clause-ahead
 breach_of-requires-clause-ahead c = search ahead_says depth 3
 
 pub breach_of-requires-clause-both : goal.breach_of-requires-clause-both
-breach_of-requires-clause-both c = both_none _ _ 1 1
+breach_of-requires-clause-both c = both_none _ 1 1
 
 pub breach_of-requires-clause-rows_of : goal.breach_of-requires-clause-rows_of
 breach_of-requires-clause-rows_of c = rows_none _ 1

@@ -1,14 +1,18 @@
 -- `fence::fence` meets its contract: the answer of the check decides, and what passes is held to the rules.
 -- Assumes nothing.
-use Rattle.rules_unit.proofs.Sound.{passed_by}
+use Rattle.std.proofs.Common.{rules}
+use Rattle.rules_unit.proofs.Sound.{passed_by, fills_by}
 use Rattle.fence.proofs.Answers.{fence_passed, fence_refused}
 use Rattle.fence.proofs.fence.Goals as goal
+
+pub invariant_of-verdict_of : goal.invariant_of-verdict_of
+invariant_of-verdict_of c = record { fills = search fills_by depth 3; words = search rules }
 
 pub verdict_of-requires : goal.verdict_of-requires
 verdict_of-requires c = search passed_by depth 3
 
-pub returns-in-Passed : goal.returns-in-Passed
-returns-in-Passed c = search fence_passed depth 3
+pub returns-in-Ok : goal.returns-in-Ok
+returns-in-Ok c = search fence_passed depth 3
 
-pub returns-in-Refused : goal.returns-in-Refused
-returns-in-Refused c = search fence_refused depth 3
+pub returns-in-Err : goal.returns-in-Err
+returns-in-Err c = search fence_refused depth 3

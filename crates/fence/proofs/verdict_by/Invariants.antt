@@ -4,18 +4,17 @@
 use mathlib.Core.Path.{◌≡◌}
 use lib.ListN.{length}
 use Prim.Native.Nat.{◌-◌, ◌≤◌}
-use Rattle.rules_unit.specs.Decode.{code_of}
 use Rattle.rules_fence.specs.Breaches.{verdict_from}
-use Rattle.unit_decode.specs.Rows.{RowsOf}
+use Rattle.unit_decode.specs.Units.{RowsIn, code_in}
 use Rattle.fence_statements.specs.Notes.{Both}
 use Rattle.fence.proofs.verdict_by.Given as goal
 
 abbrev pub invariant-loop-i : goal.invariant-loop-i
 invariant-loop-i l =
-    (l.i ≤ l.parts.n)
-    × (verdict_from (code_of l.unit l.parts) (l.parts.n - l.i) l.i ≡ verdict_from (code_of l.unit l.parts) l.parts.n 0)
-    × Both l.unit l.parts l.reads l.writes × RowsOf l.unit l.parts l.rows
+    (l.i ≤ l.coded.parts.n)
+    × (verdict_from (code_in l.coded) (l.coded.parts.n - l.i) l.i ≡ verdict_from (code_in l.coded) l.coded.parts.n 0)
+    × Both l.coded l.reads l.writes × RowsIn l.coded l.rows
     × (length l.reads ≡ length l.initial.reads) × (length l.writes ≡ length l.initial.writes) × (length l.rows ≡ length l.initial.rows)
 
 abbrev pub decreases-loop-i : goal.decreases-loop-i
-decreases-loop-i l = l.parts.n - l.i
+decreases-loop-i l = l.coded.parts.n - l.i

@@ -9,7 +9,7 @@ pub verdict_by-requires-clause-ahead : goal.verdict_by-requires-clause-ahead
 verdict_by-requires-clause-ahead c = search ahead_says depth 3
 
 pub verdict_by-requires-clause-both : goal.verdict_by-requires-clause-both
-verdict_by-requires-clause-both c = both_none _ _ 16384 16384
+verdict_by-requires-clause-both c = both_none _ 16384 16384
 
 pub verdict_by-requires-clause-rows_of : goal.verdict_by-requires-clause-rows_of
 verdict_by-requires-clause-rows_of c = rows_none _ 16384

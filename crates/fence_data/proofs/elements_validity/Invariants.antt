@@ -4,14 +4,14 @@
 use Prim.Native.Nat.{◌+◌, ◌<◌}
 use mathlib.Core.Path.{◌≡◌}
 use Rattle.rules_unit.specs.Codes.{count_of}
-use Rattle.rules_unit.specs.Decode.{code_of}
 use Rattle.rules_fence.specs.Validity.{elements_from}
 use Rattle.fence_data.proofs.elements_validity.Given as goal
+use Rattle.unit_decode.specs.Units.{code_in}
 
 abbrev pub invariant-loop-left : goal.invariant-loop-left
 invariant-loop-left l =
-    (l.k + l.left ≡ count_of (code_of l.unit l.parts) l.f) × (l.k + l.left < 65536)
-    × (elements_from (code_of l.unit l.parts) l.bytes l.f l.left l.k ≡ elements_from (code_of l.unit l.parts) l.bytes l.f (count_of (code_of l.unit l.parts) l.f) 0)
+    (l.k + l.left ≡ count_of (code_in l.coded) l.f) × (l.k + l.left < 65536)
+    × (elements_from (code_in l.coded) l.bytes l.f l.left l.k ≡ elements_from (code_in l.coded) l.bytes l.f (count_of (code_in l.coded) l.f) 0)
 
 abbrev pub decreases-loop-left : goal.decreases-loop-left
 decreases-loop-left l = l.left

@@ -3,14 +3,14 @@
 -- Assumes nothing.
 use Prim.Native.Nat.{◌-◌, ◌≤◌}
 use mathlib.Core.Path.{◌≡◌}
-use Rattle.rules_unit.specs.Decode.{code_of}
 use Rattle.rules_fence.specs.Validity.{fields_from}
 use Rattle.fence_data.proofs.fields_validity.Given as goal
+use Rattle.unit_decode.specs.Units.{code_in}
 
 abbrev pub invariant-loop-f : goal.invariant-loop-f
 invariant-loop-f l =
-    (l.f ≤ l.parts.f) × (fields_from (code_of l.unit l.parts) l.bytes (l.parts.f - l.f) l.f ≡ fields_from (code_of l.unit l.parts) l.bytes l.parts.f 0)
+    (l.f ≤ l.coded.parts.f) × (fields_from (code_in l.coded) l.bytes (l.coded.parts.f - l.f) l.f ≡ fields_from (code_in l.coded) l.bytes l.coded.parts.f 0)
 
 abbrev pub decreases-loop-f : goal.decreases-loop-f
 decreases-loop-f l =
-    l.parts.f - l.f
+    l.coded.parts.f - l.f

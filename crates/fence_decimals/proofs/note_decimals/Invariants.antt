@@ -5,13 +5,13 @@
 use mathlib.Core.Path.{◌≡◌}
 use Prim.Native.Nat.{◌-◌, ◌≤◌}
 use lib.ListN.{length}
-use Rattle.rules_unit.specs.Decode.{code_of}
 use Rattle.fence_decimals.proofs.Filling.{Half}
 use Rattle.fence_decimals.proofs.note_decimals.Given as goal
+use Rattle.unit_decode.specs.Units.{code_in}
 
 abbrev pub invariant-loop-g : goal.invariant-loop-g
 invariant-loop-g l =
-    Half (code_of l.unit l.parts) l.g l.floor l.ahead × (l.floor ≤ l.parts.d) × (length l.ahead ≡ length l.initial.ahead)
+    Half (code_in l.coded) l.g l.floor l.ahead × (l.floor ≤ l.coded.parts.d) × (length l.ahead ≡ length l.initial.ahead)
 
 abbrev pub decreases-loop-g : goal.decreases-loop-g
-decreases-loop-g l = l.parts.f - l.g
+decreases-loop-g l = l.coded.parts.f - l.g

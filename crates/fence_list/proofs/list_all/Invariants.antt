@@ -4,19 +4,18 @@
 use Prim.Native.Nat.{◌-◌, ◌≤◌}
 use mathlib.Core.Path.{◌≡◌}
 use lib.ListN.{length}
-use Rattle.rules_unit.specs.Decode.{code_of}
 use Rattle.rules_fence.specs.Listed.{statements_broken}
-use Rattle.unit_decode.specs.Rows.{RowsOf}
+use Rattle.unit_decode.specs.Units.{RowsIn, code_in}
 use Rattle.fence_list.specs.Gathered.{gathered}
 use Rattle.fence_list.proofs.Gathering.{G}
 use Rattle.fence_list.proofs.list_all.Given as goal
 
 abbrev pub invariant-loop-i : goal.invariant-loop-i
 invariant-loop-i l =
-    (l.i ≤ l.parts.n)
-    × (gathered l.skip (statements_broken (code_of l.unit l.parts) (l.parts.n - l.i) l.i) (G l.n l.rows) ≡ gathered l.skip (statements_broken (code_of l.unit l.parts) l.parts.n 0) (G 0 l.initial.rows))
-    × RowsOf l.unit l.parts l.noted × (length l.noted ≡ length l.initial.noted) × (length l.rows ≡ length l.initial.rows)
+    (l.i ≤ l.coded.parts.n)
+    × (gathered l.skip (statements_broken (code_in l.coded) (l.coded.parts.n - l.i) l.i) (G l.n l.rows) ≡ gathered l.skip (statements_broken (code_in l.coded) l.coded.parts.n 0) (G 0 l.initial.rows))
+    × RowsIn l.coded l.noted × (length l.noted ≡ length l.initial.noted) × (length l.rows ≡ length l.initial.rows)
 
 abbrev pub decreases-loop-i : goal.decreases-loop-i
 decreases-loop-i l =
-    l.parts.n - l.i
+    l.coded.parts.n - l.i

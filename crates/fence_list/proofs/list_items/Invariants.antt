@@ -4,7 +4,7 @@
 use mathlib.Core.Path.{◌≡◌}
 use Prim.Native.Nat.{◌-◌}
 use lib.ListN.{length}
-use Rattle.rules_unit.specs.Decode.{items_at, code_of}
+use Rattle.rules_unit.specs.Decode.{items_at}
 use Rattle.rules_fence.specs.declared.Seen.TheVariants as seen
 use Rattle.rules_fence.specs.Listed.{broken_from}
 use Rattle.fence_bounds.specs.Asked.{Small}
@@ -12,12 +12,13 @@ use Rattle.fence_statements.specs.Asked.{AllKnown}
 use Rattle.fence_list.specs.Gathered.{gathered}
 use Rattle.fence_list.proofs.Gathering.{G}
 use Rattle.fence_list.proofs.list_items.Given as goal
+use Rattle.unit_decode.specs.Units.{code_in}
 
 abbrev pub invariant-loop-at : goal.invariant-loop-at
 invariant-loop-at l =
-    (gathered l.skip (broken_from (code_of l.unit l.parts) l.i l.dest l.s l.at (items_at l.es l.at)) (G l.n l.rows)
-    ≡ gathered l.skip (broken_from (code_of l.unit l.parts) l.i l.dest seen.Nothing l.from (items_at l.es l.from)) (G l.count l.initial.rows))
-    × Small l.s × AllKnown (code_of l.unit l.parts) (items_at l.es l.at) × (length l.rows ≡ length l.initial.rows)
+    (gathered l.skip (broken_from (code_in l.coded) l.i l.dest l.s l.at (items_at l.es l.at)) (G l.n l.rows)
+    ≡ gathered l.skip (broken_from (code_in l.coded) l.i l.dest seen.Nothing l.from (items_at l.es l.from)) (G l.count l.initial.rows))
+    × Small l.s × AllKnown (code_in l.coded) (items_at l.es l.at) × (length l.rows ≡ length l.initial.rows)
 
 abbrev pub decreases-loop-at : goal.decreases-loop-at
 decreases-loop-at l =

@@ -1,16 +1,9 @@
 -- `fence_list::list_statement` meets its contract: the row is the statement's own, and every use of a unit that passed its check is good.
 -- Assumes nothing.
-use Rattle.rules_unit.proofs.Sound.{passed_fills}
 use Rattle.rules_run.proofs.Lengths.{passed_dialect}
 use Rattle.fence_statements.proofs.Statements.{all_good}
 use Rattle.fence_list.proofs.Statements.{statement_own}
 use Rattle.fence_list.proofs.list_statement.Goals as goal
-
-pub statement-s-requires-clause-fills : goal.statement-s-requires-clause-fills
-statement-s-requires-clause-fills c = search passed_fills depth 3
-
-pub list_uses-requires-clause-fills : goal.list_uses-requires-clause-fills
-list_uses-requires-clause-fills c = search passed_fills depth 3
 
 pub list_uses-requires-clause-sound_dialect : goal.list_uses-requires-clause-sound_dialect
 list_uses-requires-clause-sound_dialect c = search passed_dialect depth 3

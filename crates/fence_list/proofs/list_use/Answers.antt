@@ -7,8 +7,8 @@ use Rattle.fence_list.proofs.list_use.Goals as goal
 pub list_at-requires-clause-all_known : goal.list_at-requires-clause-all_known
 list_at-requires-clause-all_known c = search use_known depth 3
 
-pub returns-in-Nothing : goal.returns-in-Nothing
-returns-in-Nothing c = search use_none depth 3
+pub returns-in-None : goal.returns-in-None
+returns-in-None c = search use_none depth 3
 
-pub returns-in-Of : goal.returns-in-Of
-returns-in-Of c = search use_some depth 3
+pub returns-in-Some : goal.returns-in-Some
+returns-in-Some c = search use_some depth 3

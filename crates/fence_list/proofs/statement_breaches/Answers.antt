@@ -1,14 +1,18 @@
 -- `fence_list::statement_breaches` meets its contract: the answer of the check decides.
 -- Assumes nothing.
-use Rattle.rules_unit.proofs.Sound.{passed_by}
+use Rattle.std.proofs.Common.{rules}
+use Rattle.rules_unit.proofs.Sound.{passed_by, fills_by}
 use Rattle.fence_list.proofs.Statements.{one_passed, one_refused}
 use Rattle.fence_list.proofs.statement_breaches.Goals as goal
+
+pub invariant_of-list_by : goal.invariant_of-list_by
+invariant_of-list_by c = record { fills = search fills_by depth 3; words = search rules }
 
 pub list_by-requires : goal.list_by-requires
 list_by-requires c = search passed_by depth 3
 
-pub returns-in-Passed : goal.returns-in-Passed
-returns-in-Passed c = search one_passed depth 3
+pub returns-in-Ok : goal.returns-in-Ok
+returns-in-Ok c = search one_passed depth 3
 
-pub returns-in-Refused : goal.returns-in-Refused
-returns-in-Refused c = search one_refused depth 3
+pub returns-in-Err : goal.returns-in-Err
+returns-in-Err c = search one_refused depth 3

@@ -17,8 +17,8 @@ span_breach-requires-clause-field_lt_f c = search (found_inside, not-false) dept
 pub span_breach-requires-clause-n_bound : goal.span_breach-requires-clause-n_bound
 span_breach-requires-clause-n_bound c = search (found_inside, not-false) depth 3
 
-pub returns-in-At : goal.returns-in-At
-returns-in-At c = search (reference_at_lem, not-false) depth 3
+pub returns-in-Some : goal.returns-in-Some
+returns-in-Some c = search (reference_at_lem, not-false) depth 3
 
-pub returns-in-Outside : goal.returns-in-Outside
-returns-in-Outside c = search (reference_outside, not-false) depth 3
+pub returns-in-None : goal.returns-in-None
+returns-in-None c = search (reference_outside, not-false) depth 3

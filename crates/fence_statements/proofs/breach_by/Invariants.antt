@@ -4,14 +4,14 @@
 use Prim.Native.Nat.{◌-◌}
 use mathlib.Core.Path.{◌≡◌}
 use lib.ListN.{length}
-use Rattle.unit_decode.specs.Rows.{RowsOf}
+use Rattle.unit_decode.specs.Units.{RowsIn}
 use Rattle.fence_statements.specs.Notes.{Both}
 use Rattle.fence_statements.proofs.Statements.{Left}
 use Rattle.fence_statements.proofs.breach_by.Given as goal
 
 abbrev pub invariant-loop-k : goal.invariant-loop-k
 invariant-loop-k l =
-    Left l.unit l.parts l.row l.s l.k × Both l.unit l.parts l.reads l.writes × RowsOf l.unit l.parts l.rows
+    Left l.coded.unit.now l.coded.parts l.row l.s l.k × Both l.coded l.reads l.writes × RowsIn l.coded l.rows
     × (length l.reads ≡ length l.initial.reads) × (length l.writes ≡ length l.initial.writes) × (length l.rows ≡ length l.initial.rows)
 
 abbrev pub decreases-loop-k : goal.decreases-loop-k

@@ -1,15 +1,8 @@
 -- `fence_statements::breach_of` meets its contract: the row is the statement's own, and every use of a unit that passed its check is good.
 -- Assumes nothing.
-use Rattle.rules_unit.proofs.Sound.{passed_fills}
 use Rattle.rules_run.proofs.Lengths.{passed_dialect}
 use Rattle.fence_statements.proofs.Statements.{all_good, breach_own}
 use Rattle.fence_statements.proofs.breach_of.Goals as goal
-
-pub statement-s-requires-clause-fills : goal.statement-s-requires-clause-fills
-statement-s-requires-clause-fills c = search passed_fills depth 3
-
-pub breach_by-requires-clause-fills : goal.breach_by-requires-clause-fills
-breach_by-requires-clause-fills c = search passed_fills depth 3
 
 pub breach_by-requires-clause-sound_dialect : goal.breach_by-requires-clause-sound_dialect
 breach_by-requires-clause-sound_dialect c = search passed_dialect depth 3

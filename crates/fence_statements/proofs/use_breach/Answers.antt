@@ -7,11 +7,11 @@ use Rattle.fence_statements.proofs.use_breach.Goals as goal
 pub breach_as-requires-clause-all_known : goal.breach_as-requires-clause-all_known
 breach_as-requires-clause-all_known c = search use_known depth 3
 
-pub returns-in-Nothing-clause-value : goal.returns-in-Nothing-clause-value
-returns-in-Nothing-clause-value c = search use_none depth 3
+pub returns-in-None-clause-value : goal.returns-in-None-clause-value
+returns-in-None-clause-value c = search use_none depth 3
 
-pub returns-in-Nothing-clause-both_if : goal.returns-in-Nothing-clause-both_if
-returns-in-Nothing-clause-both_if c = search both_still depth 3
+pub returns-in-None-clause-both_if : goal.returns-in-None-clause-both_if
+returns-in-None-clause-both_if c = search both_still depth 3
 
-pub returns-in-Of-clause-value : goal.returns-in-Of-clause-value
-returns-in-Of-clause-value c = search use_by depth 3
+pub returns-in-Some-clause-value : goal.returns-in-Some-clause-value
+returns-in-Some-clause-value c = search use_by depth 3

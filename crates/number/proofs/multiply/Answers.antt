@@ -1,7 +1,7 @@
 -- `number::multiply` meets its contract: the most that is allowed, divided by one magnitude, is below the other exactly where the
 -- product is too long, and a product that is not too long fits a word.
 -- Assumes nothing.
-use mathlib.Core.Path.{◌≡◌, sym, ap, ◌∙◌}
+use mathlib.Core.Path.{◌≡◌, ap, ◌∙◌}
 use Prim.Native.Nat.{◌<◌}
 use native.Mathlib.Omega.{arith}
 use borrow.Author.Tests.{lt-ltb}
@@ -9,20 +9,8 @@ use lib.IntN.{nat_abs, ◌*ℤ◌}
 use mir.Syntax.{w64}
 use mir.Val.{SFits}
 use Rattle.rules.proofs.Signed.{back, op_fits, op_back, abs_fits}
-use Rattle.number.proofs.Products.{product_zero, product_over, product_under}
+use Rattle.number.proofs.Products.{product_over, product_under}
 use Rattle.number.proofs.multiply.Goals as goal
-
-pub magnitude-m-requires : goal.magnitude-m-requires
-magnitude-m-requires c = rw (back c.ranges.a) (omega (arith, c.requires.val.small))
-
-pub magnitude-n-requires : goal.magnitude-n-requires
-magnitude-n-requires c = rw (back c.ranges.b) (omega (arith, c.requires.val_2.small))
-
-pub returns-then-m-eq0 : goal.returns-then-m-eq0
-returns-then-m-eq0 c =
-    let s = c.before in
-    let m : c.magnitude-m.result ≡ nat_abs c.args.a = c.magnitude-m.ensures ∙ ap nat_abs (back c.ranges.a) in
-    sym (product_zero s.args.top s.args.a s.args.b (omega (arith, s.requires.top.some)) (sym m ∙ c.if-m-eq0.true))
 
 pub returns-then-most-m : goal.returns-then-most-m
 returns-then-most-m c =

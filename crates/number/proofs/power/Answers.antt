@@ -3,9 +3,5 @@
 use Rattle.number.proofs.TenPowers.{powers_at}
 use Rattle.number.proofs.power.Goals as goal
 
--- GONE array-read-result
--- array-read-result : tie.Need-array-read-result
--- array-read-result c = search rules
-
 pub returns : goal.returns
 returns c = powers_at c.args.k c.requires

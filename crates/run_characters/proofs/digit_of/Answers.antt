@@ -1,13 +1,12 @@
--- `run_characters::digit_of` meets its contract: past the table the digit is 0; in it the entry is the power of ten.
+-- `run_characters::digit_of` meets its contract: past the table the digit is 0; in it the place's power of ten tells the digit.
 -- Assumes nothing.
-use Rattle.run_characters.proofs.Digits.{entry_some, digit_past, digit_in}
+use Rattle.rules.specs.Masks.{digit_of}
+use Rattle.run_characters.proofs.Digits.{digit_past}
 use Rattle.run_characters.proofs.digit_of.Goals as goal
 
-pub returns-then-q-gt18 : goal.returns-then-q-gt18
-returns-then-q-gt18 c = search digit_past depth 3
+pub returns-then-q-gt18-clause-value : goal.returns-then-q-gt18-clause-value
+returns-then-q-gt18-clause-value c = search digit_past depth 3
 
-pub nonzero_div-result : goal.nonzero_div-result
-nonzero_div-result c = search entry_some depth 3
-
-pub returns : goal.returns
-returns c = search digit_in depth 3
+pub returns-clause-value : goal.returns-clause-value
+unfolding digit_of
+returns-clause-value c = cc

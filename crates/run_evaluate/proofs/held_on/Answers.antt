@@ -3,8 +3,8 @@
 use Rattle.run_evaluate.proofs.Steps.{on_value, on_failed}
 use Rattle.run_evaluate.proofs.held_on.Goals as goal
 
-pub returns-in-Value : goal.returns-in-Value
-returns-in-Value c = search on_value depth 3
+pub returns-in-Ok : goal.returns-in-Ok
+returns-in-Ok c = search on_value depth 3
 
-pub returns-in-Failed : goal.returns-in-Failed
-returns-in-Failed c = search on_failed depth 3
+pub returns-in-Err : goal.returns-in-Err
+returns-in-Err c = search on_failed depth 3

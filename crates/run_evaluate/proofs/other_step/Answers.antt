@@ -14,6 +14,6 @@ operator_step-requires-clause-i_value c = cc
 pub returns : goal.returns
 returns c =
     bad_leads
-    c.args.unit.now c.args.parts c.args.bytes.now c.args.es.now c.args.i c.args.n c.args.held.now c.requires.ready c.malformed.result
+    c.args.coded.now c.args.bytes.now c.args.es.now c.args.i c.args.n c.args.held.now c.requires.ready c.malformed.result
     (code_none c.args.es.now c.args.i c.args.code c.operator_at-item.result c.requires.i_value c.operator_at-item.ensures (omega arith) c.requires.lt_code.1 c.in_default.not-Operator)
     c.malformed.ensures

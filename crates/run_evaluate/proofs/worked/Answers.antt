@@ -1,7 +1,6 @@
--- `run_evaluate::worked` meets its contract: the part of the unit that it hands to `worked_in` is the expressions.
+-- `run_evaluate::worked` meets its contract: it works out the expressions of the unit.
 -- Assumes nothing.
-use Rattle.run_evaluate.proofs.Numbers.{worked_part}
 use Rattle.run_evaluate.proofs.worked.Goals as goal
 
 pub returns : goal.returns
-returns c = search worked_part depth 3
+returns c = rw (c.expressions.ensures.value, c.long.ensures) at c.worked_in.ensures

@@ -9,7 +9,7 @@ use Rattle.run_evaluate.proofs.worked_in.Goals as goal
 
 pub loop-i-init : goal.loop-i-init
 loop-i-init c = (
-  rest_start (code_of c.args.unit.now c.args.parts) c.args.bytes.now (items_at c.args.es.now c.args.at) _,
+  rest_start (code_of c.args.coded.now.unit.now c.args.coded.now.parts) c.args.bytes.now (items_at c.args.es.now c.args.at) _,
   search rules,
   vals_zero 17,
 )

@@ -5,14 +5,15 @@
 use mathlib.Core.Path.{◌≡◌}
 use Prim.Native.Nat.{◌-◌}
 use lib.ListN.{length}
-use Rattle.rules_unit.specs.Decode.{items_at, code_of}
+use Rattle.rules_unit.specs.Decode.{items_at}
 use Rattle.rules_run.specs.Evaluation.{worked_of}
 use Rattle.run_evaluate.specs.Steps.{top_down, rest_of, Vals}
 use Rattle.run_evaluate.proofs.worked_in.Given as goal
+use Rattle.unit_decode.specs.Units.{code_in}
 
 abbrev pub invariant-loop-i : goal.invariant-loop-i
 invariant-loop-i l =
-    (rest_of (code_of l.unit l.parts) l.bytes (items_at l.es l.i) (top_down l.held l.n) ≡ worked_of (code_of l.unit l.parts) l.bytes (items_at l.es l.at))
+    (rest_of (code_in l.coded) l.bytes (items_at l.es l.i) (top_down l.held l.n) ≡ worked_of (code_in l.coded) l.bytes (items_at l.es l.at))
     × (length l.held ≡ 17)
     × Vals l.held
 

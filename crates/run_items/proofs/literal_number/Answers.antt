@@ -7,8 +7,8 @@ use Rattle.run_items.proofs.literal_number.Goals as goal
 pub returns-then-len-lt1 : goal.returns-then-len-lt1
 returns-then-len-lt1 c = search (literal_none, number_empty) depth 4
 
-pub returns-then-parts-len : goal.returns-then-parts-len
-returns-then-parts-len c = search (literal_none, number_long) depth 4
+pub returns-then-coded-len : goal.returns-then-coded-len
+returns-then-coded-len c = search (literal_none, number_long) depth 4
 
 pub returns-then-most-from : goal.returns-then-most-from
 returns-then-most-from c = search (literal_none, number_past) depth 4

@@ -4,7 +4,6 @@
 -- the loop's own test and that of the allowance.
 -- Assumes nothing.
 use borrow.Author.Rules.{rules}
-use Rattle.run_loop.proofs.Flows.{}
 use Rattle.run_loop.proofs.Loop.{passed_laws, turn_ways, turn_on, turn_sounds, still_seen, entered_loops, closed_loops, turn_call, turn_return, turn_enter, turn_leave, sound_calls, sound_loops, passed_place, passed_applied}
 use Rattle.run_loop.proofs.stretch.Goals as goal
 
@@ -14,23 +13,17 @@ look-look-requires c = search sound_loops depth 3
 pub returns-then-left-eq0 : goal.returns-then-left-eq0
 returns-then-left-eq0 c = search turn_ways depth 3
 
-pub turn_at-turn-requires-clause-fills : goal.turn_at-turn-requires-clause-fills
-turn_at-turn-requires-clause-fills c = search passed_laws depth 3
+pub turn_at-answer-requires-clause-sound_dialect : goal.turn_at-answer-requires-clause-sound_dialect
+turn_at-answer-requires-clause-sound_dialect c = search passed_laws depth 3
 
-pub turn_at-turn-requires-clause-sound_dialect : goal.turn_at-turn-requires-clause-sound_dialect
-turn_at-turn-requires-clause-sound_dialect c = search passed_laws depth 3
+pub turn_at-answer-requires-clause-sound_code : goal.turn_at-answer-requires-clause-sound_code
+turn_at-answer-requires-clause-sound_code c = search passed_laws depth 3
 
-pub turn_at-turn-requires-clause-sound_code : goal.turn_at-turn-requires-clause-sound_code
-turn_at-turn-requires-clause-sound_code c = search passed_laws depth 3
+pub turn_at-answer-requires-clause-look_sound : goal.turn_at-answer-requires-clause-look_sound
+turn_at-answer-requires-clause-look_sound c = search passed_laws depth 3
 
-pub turn_at-turn-requires-clause-look_sound : goal.turn_at-turn-requires-clause-look_sound
-turn_at-turn-requires-clause-look_sound c = search passed_laws depth 3
-
-pub returns-in-Bad : goal.returns-in-Bad
-returns-in-Bad c = let l = c.loop-s in search (turn_ways, l) depth 3
-
-pub store-requires-clause-fills : goal.store-requires-clause-fills
-store-requires-clause-fills c = search passed_laws depth 3
+pub returns-in-Err : goal.returns-in-Err
+returns-in-Err c = let l = c.loop-s in search (turn_ways, l) depth 3
 
 pub store-requires-clause-sound_dialect : goal.store-requires-clause-sound_dialect
 store-requires-clause-sound_dialect c = search passed_laws depth 3
@@ -115,11 +108,8 @@ loop-s-preserved-in-Arm c = (search turn_on depth 4, search rules, search rules,
 pub arm-s-requires-in-Disarm : goal.arm-s-requires-in-Disarm
 arm-s-requires-in-Disarm c = search passed_place depth 3
 
-pub loop-s-preserved-in-Disarm : goal.loop-s-preserved-in-Disarm
-loop-s-preserved-in-Disarm c = (search turn_on depth 4, search rules, search rules, search rules, search rules, search turn_sounds depth 4, search still_seen depth 3, search passed_applied depth 4, search passed_applied depth 4)
-
 pub loop-s-preserved : goal.loop-s-preserved
-loop-s-preserved c = absurd (c.in_default.not-Bad c.in-Bad-flow.field-0 c.in-Bad-flow.is)
+loop-s-preserved c = (search turn_on depth 4, search rules, search rules, search rules, search rules, search turn_sounds depth 4, search still_seen depth 3, search passed_applied depth 4, search passed_applied depth 4)
 
 pub returns : goal.returns
 returns c = search turn_ways depth 3

@@ -4,28 +4,27 @@
 -- unit's. The measure: the allowance left. Where a loop is opened or closed, the invariant lies too far back to be searched for, and is named; so are
 -- the loop's own test and that of the allowance.
 -- Assumes nothing.
+use Rattle.std.specs.Prelude.{Ok}
 use Prim.Native.Nat.{◌+◌, ◌<◌, ◌≤◌}
 use mathlib.Core.Path.{◌≡◌}
 use lib.ListN.{length}
-use Rattle.rules_unit.specs.declared.Checked.TheVariants as checked
-use Rattle.rules_unit.specs.Decode.{code_of}
 use Rattle.rules_unit.specs.Checks.{check_of}
 use Rattle.rules_run.specs.States.{Sound, look_of}
 use Rattle.rules_run.specs.Runs.{run_from}
-use Rattle.run_loop.proofs.Flows.{}
 use Rattle.run_loop.proofs.stretch.Given as goal
+use Rattle.unit_decode.specs.Units.{code_in}
 
 abbrev pub invariant-loop-s : goal.invariant-loop-s
 invariant-loop-s l =
-    (run_from (code_of l.unit l.parts) l.left l.s l.bytes l.count ≡ run_from (code_of l.unit l.parts) l.allowance l.initial.s l.initial.bytes l.done)
+    (run_from (code_in l.coded) l.left l.s l.bytes l.count ≡ run_from (code_in l.coded) l.allowance l.initial.s l.initial.bytes l.done)
     × (l.done ≤ l.count)
     × (l.count + l.left ≡ l.done + l.allowance)
     × (l.done + l.allowance < 18446744073709551616)
-    × (check_of l.unit ≡ checked.Passed l.parts)
-    × Sound (code_of l.unit l.parts) l.s
+    × (check_of l.coded.unit.now ≡ Ok l.coded.parts)
+    × Sound (code_in l.coded) l.s
     × (l.look ≡ look_of l.s)
     × (length l.bytes ≡ length l.initial.bytes)
-    × (length l.bytes ≡ l.parts.d)
+    × (length l.bytes ≡ l.coded.parts.d)
 
 abbrev pub decreases-loop-s : goal.decreases-loop-s
 decreases-loop-s l = l.left

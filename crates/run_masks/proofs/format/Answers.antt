@@ -8,11 +8,8 @@ use Rattle.rules.proofs.Signed.{back}
 use Rattle.run_masks.proofs.Laying.{format_end}
 use Rattle.run_masks.proofs.format.Goals as goal
 
-pub finish-requires-clause-powers : goal.finish-requires-clause-powers
-finish-requires-clause-powers c = c.powers-t.ensures
-
-pub finish-requires-clause-digits_bound : goal.finish-requires-clause-digits_bound
-finish-requires-clause-digits_bound c =
+pub finish-requires : goal.finish-requires
+finish-requires c =
     let plan_is : let a = c.args in c.plan-g.result ≡ plan_of (length a.s.now) a.m.now a.v = c.plan-g.ensures ∙ ap (plan_of (length c.args.s.now) c.args.m.now) (back c.ranges.v) in
     plan_small (length c.args.s.now) c.args.m.now c.args.v c.plan-g.result (plan_is) c.requires
 

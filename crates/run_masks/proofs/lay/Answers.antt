@@ -7,4 +7,4 @@ use Rattle.run_masks.proofs.lay.Goals as goal
 pub returns : goal.returns
 returns c =
     let a = c.args in
-    lay_end a.s.now _ c.fill.new.s c.fit.new.s a.m.now c.without-gap.result c.without-cut.result c.without-gap.ensures c.without-cut.ensures c.fill.ensures refl c.fit.ensures
+    lay_end a.s.now _ c.fill.new.s c.fit.new.s a.m.now c.saturating_sub-gap.result c.saturating_sub-cut.result c.saturating_sub-gap.ensures c.saturating_sub-cut.ensures c.fill.ensures refl c.fit.ensures

@@ -1,22 +1,11 @@
 -- `run_masks::skip` meets its contract: each turn goes one character on.
 -- Assumes nothing.
-use mathlib.Core.Path.{refl}
-use Prim.Native.Nat.{◌-◌}
-use native.Mathlib.Omega.{arith}
+use borrow.Author.Rules.{rules}
 use Rattle.run_masks.proofs.Editing.{skip_turn, skip_end}
 use Rattle.run_masks.proofs.skip.Goals as goal
 
-pub loop-i-init : goal.loop-i-init
-loop-i-init c = (omega arith, refl)
-
-pub overflow_add-i : goal.overflow_add-i
-overflow_add-i c = omega arith
-
-pub loop-i-smaller : goal.loop-i-smaller
-loop-i-smaller c = omega arith
-
-pub loop-i-preserved : goal.loop-i-preserved
-loop-i-preserved c = (omega arith, search skip_turn depth 3)
+pub loop-c-preserved : goal.loop-c-preserved
+loop-c-preserved c = search (skip_turn, rules) depth 3
 
 pub returns : goal.returns
-returns c = search skip_end depth 3
+returns c = search (skip_end, rules) depth 3

@@ -1,21 +1,19 @@
--- `run_masks::tally` meets its contract: each turn counts the character before those that are more_by.
+-- `run_masks::tally` meets its contract: each turn counts the character before those that are counted.
 -- Assumes nothing.
 use native.Mathlib.Omega.{arith}
 use lib.ListN.{length}
-use Rattle.run_masks.proofs.Tallying.{moneys_room, places_room, tally_start, tally_turn, tally_end}
+use borrow.Author.Rules.{rules}
+use Rattle.run_masks.proofs.Tallying.{moneys_room, places_room, tally_start, tally_turn}
 use Rattle.run_masks.proofs.tally.Goals as goal
 
 pub loop-i-init : goal.loop-i-init
-loop-i-init c = let m = c.args.m in (omega arith, tally_start m.now (length m.now) (omega arith))
+loop-i-init c = let m = c.args.m in tally_start m.now (length m.now) (omega arith)
 
-pub add_to-t-requires : goal.add_to-t-requires
-add_to-t-requires c = search (moneys_room, places_room) depth 3
+pub add_to-t-requires-clause-moneys_bound : goal.add_to-t-requires-clause-moneys_bound
+add_to-t-requires-clause-moneys_bound c = search (moneys_room, rules) depth 3
 
-pub loop-i-smaller : goal.loop-i-smaller
-loop-i-smaller c = omega arith
+pub add_to-t-requires-clause-places_bound : goal.add_to-t-requires-clause-places_bound
+add_to-t-requires-clause-places_bound c = search (places_room, rules) depth 3
 
 pub loop-i-preserved : goal.loop-i-preserved
-loop-i-preserved c = (omega arith, search tally_turn depth 3)
-
-pub returns : goal.returns
-returns c = search tally_end depth 3
+loop-i-preserved c = search (tally_turn, rules) depth 3

@@ -6,8 +6,8 @@ use Rattle.run_passes.proofs.exit.Goals as goal
 pub returns-then-look-eq0 : goal.returns-then-look-eq0
 returns-then-look-eq0 c = search exits_none depth 3
 
-pub statement-s-requires-clause-i_lt_n : goal.statement-s-requires-clause-i_lt_n
-statement-s-requires-clause-i_lt_n c = search last_low depth 3
+pub statement-s-requires : goal.statement-s-requires
+statement-s-requires c = search last_low depth 3
 
 pub overflow_add-s : goal.overflow_add-s
 overflow_add-s c = search last_behind depth 3

@@ -6,8 +6,8 @@ use Rattle.run_passes.proofs.repeat.Goals as goal
 pub returns-then-look-eq0 : goal.returns-then-look-eq0
 returns-then-look-eq0 c = search repeats_none depth 3
 
-pub statement-s-requires-clause-i_lt_n : goal.statement-s-requires-clause-i_lt_n
-statement-s-requires-clause-i_lt_n c = search last_low depth 3
+pub statement-s-requires : goal.statement-s-requires
+statement-s-requires c = search last_low depth 3
 
 pub pass-requires-clause-loop_sound : goal.pass-requires-clause-loop_sound
 pass-requires-clause-loop_sound c = search last_sound depth 3

@@ -3,8 +3,8 @@
 use Rattle.run_spans.proofs.Finding.{field_at, field_none}
 use Rattle.run_spans.proofs.held_to.Goals as goal
 
-pub returns-in-At : goal.returns-in-At
-returns-in-At c = search field_at depth 3
+pub returns-in-Some : goal.returns-in-Some
+returns-in-Some c = search field_at depth 3
 
-pub returns-in-Outside : goal.returns-in-Outside
-returns-in-Outside c = search field_none depth 3
+pub returns-in-None : goal.returns-in-None
+returns-in-None c = search field_none depth 3

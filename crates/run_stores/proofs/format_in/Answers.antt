@@ -10,12 +10,8 @@ use Rattle.rules.proofs.Signed.{back}
 use Rattle.run_stores.proofs.Masks.{format_part}
 use Rattle.run_stores.proofs.format_in.Goals as goal
 
-pub finish-requires-clause-powers : goal.finish-requires-clause-powers
-finish-requires-clause-powers c = let a = c.args in
-    c.powers-t.ensures
-
-pub finish-requires-clause-digits_bound : goal.finish-requires-clause-digits_bound
-finish-requires-clause-digits_bound c =
+pub finish-requires : goal.finish-requires
+finish-requires c =
     let plan_is : let a = c.args in c.plan-g.result ≡ plan_of a.len (take a.count (drop a.from a.bytes.now)) a.v = let a = c.args in
     c.plan-g.ensures
     ∙ ap (plan_of a.len (take (a.from + a.count - a.from) (drop a.from a.bytes.now))) (back c.ranges.v)

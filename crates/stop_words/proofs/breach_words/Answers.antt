@@ -4,30 +4,6 @@ use Rattle.rules_host.specs.Words.{breach_words_of, codes}
 use Rattle.stop_words.proofs.Said.{breach_by_lem, unbroken}
 use Rattle.stop_words.proofs.breach_words.Goals as goal
 
--- GONE slice-aggregate-put
--- slice-aggregate-put : tie.Need-slice-aggregate-put
--- slice-aggregate-put c = search rules
-
--- GONE slice-aggregate-put-2
--- slice-aggregate-put-2 : tie.Need-slice-aggregate-put-2
--- slice-aggregate-put-2 c = search rules
-
--- GONE slice-aggregate-put-3
--- slice-aggregate-put-3 : tie.Need-slice-aggregate-put-3
--- slice-aggregate-put-3 c = search rules
-
--- GONE slice-aggregate-put-4
--- slice-aggregate-put-4 : tie.Need-slice-aggregate-put-4
--- slice-aggregate-put-4 c = search rules
-
--- GONE slice-aggregate-put-5
--- slice-aggregate-put-5 : tie.Need-slice-aggregate-put-5
--- slice-aggregate-put-5 c = search rules
-
--- GONE slice-aggregate-put-6
--- slice-aggregate-put-6 : tie.Need-slice-aggregate-put-6
--- slice-aggregate-put-6 c = search rules
-
 pub returns-in-1 : goal.returns-in-1
 unfolding breach_words_of codes
 returns-in-1 c = search breach_by_lem depth 3

@@ -1,16 +1,12 @@
 -- `text::figures` meets its contract: each character is read as the rule reads it, and each way out answers what the rule answers there.
--- The invariant: what is still to be read, after the digits of acc, answers as the whole does, and acc has at most i digits.
--- The measure: the characters before the last that are still to be read.
+-- The invariant: what the characters up to i came to, with those from i on, comes to what all of them do.
 -- Assumes nothing.
 use mathlib.Core.Path.{◌≡◌}
-use Prim.Native.Nat.{◌+◌, ◌-◌, ◌^◌, ◌≤◌, ◌<◌}
+use Prim.Native.Nat.{◌+◌, ◌^◌, ◌<◌}
 use lib.ListN.{get_or, drop}
 use Rattle.rules.specs.Values.{read_from}
 use Rattle.text.proofs.figures.Given as goal
 
 abbrev pub invariant-loop-i : goal.invariant-loop-i
 invariant-loop-i l =
-    (l.i ≤ l.end) × (l.acc < 10 ^ l.i) × (read_from l.sign 0 (get_or l.s l.from 0) (drop (l.from + 1) l.s) ≡ read_from l.sign l.acc (get_or l.s l.i 0) (drop (l.i + 1) l.s))
-
-abbrev pub decreases-loop-i : goal.decreases-loop-i
-decreases-loop-i l = l.end - l.i
+    (l.acc < 10 ^ l.i) × (read_from l.sign 0 (get_or l.s l.from 0) (drop (l.from + 1) l.s) ≡ read_from l.sign l.acc (get_or l.s l.i 0) (drop (l.i + 1) l.s))

@@ -3,12 +3,12 @@
 -- Assumes nothing.
 use Prim.Native.Nat.{◌≤◌, ◌-◌}
 use mathlib.Core.Path.{◌≡◌}
-use Rattle.rules_unit.specs.Decode.{code_of}
 use Rattle.rules_unit.specs.Checks.{gotosb}
 use Rattle.unit_check.proofs.gotos.Given as goal
+use Rattle.unit_decode.specs.Units.{code_in}
 
 abbrev pub invariant-loop-j : goal.invariant-loop-j
-invariant-loop-j l = (l.j ≤ l.end) × (gotosb (code_of l.unit l.parts) (l.end - l.j) l.j ≡ gotosb (code_of l.unit l.parts) l.n l.i)
+invariant-loop-j l = (l.j ≤ l.end) × (gotosb (code_in l.coded) (l.end - l.j) l.j ≡ gotosb (code_in l.coded) l.n l.i)
 
 abbrev pub decreases-loop-j : goal.decreases-loop-j
 decreases-loop-j l = l.end - l.j

@@ -4,7 +4,7 @@ use Prim.Native.Nat.{◌≤◌, ◌-◌}
 use Rattle.unit_check.proofs.has_for.Given as goal
 
 abbrev pub invariant-loop-i : goal.invariant-loop-i
-invariant-loop-i l = l.i ≤ l.parts.n
+invariant-loop-i l = l.i ≤ l.coded.parts.n
 
 abbrev pub decreases-loop-i : goal.decreases-loop-i
-decreases-loop-i l = l.parts.n - l.i
+decreases-loop-i l = l.coded.parts.n - l.i

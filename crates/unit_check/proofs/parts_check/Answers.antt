@@ -6,8 +6,8 @@ use Rattle.unit_check.proofs.parts_check.Goals as goal
 pub returns-then-not-ranges : goal.returns-then-not-ranges
 returns-then-not-ranges c = search parts_laws depth 3
 
-pub returns-then-good-parts : goal.returns-then-good-parts
-returns-then-good-parts c = search parts_laws depth 3
+pub returns-then-good-coded : goal.returns-then-good-coded
+returns-then-good-coded c = search parts_laws depth 3
 
 pub returns : goal.returns
 returns c = search parts_laws depth 3

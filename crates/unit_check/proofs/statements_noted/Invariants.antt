@@ -5,14 +5,14 @@ use Prim.Native.Nat.{◌≤◌, ◌-◌}
 use mathlib.Core.Path.{◌≡◌}
 use lib.ListN.{length}
 use Rattle.rules_unit.specs.Checks.{statements_from}
-use Rattle.unit_decode.specs.Rows.{RowsOf}
-use Rattle.unit_sorts.specs.Notes.{NotedOf}
+use Rattle.unit_decode.specs.Units.{RowsIn}
+use Rattle.unit_sorts.specs.Notes.{NotedIn}
 use Rattle.unit_check.proofs.statements_noted.Given as goal
 
 abbrev pub invariant-loop-i : goal.invariant-loop-i
 invariant-loop-i l =
-    (l.i ≤ l.parts.n) × (statements_from l.unit l.parts (l.parts.n - l.i) l.i ≡ statements_from l.unit l.parts l.parts.n 0)
-    × NotedOf l.unit l.parts l.notes × RowsOf l.unit l.parts l.rows × (length l.notes ≡ length l.initial.notes) × (length l.rows ≡ length l.initial.rows)
+    (l.i ≤ l.coded.parts.n) × (statements_from l.coded.unit.now l.coded.parts (l.coded.parts.n - l.i) l.i ≡ statements_from l.coded.unit.now l.coded.parts l.coded.parts.n 0)
+    × NotedIn l.coded l.notes × RowsIn l.coded l.rows × (length l.notes ≡ length l.initial.notes) × (length l.rows ≡ length l.initial.rows)
 
 abbrev pub decreases-loop-i : goal.decreases-loop-i
-decreases-loop-i l = l.parts.n - l.i
+decreases-loop-i l = l.coded.parts.n - l.i

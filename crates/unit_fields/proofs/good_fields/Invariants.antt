@@ -3,13 +3,13 @@
 -- Assumes nothing.
 use Prim.Native.Nat.{◌≤◌, ◌-◌}
 use mathlib.Core.Path.{◌≡◌}
-use Rattle.rules_unit.specs.Decode.{code_of}
 use Rattle.rules_unit.specs.Checks.{good_fields}
 use Rattle.unit_fields.proofs.good_fields.Given as goal
+use Rattle.unit_decode.specs.Units.{code_in}
 
 abbrev pub invariant-loop-i : goal.invariant-loop-i
 invariant-loop-i l =
-    (l.i ≤ l.parts.f) × (good_fields (code_of l.unit l.parts) (l.parts.f - l.i) l.i l.floor ≡ good_fields (code_of l.unit l.parts) l.parts.f 0 0)
+    (l.i ≤ l.coded.parts.f) × (good_fields (code_in l.coded) (l.coded.parts.f - l.i) l.i l.floor ≡ good_fields (code_in l.coded) l.coded.parts.f 0 0)
 
 abbrev pub decreases-loop-i : goal.decreases-loop-i
-decreases-loop-i l = l.parts.f - l.i
+decreases-loop-i l = l.coded.parts.f - l.i

@@ -1,7 +1,6 @@
--- `unit_literal::source_text` meets its contract: the part of the unit that is handed on is the unit's expressions.
+-- `unit_literal::source_text` meets its contract: it reads the unit's expressions.
 -- Assumes nothing.
-use Rattle.unit_literal.proofs.Stretches.{source_by}
 use Rattle.unit_literal.proofs.source_text.Goals as goal
 
 pub returns : goal.returns
-returns c = search source_by depth 3
+returns c = rw (c.expressions.ensures.value, c.long.ensures, c.literals_offset-from.ensures) at c.lone_text.ensures

@@ -4,14 +4,14 @@
 use Prim.Native.Nat.{◌-◌, ◌≤◌}
 use mathlib.Core.Path.{◌≡◌}
 use lib.ListN.{length}
-use Rattle.rules_unit.specs.Decode.{code_of}
 use Rattle.unit_sorts.specs.Notes.{Noted}
 use Rattle.unit_sorts.proofs.Leads.{Leads}
 use Rattle.unit_sorts.proofs.note_in.Given as goal
+use Rattle.unit_decode.specs.Units.{code_in}
 
 abbrev pub invariant-loop-i : goal.invariant-loop-i
 invariant-loop-i l =
-    Noted (code_of l.unit l.parts) l.s l.notes × Leads (code_of l.unit l.parts) l.s l.i l.n l.k × (l.n ≤ 16) × (length l.notes ≡ length l.initial.notes)
+    Noted (code_in l.coded) l.s l.notes × Leads (code_in l.coded) l.s l.i l.n l.k × (l.n ≤ 16) × (length l.notes ≡ length l.initial.notes)
 
 abbrev pub decreases-loop-i : goal.decreases-loop-i
-decreases-loop-i l = l.parts.e - l.i
+decreases-loop-i l = l.coded.parts.e - l.i

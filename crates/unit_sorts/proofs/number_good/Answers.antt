@@ -7,8 +7,8 @@ use Rattle.unit_sorts.proofs.number_good.Goals as goal
 pub returns-then-len-lt1 : goal.returns-then-len-lt1
 returns-then-len-lt1 c = search number_empty depth 3
 
-pub returns-then-parts-len : goal.returns-then-parts-len
-returns-then-parts-len c = search number_long depth 3
+pub returns-then-coded-len : goal.returns-then-coded-len
+returns-then-coded-len c = search number_long depth 3
 
 pub returns-then-most-from : goal.returns-then-most-from
 returns-then-most-from c = search number_past depth 3

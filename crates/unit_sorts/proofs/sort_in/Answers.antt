@@ -39,8 +39,8 @@ returns-then-n-taken c = search (turn_few, not_end) depth 3
 pub returns-then-n-taken-gt16 : goal.returns-then-n-taken-gt16
 returns-then-n-taken-gt16 c = search (turn_full, not_end, rules) depth 3
 
-pub sort_of-k-requires-clause-item_value : goal.sort_of-k-requires-clause-item_value
-sort_of-k-requires-clause-item_value c = search seen_yes depth 3
+pub sort_of-k-requires : goal.sort_of-k-requires
+sort_of-k-requires c = search seen_yes depth 3
 
 pub overflow_add-i : goal.overflow_add-i
 overflow_add-i c = omega (arith, width_most (item_of c))

@@ -7,13 +7,14 @@ use mathlib.Core.Path.{◌≡◌}
 use Prim.Native.Nat.{◌-◌, ◌≤◌}
 use lib.ListN.{length}
 use Rattle.rules_unit.specs.declared.Sort.TheVariants as sort
-use Rattle.rules_unit.specs.Decode.{items_at, code_of}
+use Rattle.rules_unit.specs.Decode.{items_at}
 use Rattle.rules_unit.specs.Expressions.{sort_from}
 use Rattle.unit_sorts.proofs.sort_in.Given as goal
+use Rattle.unit_decode.specs.Units.{code_in}
 
 abbrev pub invariant-loop-i : goal.invariant-loop-i
 invariant-loop-i l =
-    (sort_from (code_of l.unit l.parts) (items_at l.s l.i) l.n l.k ≡ sort_from (code_of l.unit l.parts) (items_at l.s l.at) 0 sort.Number) × (l.n ≤ 16)
+    (sort_from (code_in l.coded) (items_at l.s l.i) l.n l.k ≡ sort_from (code_in l.coded) (items_at l.s l.at) 0 sort.Number) × (l.n ≤ 16)
 
 abbrev pub decreases-loop-i : goal.decreases-loop-i
 decreases-loop-i l = length l.s - l.i

@@ -5,8 +5,8 @@ use Rattle.rules_unit.proofs.Items.{known_field}
 use Rattle.unit_sorts.proofs.Items.{reference_sort}
 use Rattle.unit_sorts.proofs.sort_of.Goals as goal
 
-pub field_sort-requires-clause-i_lt_f : goal.field_sort-requires-clause-i_lt_f
-field_sort-requires-clause-i_lt_f c = search known_field depth 3
+pub field_sort-requires : goal.field_sort-requires
+field_sort-requires c = search known_field depth 3
 
 pub returns-in-Reference : goal.returns-in-Reference
 returns-in-Reference c = search reference_sort depth 3
