@@ -92,13 +92,7 @@ fn put_figures(l: &mut Line, unit: Unit<'_>, s: &[u8]) {
 }
 
 // Puts the elements of a field that a row has from the element i on, each as it is put alone, with a space between two.
-fn put_elements<F: FnMut(&mut Line, &[u8])>(
-    l: &mut Line,
-    data: &[u8],
-    field: Field,
-    i: usize,
-    mut put: F,
-)
+fn put_elements<F: Fn(&mut Line, &[u8])>(l: &mut Line, data: &[u8], field: Field, i: usize, put: F)
     requires { F.IsAlwaysCallable put }
 {
     let start = start_of(field, i);

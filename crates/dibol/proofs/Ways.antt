@@ -31,9 +31,6 @@ start_by x z e q = q ∙ rw e
 
 -- What `run_state::sound` asks of the unit.
 module _ (u : List ℕ) (v : Result Parts Refusal) (is : v ≡ check_of u) (p : Parts) (e : v ≡ Ok p) where
-  pub unit_fills : Fills u p
-  unit_fills = passed_fills u p (passed_by u v is p e)
-
   pub unit_dialect : SoundDialect p.dialect
   unit_dialect = passed_dialect u p (passed_by u v is p e)
 

@@ -18,8 +18,8 @@ use rules_run::{Outcome, State, Stop, Trap};
 use rules_unit::{Field, Parts, Refusal, Stretch};
 use unit_decode::Coded;
 
-// Checks a unit by the rules 1 to 5 of document 01, in their order. The answer is Passed with the lengths of the unit's parts,
-// or Refused with the first rule that does not hold and its place: `refusal_number` and `refusal_place` give both as numbers.
+// Checks a unit by the rules 1 to 5 of document 01, in their order. The answer is Ok with the lengths of the unit's parts,
+// or Err with the first rule that does not hold and its place: `refusal_number` and `refusal_place` give both as numbers.
 // A unit that passes can be run; nothing else about it needs to be checked by the host.
 pub fn check(unit: &[u8]) -> Result<Parts, Refusal>
     ensures { result ≡ check_of unit.now }

@@ -26,13 +26,11 @@ fn verdict_by(
     requires rows_of { RowsIn coded.now rows.old }
     ensures { result ≡ verdict_from (code_in coded.now) coded.now.parts.n 0 }
 {
-    let mut i: u16 = 0;
-    while i < coded.parts.n {
+    for i in 0..coded.parts.n {
         let b = fence_statements::breach_of(coded, ahead, reads, writes, rows, i);
         if !fence_statements::keeps(b) {
             return Verdict::No(i);
         }
-        i += 1;
     }
     Verdict::Yes
 }
@@ -80,7 +78,7 @@ fn breach_by(coded: &Coded, i: usize) -> Breach
     requires { check_of coded.now.unit.now ≡ Ok coded.now.parts }
     ensures { result ≡ breach_by coded.now.unit.now i (Ok coded.now.parts) }
 {
-    if unit_decode::long(coded.parts.n) <= i {
+    if usize::from(coded.parts.n) <= i {
         return Breach::None;
     }
     breach_alone(coded, i as u16)

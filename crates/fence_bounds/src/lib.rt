@@ -20,24 +20,7 @@ use unit_decode::Coded;
 fn is_negate(op: Op) -> bool
     ensures { result ≡ is_negate op }
 {
-    match op {
-        Op::Add => false,
-        Op::Subtract => false,
-        Op::Multiply => false,
-        Op::Divide => false,
-        Op::Round => false,
-        Op::Negate => true,
-        Op::Eq => false,
-        Op::Ne => false,
-        Op::Gt => false,
-        Op::Lt => false,
-        Op::Ge => false,
-        Op::Le => false,
-        Op::Not => false,
-        Op::And => false,
-        Op::Or => false,
-        Op::Xor => false,
-    }
+    matches!(op, Op::Negate)
 }
 
 // The bounds after a literal of the value v.
@@ -49,16 +32,7 @@ fn seen_value(v: i64, s: Seen) -> Seen
             last: v,
             plain: true,
         },
-        Seen::One { last, plain: _ } => Seen::Two {
-            first: last,
-            last: v,
-            plain: true,
-        },
-        Seen::Two {
-            first: _,
-            last,
-            plain: _,
-        } => Seen::Two {
+        Seen::One { last, .. } | Seen::Two { last, .. } => Seen::Two {
             first: last,
             last: v,
             plain: true,
@@ -95,7 +69,7 @@ fn seen_negate(s: Seen) -> Seen
         Seen::Two { first, last, plain } => {
             if plain {
                 return Seen::Two {
-                    first: first,
+                    first,
                     last: number::negate(last),
                     plain: false,
                 };
@@ -115,16 +89,13 @@ pub fn seen_after(coded: &Coded, s: Seen, item: Item) -> Seen
         Item::Number { place, len } => {
             seen_number(run_items::literal_number(coded, place, len), s)
         }
-        Item::Reference { form: _, field: _ } => Seen::Nothing,
-        Item::Text { place: _, len: _ } => Seen::Nothing,
         Item::Operator(op) => {
             if is_negate(op) {
                 return seen_negate(s);
             }
             Seen::Nothing
         }
-        Item::End => Seen::Nothing,
-        Item::Bad => Seen::Nothing,
+        Item::Reference { .. } | Item::Text { .. } | Item::End | Item::Bad => Seen::Nothing,
     }
 }
 
@@ -134,30 +105,14 @@ pub fn seen_after(coded: &Coded, s: Seen, item: Item) -> Seen
 pub fn has_one(s: Seen) -> bool
     ensures { result ≡ boundedb form.Subscript s }
 {
-    match s {
-        Seen::Nothing => false,
-        Seen::One { last: _, plain: _ } => true,
-        Seen::Two {
-            first: _,
-            last: _,
-            plain: _,
-        } => true,
-    }
+    !matches!(s, Seen::Nothing)
 }
 
 // Whether there are two bounds.
 fn has_two(s: Seen) -> bool
     ensures { result ≡ boundedb form.StartEnd s }
 {
-    match s {
-        Seen::Nothing => false,
-        Seen::One { last: _, plain: _ } => false,
-        Seen::Two {
-            first: _,
-            last: _,
-            plain: _,
-        } => true,
-    }
+    matches!(s, Seen::Two { .. })
 }
 
 // Whether there are as many bounds as a reference takes.
@@ -167,8 +122,7 @@ pub fn bounded(form: Form, s: Seen) -> bool
     match form {
         Form::First => true,
         Form::Subscript => has_one(s),
-        Form::StartEnd => has_two(s),
-        Form::PosLength => has_two(s),
+        Form::StartEnd | Form::PosLength => has_two(s),
     }
 }
 
@@ -177,13 +131,8 @@ fn first_bound(s: Seen) -> i64
     ensures { result ≡ first_bound s }
 {
     match s {
-        Seen::Nothing => 0,
-        Seen::One { last: _, plain: _ } => 0,
-        Seen::Two {
-            first,
-            last: _,
-            plain: _,
-        } => first,
+        Seen::Nothing | Seen::One { .. } => 0,
+        Seen::Two { first, .. } => first,
     }
 }
 
@@ -193,12 +142,7 @@ fn last_bound(s: Seen) -> i64
 {
     match s {
         Seen::Nothing => 0,
-        Seen::One { last, plain: _ } => last,
-        Seen::Two {
-            first: _,
-            last,
-            plain: _,
-        } => last,
+        Seen::One { last, .. } | Seen::Two { last, .. } => last,
     }
 }
 
@@ -207,16 +151,14 @@ fn start_bound(form: Form, s: Seen) -> i64
     ensures { result ≡ start_bound form s }
 {
     match form {
-        Form::First => first_bound(s),
         Form::Subscript => last_bound(s),
-        Form::StartEnd => first_bound(s),
-        Form::PosLength => first_bound(s),
+        Form::First | Form::StartEnd | Form::PosLength => first_bound(s),
     }
 }
 
 // ---- the span
 
-// The bytes that a reference names by its bounds, of a strict field too; Outside where the rule of document 01 gives 21.
+// The bytes that a reference names by its bounds, of a strict field too; none where the rule of document 01 gives 21.
 pub fn fixed_span(coded: &Coded, form: Form, field: u16, s: Seen) -> Option<Span>
     requires field_lt_f { field < coded.now.parts.f }
     requires small { Small s }
@@ -224,7 +166,7 @@ pub fn fixed_span(coded: &Coded, form: Form, field: u16, s: Seen) -> Option<Span
     ensures { result ≡ fixed_span (code_in coded.now) form field s }
 {
     let entry = coded.field(field);
-    let most = unit_decode::long(coded.parts.d);
+    let most = usize::from(coded.parts.d);
     let x = start_bound(form, s);
     let y = last_bound(s);
     run_spans::span_of(most, entry, form, x, y)

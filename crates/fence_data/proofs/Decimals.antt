@@ -68,37 +68,28 @@ module _ (u : List ℕ) (p : Parts) (passed : check_of u ≡ Ok p) where
           let size : o + j * s + s - (o + j * s) ≡ s = omega arith in
           q ∙ rw (size, en, eo, es, ej, ex)
 
--- ---- the elements of a field
+-- ---- the elements of a field: x is its entry, k the next one, and z what the whole loop answers
 
--- x is its entry
-module _ (c : Code) (d : List ℕ) (f : ℕ) (x : Field) (ex : x ≡ c.field f) where
-  pub elements_count : 0 + x.count ≡ count_of c f
-  elements_count = rw ex (omega arith)
+module _ (c : Code) (d : List ℕ) (f k : ℕ) (x : Field) (ex : x ≡ c.field f) where
+  many : x.count ≡ count_of c f
+  many = ap (λ (y : Field). y.count) ex
 
-  pub elements_start : elements_from c d f x.count 0 ≡ elements_from c d f (count_of c f) 0
-  elements_start = rw ex
+  pub element_within : k < x.count → k < count_of c f
+  element_within h = omega (arith, many, h)
 
-pub element_within : (k m n j : ℕ) → k + m ≡ n → j < m → k < n
-element_within k m n j e h = omega arith
-
--- m of them are left, k is the next one, and z is what the whole loop answers
-
-module _ (c : Code) (d : List ℕ) (f m k : ℕ) (z : Validity) (w : elements_from c d f m k ≡ z) where
-  pub elements_over : m ≤ 0 → validity.AllValid ≡ z
-  unfolding elements_from
-  elements_over h = let e : m ≡ 0 = omega arith in sym (ap (λ (n : ℕ). elements_from c d f n k) e) ∙ w
-
-  module _ (t : Bool) (j : ℕ) (h : j < m) (et : t ≡ elementb c d f k) where
-    one : m ≡ suc (m - 1)
-    one = omega arith
-
-    pub elements_stop : not t ≡ true → validity.Invalid f (k + 1) ≡ z
+  module _ (z : Validity) (w : elements_from c d f (count_of c f - k) k ≡ z) where
+    pub elements_over : x.count ≤ k → validity.AllValid ≡ z
     unfolding elements_from
-    elements_stop g = sym (ap (λ (n : ℕ). elements_from c d f n k) one ∙ rw (← et, not-true t g)) ∙ w
+    elements_over h = let e : count_of c f ≤ k = omega (arith, many, h) in sym (rw (left_none (count_of c f) k e)) ∙ w
 
-    pub elements_on : not t ≡ false → elements_from c d f (m - 1) (k + 1) ≡ z
-    unfolding elements_from
-    elements_on g = sym (ap (λ (n : ℕ). elements_from c d f n k) one ∙ rw (← et, not-false t g)) ∙ w
+    module _ (t : Bool) (h : k < x.count) (et : t ≡ elementb c d f k) where
+      pub elements_stop : not t ≡ true → validity.Invalid f (k + 1) ≡ z
+      unfolding elements_from
+      elements_stop g = sym (rw (left_suc (count_of c f) k (element_within h), ← et, not-true t g)) ∙ w
+
+      pub elements_on : not t ≡ false → elements_from c d f (count_of c f - (k + 1)) (k + 1) ≡ z
+      unfolding elements_from
+      elements_on g = sym (rw (left_suc (count_of c f) k (element_within h), ← et, not-false t g)) ∙ w
 
 -- ---- the fields: m of them, f is the next one, v what is answered of it, and z what the whole loop answers
 
@@ -131,13 +122,6 @@ module _ (c : Code) (d : List ℕ) (f : ℕ) (x : Field) (ex : x ≡ c.field f) 
   field_other h = rw (sym own ∙ h)
 
 -- ---- the whole: n is the unit's D, as the code compares it
-
-module _ (u d : List ℕ) (p : Parts) (n : ℕ) (en : n ≡ p.d) where
-  pub size_wrong : (length d ≡ n → ⊥) → validity.WrongSize ≡ validity_by u d (Ok p)
-  size_wrong h = rw (ne_eqb (length d) p.d (λ e. h (e ∙ sym en)))
-
-  pub size_right : (v : Validity) → length d ≡ n → v ≡ fields_from (code_of u p) d p.f 0 → v ≡ validity_by u d (Ok p)
-  size_right v h e = rw (eq-eqb (length d) p.d (h ∙ en)) e
 
 -- v is the answer of the check
 module _ (u d : List ℕ) (v : Result Parts Refusal) (is : v ≡ check_of u) where

@@ -33,10 +33,10 @@ fn element_valid(coded: &Coded, bytes: &[u8], f: u16, k: u16) -> bool
     ensures { result ≡ elementb (code_in coded.now) bytes.now f k }
 {
     let entry = coded.field(f);
-    let size = unit_decode::long(entry.size);
-    let start = unit_decode::long(entry.offset) + unit_decode::long(k) * size;
+    let size = usize::from(entry.size);
+    let start = usize::from(entry.offset) + usize::from(k) * size;
     let end = start + size;
-    let limit = unit_decode::long(coded.parts.dialect.limit);
+    let limit = usize::from(coded.parts.dialect.limit);
     is_valid(limit, coded.parts.dialect.sign as u64, &bytes[start..end])
 }
 
@@ -48,17 +48,13 @@ fn elements_validity(coded: &Coded, bytes: &[u8], f: u16) -> Validity
     ensures { result ≡ elements_from (code_in coded.now) bytes.now f (count_of (code_in coded.now) f) 0 }
 {
     let entry = coded.field(f);
-    let mut k: u16 = 0;
-    let mut left = entry.count;
-    while 0 < left {
+    for k in 0..entry.count {
         if !element_valid(coded, bytes, f, k) {
             return Validity::Invalid {
                 field: f,
                 element: k + 1,
             };
         }
-        k += 1;
-        left -= 1;
     }
     Validity::AllValid
 }
@@ -82,15 +78,7 @@ fn field_validity(coded: &Coded, bytes: &[u8], f: u16) -> Validity
 fn is_all(v: Validity) -> bool
     ensures { result ≡ allb v }
 {
-    match v {
-        Validity::Refused(_) => false,
-        Validity::WrongSize => false,
-        Validity::AllValid => true,
-        Validity::Invalid {
-            field: _,
-            element: _,
-        } => false,
-    }
+    matches!(v, Validity::AllValid)
 }
 
 // The first element of a unit's decimal fields that is not valid, in data of its size.
@@ -99,13 +87,11 @@ fn fields_validity(coded: &Coded, bytes: &[u8]) -> Validity
     requires bytes_len { length bytes.now ≡ coded.now.parts.d }
     ensures { result ≡ fields_from (code_in coded.now) bytes.now coded.now.parts.f 0 }
 {
-    let mut f: u16 = 0;
-    while f < coded.parts.f {
+    for f in 0..coded.parts.f {
         let v = field_validity(coded, bytes, f);
         if !is_all(v) {
             return v;
         }
-        f += 1;
     }
     Validity::AllValid
 }
@@ -115,7 +101,7 @@ fn validity_by(coded: &Coded, bytes: &[u8]) -> Validity
     requires { check_of coded.now.unit.now ≡ Ok coded.now.parts }
     ensures { result ≡ validity_by coded.now.unit.now bytes.now (Ok coded.now.parts) }
 {
-    if bytes.len() != unit_decode::long(coded.parts.d) {
+    if bytes.len() != usize::from(coded.parts.d) {
         return Validity::WrongSize;
     }
     fields_validity(coded, bytes)

@@ -1,15 +1,14 @@
--- Filling: one number in every place of a list, and the table field by field.
+-- Filling: the table field by field.
 --   Half c g floor ahead    the table where the fields before g are noted, of which the decimal ones end at the floor
 -- Assumes nothing.
 use Rattle.std.specs.Prelude.{Ok}
-use Prim.Native.Nat.{ℕ, zero, suc, ◌+◌, ◌-◌, ◌<◌, ◌≤◌}
+use Rattle.std.proofs.lemmas.List.{drop-replicate}
+use Prim.Native.Nat.{ℕ, ◌+◌, ◌-◌, ◌<◌, ◌≤◌}
 use native.Mathlib.Omega.{arith}
-use native.Mathlib.Nat.{suc-sub-suc, sub-zero}
-use native.Mathlib.Numerals.{add-one}
 use mathlib.Core.Path.{◌≡◌, sym, ap, ◌∙◌}
-use mathlib.Core.List.{List, [], ◌∷◌, ◌++◌, append_assoc}
-use lib.ListN.{length, take, drop, set, replicate, length-append, length-replicate, replicate-append-replicate, take-append-drop}
-use lib.Seq.{take-suc-set, take_all, length-take-le, take_at, drop_at, drop-drop}
+use mathlib.Core.List.{List, ◌++◌, append_assoc}
+use lib.ListN.{length, take, drop, replicate, length-append, length-replicate, take-append-drop}
+use lib.Seq.{length-take-le, take_at, drop_at, drop-drop}
 use borrow.Rule.Slice.PartMut.{put_mid, Post-is, mid_len, same_len_mid}
 use Rattle.rules_unit.specs.declared.Parts.{Parts}
 use Rattle.rules_unit.specs.declared.Field.{Field}
@@ -21,24 +20,6 @@ use Rattle.rules_unit.proofs.Statements.{left_suc, left_none, left_all}
 use Rattle.rules_unit.proofs.Sound.{passed_sound}
 use Rattle.fence_decimals.specs.Ahead.{behind_of, ahead_from, ahead_of}
 use Rattle.fence_decimals.proofs.Fields.{Above, above_start, above_next, floor_rises, floor_inside}
-
--- ---- one number in every place
-
-module _ (s : List ℕ) (i x : ℕ) (e : take i s ≡ replicate i x) where
-  pub fill_next : i < length s → take (i + 1) (set s i x) ≡ replicate (i + 1) x
-  fill_next h = ap (λ (j : ℕ). take j (set s i x)) (add-one i) ∙ take-suc-set s i x h ∙ ap (λ (l : List ℕ). l ++ (x ∷ [])) e ∙ replicate-append-replicate i 1 x
-
-  pub fill_end : (m : ℕ) → i ≤ m → length s ≡ m → length s ≤ i → s ≡ replicate m x
-  fill_end m h l k =
-      let j : i ≡ m = omega arith in
-      sym (take_all i s (omega arith)) ∙ e ∙ ap (λ (y : ℕ). replicate y x) j
-
-drop_replicate : (k m x : ℕ) → drop k (replicate m x) ≡ replicate (m - k) x
-drop_replicate zero m x = ap (λ (j : ℕ). replicate j x) (sym (sub-zero m))
-drop_replicate (suc k) zero x = let e : 0 ≡ 0 - suc k = omega arith in ap (λ (j : ℕ). replicate j x) e
-drop_replicate (suc k) (suc m) x = drop_replicate k m x ∙ ap (λ (j : ℕ). replicate j x) (sym (suc-sub-suc m k))
-
--- ---- the table, field by field
 
 pub record Half (c : Code) (g floor : ℕ) (ahead : List ℕ) : Type 0 where
   pub above : Above c g floor
@@ -122,7 +103,7 @@ module _ (u : List ℕ) (p : Parts) where
             ap (λ (m : ℕ). drop m ahead) j
             ∙ sym (drop-drop (next - floor) floor ahead)
             ∙ ap (λ (l : List ℕ). drop (next - floor) l) w.blank
-            ∙ drop_replicate (next - floor) (16384 - floor) 65535
+            ∙ drop-replicate (next - floor) (16384 - floor) 65535
             ∙ ap (λ (m : ℕ). replicate m 65535) k
 
         noted : front ++ ahead_from (code_of u p) (p.f - (g + 1)) (g + 1) next ≡ ahead_of (code_of u p)

@@ -9,7 +9,7 @@ use native.Mathlib.Omega.{arith}
 use native.Mathlib.Nat.{sub_self, sub-zero}
 use mathlib.Core.Path.{◌≡◌, refl, sym, ap, ◌∙◌}
 use mathlib.Core.Bool.{Bool, true, false, cond, ◌||◌}
-use mathlib.Core.List.{List, [], ◌∷◌, ◌++◌}
+use mathlib.Core.List.{List, ◌++◌}
 use lib.Dec.{leb, ltb}
 use lib.ListN.{length, get_or, replicate, length-replicate, get_or-replicate, get_or-append, get_or-eq_default}
 use lib.Seq.{get_or-append-add}
@@ -43,20 +43,6 @@ none m i = by (ltb i m) refl
     by : (t : Bool) → ltb i m ≡ t → ◌≡◌ {A = ℕ} (get_or (replicate m 65535) i 65535) 65535
     by true h = get_or-replicate {A = ℕ} m i 65535 65535 (ltb-true i m h)
     by false h = get_or-eq_default (replicate m 65535) 65535 (omega (arith, length-replicate {A = ℕ} m 65535, ltb-false i m h))
-
--- ---- reading the table: inside it no number is a default
-
-inside : (l : List ℕ) (i d e : ℕ) → i < length l → get_or l i d ≡ get_or l i e
-inside [] i d e h = absurd (omega arith)
-inside (x ∷ xs) zero d e h = refl
-inside (x ∷ xs) (suc i) d e h = inside xs i d e (omega arith)
-
-module _ (ahead : List ℕ) (a n : ℕ) where
-  pub past_table : a + n < 65536 → length ahead ≤ a → true ≡ leb (a + n) (get_or ahead a 65535)
-  past_table h l = sym (rw (get_or-eq_default ahead 65535 {n = a} l) (le-leb (a + n) 65535 (omega arith)))
-
-  pub in_table : (r : ℕ) → a < length ahead → r ≡ get_or ahead a 0 → leb (a + n) r ≡ leb (a + n) (get_or ahead a 65535)
-  in_table r l e = ap (λ (x : ℕ). leb (a + n) x) (e ∙ inside ahead a 0 65535 l)
 
 or_true : (b : Bool) → b || true ≡ true
 or_true true = refl

@@ -9,17 +9,6 @@ ghost use Rattle.fence_decimals.specs.Ahead.{behind_of, ahead_of};
 use rules_unit::{Field, Parts};
 use unit_decode::Coded;
 
-// Writes x to every place.
-fn fill(s: &mut [u16], x: u16)
-    ensures { s.new ≡ replicate (length s.old) x }
-{
-    let mut i = 0;
-    while i < s.len() {
-        s[i] = x;
-        i += 1;
-    }
-}
-
 // The end of the last decimal field up to this one; the floor is the end of the last one before it.
 fn behind(field: Field, floor: usize) -> usize
     ensures { result ≡ behind_of field floor }
@@ -38,13 +27,11 @@ pub fn note_decimals(coded: &Coded, ahead: &mut [u16])
     ensures { ahead.new ≡ ahead_of (code_in coded.now) }
 {
     let mut floor: usize = 0;
-    let mut g: u16 = 0;
-    while g < coded.parts.f {
+    for g in 0..coded.parts.f {
         let field = coded.field(g);
         let next = behind(field, floor);
-        fill(&mut ahead[floor..next], field.offset);
+        ahead[floor..next].fill(field.offset);
         floor = next;
-        g += 1;
     }
 }
 
@@ -53,8 +40,5 @@ pub fn apart(ahead: &[u16], a: usize, n: usize) -> bool
     requires { a + n < 65536 }
     ensures { result ≡ leb (a + n) (get_or ahead.now a 65535) }
 {
-    if ahead.len() <= a {
-        return true;
-    }
-    a + n <= unit_decode::long(ahead[a])
+    ahead.len() <= a || a + n <= usize::from(ahead[a])
 }

@@ -40,27 +40,21 @@ fn form_number(form: Form) -> u64
 fn start_of(span: Option<Span>) -> usize
     ensures { result ≡ start_of span }
 {
-    match span {
-        Some(span) => span.start,
-        None => 0,
-    }
+    span.map_or(0, |span| span.start)
 }
 
 // How long a span is; 0 where there is none.
 fn length_of(span: Option<Span>) -> usize
     ensures { result ≡ length_of span }
 {
-    match span {
-        Some(span) => span.len,
-        None => 0,
-    }
+    span.map_or(0, |span| span.len)
 }
 
 // 1 where something is so, else 0.
 fn truth_of(so: bool) -> u64
     ensures { result ≡ truth_of so }
 {
-    if so { 1 } else { 0 }
+    u64::from(so)
 }
 
 // Puts the eight numbers of a breach at the front of a row, as many as fit.
@@ -71,10 +65,10 @@ fn put_broken(row: &mut [u64], b: Broken)
     let form = b.form;
     let span = b.span;
     let numbers = [
-        b.statement as u64,
-        rules_fence::breach_number(rule) as u64,
+        u64::from(b.statement),
+        u64::from(rules_fence::breach_number(rule)),
         truth_of(b.written),
-        b.field as u64,
+        u64::from(b.field),
         form_number(form),
         start_of(span) as u64,
         length_of(span) as u64,
@@ -103,12 +97,12 @@ fn put_row(skip: usize, rows: &mut [u64], count: usize, b: Broken)
 fn count_after(count: usize) -> usize
     ensures { result ≡ count_after count }
 {
-    if count < usize::MAX { count + 1 } else { count }
+    count.saturating_add(1)
 }
 
 // ---- references and items
 
-// The bytes that a reference names by the bounds before it; Outside where they fix none.
+// The bytes that a reference names by the bounds before it; none where they fix none.
 fn span_by(coded: &Coded, form: Form, field: u16, s: Seen) -> Option<Span>
     requires field_lt_f { field < coded.now.parts.f }
     requires small { Small s }
@@ -176,11 +170,11 @@ fn list_item(
     ensures { ◌≡◌ {A = Listed} (record { count = result; rows = rows.new }) (gathered skip (item_broken (code_in coded.now) i dest s at item []) (record { count = count; rows = rows.old })) }
 {
     match item {
-        Item::Number { place: _, len: _ } => count,
+        Item::Number { .. } => count,
         Item::Reference { form, field } => list_reference(
             coded, ahead, i, dest, s, at, form, field, skip, rows, count,
         ),
-        Item::Text { place: _, len: _ } => count,
+        Item::Text { .. } => count,
         Item::Operator(_) => count,
         Item::End => count,
         Item::Bad => count,
@@ -209,6 +203,7 @@ fn list_items(
     let mut s = Seen::Nothing;
     let mut at = from;
     let mut n = count;
+    // The next offset depends on the item that was read: no range steps so.
     while at < es.len() {
         let item = unit_decode::item_at(es, at);
         if unit_decode::closes(item) {
@@ -294,11 +289,9 @@ fn list_uses(
 {
     let uses = unit_uses::count_of(coded.unit, coded.parts, row, s);
     let mut n = count;
-    let mut k: usize = 0;
-    while k < uses {
+    for k in 0..uses {
         let u = unit_uses::use_by(coded, noted, row, s, k);
         n = list_use(coded, ahead, i, u, skip, rows, n);
-        k += 1;
     }
     n
 }
@@ -335,10 +328,8 @@ fn list_all(coded: &Coded, ahead: &[u16], noted: &mut [u16], skip: usize, rows: 
     ensures { ◌≡◌ {A = Listed} (record { count = result; rows = rows.new }) (gathered skip (statements_broken (code_in coded.now) coded.now.parts.n 0) (record { count = 0; rows = rows.old })) }
 {
     let mut n: usize = 0;
-    let mut i: u16 = 0;
-    while i < coded.parts.n {
+    for i in 0..coded.parts.n {
         n = list_statement(coded, ahead, noted, i, skip, rows, n);
-        i += 1;
     }
     n
 }

@@ -23,10 +23,7 @@ fn end_breach(dest: bool, e: usize, last: usize) -> Breach
     if e < last {
         return Breach::OverElements;
     }
-    if !dest {
-        return Breach::None;
-    }
-    if last == e {
+    if !dest || last == e {
         return Breach::None;
     }
     Breach::StopsMidElement
@@ -40,9 +37,9 @@ fn element_breach(coded: &Coded, dest: bool, field: u16, a: usize, n: usize) -> 
     ensures { result ≡ element_breach (code_in coded.now) dest field a n }
 {
     let entry = coded.field(field);
-    let offset = unit_decode::long(entry.offset);
-    let size = unit_decode::long(entry.size);
-    // Never true of a coded.unit that passed its check: an element has at least one byte.
+    let offset = usize::from(entry.offset);
+    let size = usize::from(entry.size);
+    // Never true of a unit that passed its check: an element has at least one byte.
     if size == 0 {
         return end_breach(dest, offset, a + n);
     }
@@ -50,16 +47,13 @@ fn element_breach(coded: &Coded, dest: bool, field: u16, a: usize, n: usize) -> 
     end_breach(dest, offset + k * size + size, a + n)
 }
 
-// What the n bytes from a on of an alpha or record field break. The unit and its parts are named for the contract alone.
+// What the n bytes from a on of an alpha or record field break. `coded` is named for the contract alone.
 fn alpha_breach(coded: &Coded, ahead: &[u16], dest: bool, a: usize, n: usize) -> Breach
     requires ahead { Ahead (code_in coded.now) ahead.now }
     requires n_bound { a + n ≤ coded.now.parts.d }
     ensures { result ≡ alpha_breach (code_in coded.now) dest a n }
 {
-    if !dest {
-        return Breach::None;
-    }
-    if fence_decimals::apart(ahead, a, n) {
+    if !dest || fence_decimals::apart(ahead, a, n) {
         return Breach::None;
     }
     Breach::OnDecimal
@@ -74,10 +68,7 @@ fn span_breach(coded: &Coded, ahead: &[u16], dest: bool, field: u16, a: usize, n
 {
     let entry = coded.field(field);
     let kind = entry.kind;
-    if a < unit_decode::long(entry.offset) {
-        return Breach::LeavesField;
-    }
-    if unit_decode::end_of(entry) < a + n {
+    if a < usize::from(entry.offset) || unit_decode::end_of(entry) < a + n {
         return Breach::LeavesField;
     }
     if unit_decode::is_decimal(kind) {
@@ -119,11 +110,9 @@ pub fn item_breach(coded: &Coded, ahead: &[u16], dest: bool, s: Seen, item: Item
     ensures { result ≡ item_breach (code_in coded.now) dest s item [] }
 {
     match item {
-        Item::Number { place: _, len: _ } => Breach::None,
         Item::Reference { form, field } => reference_breach(coded, ahead, dest, form, field, s),
-        Item::Text { place: _, len: _ } => Breach::None,
-        Item::Operator(_) => Breach::None,
-        Item::End => Breach::None,
-        Item::Bad => Breach::None,
+        Item::Number { .. } | Item::Text { .. } | Item::Operator(_) | Item::End | Item::Bad => {
+            Breach::None
+        }
     }
 }

@@ -5,14 +5,13 @@
 use mathlib.Core.Path.{◌≡◌, refl, sym, ap, ◌∙◌}
 use mathlib.Core.Bool.{Bool, true, false, not, false≢true}
 use mathlib.Core.List.{List}
-use Prim.Native.Nat.{ℕ, ◌+◌, ◌-◌, ◌≤◌, ◌<◌}
+use Prim.Native.Nat.{ℕ, ◌+◌, ◌≤◌, ◌<◌}
 use native.Mathlib.Omega.{arith}
 use lib.Dec.{ltb, eqb}
-use lib.ListN.{length, get_or, set, replicate, get_or-eq_default}
-use lib.Seq.{get_or-set_other, set_out}
+use lib.ListN.{get_or, set, replicate}
+use lib.Seq.{get_or-set_other}
 use borrow.Author.Tests.{eqb-true, eqb-false, not-false}
 use Rattle.rules_unit.specs.declared.Item.{Item}
-use Rattle.rules_unit.specs.declared.Form.TheVariants as form
 use Rattle.rules_unit.specs.Codes.{Code}
 use Rattle.rules_unit.specs.Decode.{width_of, items_at}
 use Rattle.rules_unit.proofs.Items.{width_some}
@@ -20,35 +19,12 @@ use Rattle.rules_fence.specs.declared.Breach.{Breach}
 use Rattle.rules_fence.specs.declared.Breach.TheVariants as breach
 use Rattle.rules_fence.specs.declared.Seen.{Seen}
 use Rattle.rules_fence.specs.declared.Seen.TheVariants as seen
-use Rattle.rules_fence.specs.Bounds.{boundedb}
 use Rattle.rules_fence.specs.Breaches.{keepsb, breach_from}
 use Rattle.rules_fence.proofs.Kept.{none_kept}
 use Rattle.unit_decode.specs.declared.filled.Coded.{Coded}
 use Rattle.unit_decode.specs.Units.{code_in, expressions_in}
 use Rattle.unit_decode.proofs.Rows.{zeros}
 use Rattle.fence_statements.specs.Notes.{notedb, note_at, Kept, KeptIf, Both, BothIf}
-
--- ---- the list, where b says whether there are bounds
-
-module _ (notes : List ℕ) (e : ℕ) (s : Seen) (b : Bool) (eb : b ≡ boundedb form.Subscript s) where
-  pub noted_bounded : b ≡ true → false ≡ notedb notes e s
-  noted_bounded h = rw (sym eb ∙ h)
-
-  pub note_bounded : b ≡ true → notes ≡ note_at notes e s
-  note_bounded h = rw (sym eb ∙ h)
-
-  module _ (f : b ≡ false) where
-    pub noted_out : length notes ≤ e → false ≡ notedb notes e s
-    noted_out h = rw (sym eb ∙ f, get_or-eq_default notes 0 h)
-
-    pub noted_in : ltb 0 (get_or notes e 0) ≡ notedb notes e s
-    noted_in = rw (sym eb ∙ f)
-
-    pub note_out : length notes ≤ e → notes ≡ note_at notes e s
-    note_out h = rw (sym eb ∙ f) (sym (set_out notes e 1 h))
-
-    pub note_in : set notes e 1 ≡ note_at notes e s
-    note_in = rw (sym eb ∙ f)
 
 -- ---- the way through an expression
 
@@ -57,9 +33,6 @@ pub record Keeping (c : Code) (dest : Bool) (es notes : List ℕ) (at : ℕ) (z 
   pub all : keepsb z ≡ true → Kept c dest es notes
 
 module _ (c : Code) (dest : Bool) (es notes : List ℕ) (at : ℕ) (z : Breach) where
-  pub keeping_start : Kept c dest es notes → Keeping c dest es notes at z
-  keeping_start k = record { ahead = λ e h. k.each e; all = λ h. k }
-
   module _ (k : Keeping c dest es notes at z) where
     pub keeping_end : (r : Breach) → r ≡ z → KeptIf r c dest es notes
     keeping_end r e = record { so = λ h. k.all (sym (ap keepsb e) ∙ h) }
@@ -105,22 +78,6 @@ module _ (c : Code) (dest : Bool) (es notes : List ℕ) (at : ℕ) (z : Breach) 
 -- ---- the two lists
 
 module _ (co : Coded) (reads writes : List ℕ) where
-  pub both_reads : Both co reads writes → Kept (code_in co) false (expressions_in co) reads
-  both_reads both = both.of_reads
-
-  pub both_writes : Both co reads writes → Kept (code_in co) true (expressions_in co) writes
-  both_writes both = both.of_writes
-
-  module _ (both : Both co reads writes) (r : Breach) where
-    pub both_still : BothIf r co reads writes
-    both_still = record { so = λ h. both }
-
-    pub both_written : (next : List ℕ) → KeptIf r (code_in co) true (expressions_in co) next → BothIf r co reads next
-    both_written next k = record { so = λ h. record { of_reads = both.of_reads; of_writes = k.so h } }
-
-    pub both_read : (next : List ℕ) → KeptIf r (code_in co) false (expressions_in co) next → BothIf r co next writes
-    both_read next k = record { so = λ h. record { of_reads = k.so h; of_writes = both.of_writes } }
-
   pub both_kept : (r : Breach) (k : Bool) → BothIf r co reads writes → k ≡ keepsb r → not k ≡ false → Both co reads writes
   both_kept r k w ek h = w.so (sym ek ∙ not-false k h)
 

@@ -4,7 +4,7 @@ use Rattle.std.specs.Prelude.{Ok, None, Option, Some}
 use mathlib.Core.Path.{◌≡◌, refl, sym, ap, ◌∙◌, subst}
 use mathlib.Core.Bool.{Bool, true, false, cond, not}
 use mathlib.Core.List.{List, [], ◌∷◌}
-use Prim.Native.Nat.{ℕ, zero, suc, ◌+◌, ◌-◌, ◌≤◌, ◌<◌}
+use Prim.Native.Nat.{ℕ, zero, suc, ◌+◌, ◌≤◌, ◌<◌}
 use native.Mathlib.Numerals.{add-one}
 use native.Mathlib.Omega.{arith}
 use lib.ListN.{length, get_or, drop, drop_of_length-le}
@@ -23,29 +23,17 @@ use Rattle.rules_unit.proofs.Sound.{passed_sound}
 use Rattle.rules_unit.proofs.Statements.{uses_good}
 use Rattle.rules_fence.specs.declared.Breach.{Breach}
 use Rattle.rules_fence.specs.declared.Breach.TheVariants as breach
-use Rattle.rules_fence.specs.declared.Seen.TheVariants as seen
-use Rattle.rules_fence.specs.Breaches.{keepsb, first_of, breach_from, use_breach, uses_breach, breach_of}
+use Rattle.rules_fence.specs.Breaches.{keepsb, first_of, use_breach, uses_breach, breach_of}
 use Rattle.rules_fence.proofs.Sorts.{known_of}
 use Rattle.fence_statements.specs.Asked.{AllKnown, AllGood}
 
 -- ---- one use
 
 module _ (u : List ℕ) (p : Parts) where
-  -- the expressions are the part of the unit from a to b
-  pub written_as : (e : ℕ) (written t : Bool) (r : Breach) → written ≡ t → r ≡ breach_from (code_of u p) t seen.Nothing ((code_of u p).items e)
-      → r ≡ breach_from (code_of u p) written seen.Nothing ((code_of u p).items e)
-  written_as e written t r h q = rw h q
-
   module _ (x : Option Use) where
-    pub use_none : x ≡ None → breach.None ≡ use_breach (code_of u p) x
-    use_none e = rw e
-
     module _ (y : Use) (e : x ≡ Some y) where
       pub use_known : useb (code_of u p) x ≡ true → AllKnown (code_of u p) ((code_of u p).items y.at)
       use_known h = record { each = known_of (code_of u p) y.want y.at (rw e at h) }
-
-      pub use_by : (r : Breach) → r ≡ breach_from (code_of u p) y.written seen.Nothing ((code_of u p).items y.at) → r ≡ use_breach (code_of u p) x
-      use_by r q = rw e q
 
 -- ---- one statement
 

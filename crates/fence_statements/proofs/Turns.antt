@@ -21,7 +21,6 @@ use Rattle.rules_fence.specs.Bounds.{seen_after}
 use Rattle.rules_fence.specs.Fence.{destb}
 use Rattle.rules_fence.specs.Breaches.{keepsb, item_breach, breach_from}
 use Rattle.rules_unit.specs.Expressions.{Known}
-use Rattle.rules_fence.proofs.First.{read_dest}
 use Rattle.fence_statements.specs.Asked.{AllKnown}
 use Rattle.run_items.proofs.Closing.{closed, unclosed}
 
@@ -30,9 +29,6 @@ use Rattle.run_items.proofs.Closing.{closed, unclosed}
 dest_some : (dest : Bool) (is : List Item) → (is ≡ [] → ⊥) → destb dest is ≡ false
 dest_some dest [] h = absurd (h refl)
 dest_some dest (i ∷ is) h = refl
-
-pub aim_read : (dest : Bool) (is : List Item) → dest ≡ false → false ≡ destb dest is
-aim_read dest is e = rw e (sym (read_dest is))
 
 pub aim_last : (dest t : Bool) (s : List ℕ) (at : ℕ) → dest ≡ true → t ≡ cond (ltb at (length s)) (eqb (get_or s at 0) 0) false
     → t ≡ destb dest (items_at s at)

@@ -25,25 +25,14 @@ use unit_decode::Coded;
 pub fn keeps(b: Breach) -> bool
     ensures { result ≡ keepsb b }
 {
-    match b {
-        Breach::None => true,
-        Breach::BoundNotLiteral => false,
-        Breach::BoundsWrong => false,
-        Breach::LeavesField => false,
-        Breach::OverElements => false,
-        Breach::StopsMidElement => false,
-        Breach::OnDecimal => false,
-    }
+    matches!(b, Breach::None)
 }
 
 // Whether a reference that ends before the offset `next` is a destination: the last item of a place that is written.
 pub fn aimed(dest: bool, es: &[u8], next: usize) -> bool
     ensures { result ≡ destb dest (items_at es.now next) }
 {
-    if dest {
-        return run_items::ends(es, next);
-    }
-    false
+    dest && run_items::ends(es, next)
 }
 
 // ---- notes
@@ -52,23 +41,15 @@ pub fn aimed(dest: bool, es: &[u8], next: usize) -> bool
 fn noted(notes: &[u8], at: usize, s: Seen) -> bool
     ensures { result ≡ notedb notes.now at s }
 {
-    if fence_bounds::has_one(s) {
-        return false; // What is noted is of items before which no bounds stand.
-    }
-    if notes.len() <= at {
-        return false;
-    }
-    0 < notes[at]
+    // What is noted is of items before which no bounds stand.
+    !fence_bounds::has_one(s) && at < notes.len() && 0 < notes[at]
 }
 
 // Notes the items from an offset on, where no bounds stand before them. Past the end of the list nothing is noted.
 fn note(notes: &mut [u8], at: usize, s: Seen)
     ensures { notes.new ≡ note_at notes.old at s }
 {
-    if fence_bounds::has_one(s) {
-        return;
-    }
-    if at < notes.len() {
+    if !fence_bounds::has_one(s) && at < notes.len() {
         notes[at] = 1;
     }
 }
@@ -94,6 +75,7 @@ fn breach_in(
 {
     let mut s = Seen::Nothing;
     let mut i = at;
+    // The next offset depends on the item that was read: no range steps so.
     while i < es.len() {
         if noted(notes, i, s) {
             return Breach::None;
@@ -129,7 +111,7 @@ fn breach_at(coded: &Coded, ahead: &[u16], dest: bool, notes: &mut [u8], e: u16)
         dest,
         coded.expressions(),
         notes,
-        unit_decode::long(e),
+        usize::from(e),
     )
 }
 
@@ -196,14 +178,12 @@ fn breach_by(
     ensures rows_of_2 { RowsIn coded.now rows.new }
 {
     let count = unit_uses::count_of(coded.unit, coded.parts, row, s);
-    let mut k: usize = 0;
-    while k < count {
+    for k in 0..count {
         let u = unit_uses::use_by(coded, rows, row, s, k);
         let b = use_breach(coded, ahead, reads, writes, u);
         if !keeps(b) {
             return b;
         }
-        k += 1;
     }
     Breach::None
 }

@@ -43,15 +43,6 @@ eq_z_refl : (a : ℤ) → eq_z a a ≡ true
 eq_z_refl (pos a) = eq-eqb a a refl
 eq_z_refl (negsuc a) = eq-eqb a a refl
 
-pub same_eq_z : {a b : ℤ} → a ≡ b → eq_z a b ≡ true
-same_eq_z {a} {b} e = subst (λ (z : ℤ). eq_z a z ≡ true) e (eq_z_refl a)
-
-pub ne_eq_z : (a b : ℤ) → (of_z w64 a ≡ of_z w64 b → ⊥) → eq_z a b ≡ false
-ne_eq_z (pos a) (pos b) h = ne_eqb a b h
-ne_eq_z (pos a) (negsuc b) h = refl
-ne_eq_z (negsuc a) (pos b) h = refl
-ne_eq_z (negsuc a) (negsuc b) h = ne_eqb a b (λ e. h (ap (λ (n : ℕ). 2 ^ 64 - suc n) e))
-
 -- against 0
 pub zero_abs : (z : ℤ) → SFits w64 z → of_z w64 z ≡ 0 → eqb (nat_abs z) 0 ≡ true
 zero_abs (pos n) f e = eq-eqb n 0 e
@@ -117,15 +108,6 @@ val_fits v = abs_fits (omega (arith, v.small))
 -- a number passed on is one still
 pub again : {z : ℤ} → Val (10 ^ 18) z → Val (10 ^ 18) (to_z w64 (of_z w64 z))
 again {z} v = rw (to_z-of_z w64 z (val_fits v)) v
-
-pub add_fits : {a b : ℤ} → Val (10 ^ 18) a → Val (10 ^ 18) b → SFits w64 (a +ℤ b)
-add_fits {a} {b} va vb = abs_fits (omega (arith, va.small, vb.small, abs_add a b))
-
-pub sub_fits : {a b : ℤ} → Val (10 ^ 18) a → Val (10 ^ 18) b → SFits w64 (a -ℤ b)
-sub_fits {a} {b} va vb = abs_fits (omega (arith, va.small, vb.small, abs_sub a b))
-
-pub quot_fits : (a b : ℤ) → Val (10 ^ 18) a → SFits w64 (quot_z a b)
-quot_fits a b va = abs_fits (omega (arith, va.small, abs_quot a b, div-le_self (nat_abs a) (nat_abs b)))
 
 pub abs_zero : (z : ℤ) → nat_abs z ≡ 0 → z ≡ pos 0
 abs_zero (pos n) e = ap pos e

@@ -54,13 +54,7 @@ pub fn fault_number(f: Fault) -> u8
 pub fn trapped(number: u8) -> bool
     ensures { result ≡ trappedb number }
 {
-    if number == 26 {
-        return true;
-    }
-    if number < 20 {
-        return false;
-    }
-    number <= 23
+    matches!(number, 20..=23 | 26)
 }
 
 // What a character of an edit mask is.

@@ -1,5 +1,5 @@
 -- The span that a place names, as the check goes through its items (document 01, "Fence rules").
---   place_span c is     that span, by the bounds held before the last item; Outside where the place names none
+--   place_span c is     that span, by the bounds held before the last item; none where the place names none
 --   use_span c x        the span of a use that is written
 --   names_span, span_names    it is the one that the statement with quantifiers names
 -- Assumes nothing.
@@ -38,7 +38,7 @@ unfoldable pub place_span : Code → List Item → Option Span
 place_span c [] = None
 place_span c (i ∷ is) = span_from c seen.Nothing i is
 
--- Outside for a use that is read.
+-- None for a use that is read.
 abbrev pub use_span : Code → Option Use → Option Span
 use_span c None = None
 use_span c (Some u) = cond u.written (place_span c (c.items u.at)) None

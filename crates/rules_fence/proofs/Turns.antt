@@ -1,7 +1,7 @@
 -- One statement of a fenced unit over valid data (document 01, "Fence rules"): it stores at its destination alone, leaves every decimal element
 -- valid, gives no 21, and gives 22 only where it moves alpha text to a decimal place. A loop end and NEXTLOOP store at the destination of another
 -- statement: of the FOR whose loop was opened last.
---   aim_of c s        the destination of the statement s; Outside where it has none
+--   aim_of c s        the destination of the statement s, if it has one
 --   TurnAims c d M t  the turn t stores at the destination of a statement of the unit, and M holds where it is 22
 -- Assumes nothing.
 use Rattle.rules.specs.declared.Fault.{Fault}

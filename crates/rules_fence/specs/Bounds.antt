@@ -80,7 +80,7 @@ boundedb form.PosLength seen.Nothing = false
 boundedb form.PosLength (seen.One y plain) = false
 boundedb form.PosLength (seen.Two x y plain) = true
 
--- The span by the rule of document 01, of a strict field too: Outside where that gives 21, and where a bound is not written so.
+-- The span by the rule of document 01, of a strict field too: none where that gives 21, and where a bound is not written so.
 unfoldable pub fixed_span : Code → Form → ℕ → Seen → Option Span
 fixed_span c form.First f s = span_of c.size (c.field f) form.First (pos 0) (pos 0)
 fixed_span c form.Subscript f seen.Nothing = None

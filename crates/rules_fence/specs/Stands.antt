@@ -1,10 +1,10 @@
 -- What the list of breaking references says (document 01, "Fence rules"), as statements. Listed has the list itself.
 --   widths_of is               how many bytes the items is take
---   Fixes c form f before span    the span that the bounds of a reference name, Outside where it has no bounds
+--   Fixes c form f before span    the span that the bounds of a reference name, none where it has no bounds
 --   StandsIn c dest start b   the reference b stands in the expression at the offset start, which is written where dest says so, and breaks the rule told
 --   StandsAt c x b            .. in the expression of a use
 --   Stands c b                .. of the statement told
---   SpanTold c dest f span r  what the span told says where the rule r is broken: Outside for 1 and 2, else the bytes that break it
+--   SpanTold c dest f span r  what the span told says where the rule r is broken: none for 1 and 2, else the bytes that break it
 --   In b bs                   b is one of the list bs
 --   first_rule bs              the rule of the first of a list, None where it is empty
 --   Rising i bs               their statements rise, from i on
@@ -31,7 +31,7 @@ unfoldable pub widths_of : List Item → ℕ
 widths_of [] = 0
 widths_of (i ∷ is) = let rest = widths_of is in width_of i + rest
 
--- Where 21 is given for its bounds, the span that they name is Outside too.
+-- Where 21 is given for its bounds, they name no span.
 abbrev pub Fixes : Code → Form → ℕ → List Item → Option Span → Type 0
 Fixes c h f before span = Names c h f before span ⊎ (((x y : ℤ) → Bounds c h before x y → ⊥) × (span ≡ None))
 

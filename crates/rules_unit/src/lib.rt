@@ -233,9 +233,9 @@ pub fn refusal_number(r: Refusal) -> u8
     match r {
         Refusal::NotFilled => 1,
         Refusal::BadRange => 2,
-        Refusal::BadField(i) => 3,
-        Refusal::BadExpression(i) => 4,
-        Refusal::BadStatement(i) => 5,
+        Refusal::BadField(_) => 3,
+        Refusal::BadExpression(_) => 4,
+        Refusal::BadStatement(_) => 5,
     }
 }
 
@@ -244,10 +244,7 @@ pub fn refusal_place(r: Refusal) -> u16
     ensures { result ≡ refusal_place r }
 {
     match r {
-        Refusal::NotFilled => 0,
-        Refusal::BadRange => 0,
-        Refusal::BadField(i) => i,
-        Refusal::BadExpression(i) => i,
-        Refusal::BadStatement(i) => i,
+        Refusal::NotFilled | Refusal::BadRange => 0,
+        Refusal::BadField(i) | Refusal::BadExpression(i) | Refusal::BadStatement(i) => i,
     }
 }

@@ -306,7 +306,8 @@ pub fn place(coded: &Coded, bytes: &[u8], e: u16) -> Result<Worked, Fault>
     worked(coded, bytes, e)
 }
 
-// The number that an expression comes to: a decimal place is read. The unit is named for the contract alone.
+// The number that an expression comes to: a decimal place is read. The unit is named for the contract alone. No `Coded` stands here, since it would ask that the
+// parts fill the unit, and the function asks no such thing.
 pub fn number_of(
     unit: &[u8],
     parts: Parts,

@@ -2,10 +2,11 @@
 -- Assumes nothing.
 use Rattle.std.specs.Prelude.{Result, Err, Ok}
 use Rattle.rules.specs.declared.Fault.{Fault}
-use mathlib.Core.Path.{◌≡◌, sym, ap, ◌∙◌}
+use mathlib.Core.Path.{◌≡◌, refl, sym, ap, ◌∙◌}
 use mathlib.Core.Bool.{false}
 use mathlib.Core.List.{List}
 use Prim.Native.Nat.{ℕ, ◌+◌, ◌-◌, ◌*◌, ◌^◌, ◌≤◌, ◌<◌}
+use native.Mathlib.Nat.{add-sub_cancel_left}
 use native.Mathlib.Numerals.{add-one}
 use native.Mathlib.Omega.{arith}
 use lib.IntN.{ℤ, pos}
@@ -17,10 +18,10 @@ use Rattle.rules.specs.declared.Fault.TheVariants as fault
 use Rattle.rules.proofs.Decimals.{from_yes, from_low, from_high, more_digits}
 use Rattle.rules.proofs.Signed.{back}
 use Rattle.rules_unit.specs.declared.Parts.{Parts}
-use Rattle.rules_unit.specs.Decode.{Fills, literals_at, code_of}
+use Rattle.rules_unit.specs.Decode.{Fills, code_of}
 use Rattle.rules_unit.specs.Expressions.{digitsb, numberb}
 use Rattle.rules_run.specs.Evaluation.{digits_from, literal_number}
-use Rattle.unit_decode.proofs.Literals.{literals_length, literal_is, number_there}
+use Rattle.unit_decode.proofs.Literals.{literals_length, number_past, number_there}
 use Rattle.run_items.specs.Digits.{plain_from}
 
 -- ---- digits
@@ -60,10 +61,16 @@ module _ (u : List ℕ) (p : Parts) (place len : ℕ) where
   unfolding literal_number
   literal_none h = rw (← h)
 
-  -- f, n and m are the code's own copies of the place, the length and P
-  pub literal_there : Fills u p → 1 ≤ len → (f n m : ℕ) → f ≡ place → n ≡ len → m ≡ p.p → (start : ℕ) (r : Result ℤ Fault) → len ≤ p.dialect.limit → f + n ≤ m → start ≡ literals_at p
-      → r ≡ plain_from 0 (take (start + f + n - (start + f)) (drop (start + f) u)) → r ≡ literal_number (code_of u p) place len
-  unfolding plain_from literal_number
-  literal_there fills some f n m ef en em start r g h es q =
-      let inside : place + len ≤ length (code_of u p).literals = omega (arith, literals_length u p fills) in
-      rw (← number_there u p place len fills some f n m ef en em g h) (q ∙ ap (plain_from 0) (literal_is u p fills place len start f n es ef en inside))
+  -- read is the literals, start and n are the code's own copies of the place and the length
+  module _ (fills : Fills u p) (some : 1 ≤ len) (short : len ≤ p.dialect.limit) (read : List ℕ) (start n : ℕ) (er : read ≡ (code_of u p).literals) (es : start ≡ place) (en : n ≡ len) where
+    pub literal_past : length read < start + n → Err fault.Malformed ≡ literal_number (code_of u p) place len
+    literal_past h =
+        let past : p.p < place + len = omega (arith, h, es, en, ap length er, literals_length u p fills) in
+        literal_none (number_past u p place len fills some place len p.p refl refl refl short past)
+
+    pub literal_there : (r : Result ℤ Fault) → start + n ≤ length read → r ≡ plain_from 0 (take (start + n - start) (drop start read)) → r ≡ literal_number (code_of u p) place len
+    unfolding plain_from literal_number
+    literal_there r h q =
+        let inside : place + len ≤ p.p = omega (arith, h, es, en, ap length er, literals_length u p fills) in
+        let is : take (start + n - start) (drop start read) ≡ take len (drop place (code_of u p).literals) = rw (es, en, er, add-sub_cancel_left place len) in
+        rw (← number_there u p place len fills some place len p.p refl refl refl short inside) (q ∙ ap (plain_from 0) is)

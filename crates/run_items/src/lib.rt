@@ -25,17 +25,12 @@ fn plain_number(s: &[u8]) -> Result<i64, Fault>
     ensures { result ≡ plain_from 0 s.now }
 {
     let mut acc: u64 = 0;
-    let mut i = 0;
-    while i < s.len() {
-        let b = number::of_byte(s[i]);
-        if b < 48 {
-            return Err(Fault::Malformed);
-        }
-        if 57 < b {
+    for byte in s {
+        let b = number::of_byte(*byte);
+        if b < 48 || 57 < b {
             return Err(Fault::Malformed);
         }
         acc = acc * 10 + (b - 48);
-        i += 1;
     }
     Ok(number::with_sign(false, acc))
 }
@@ -45,21 +40,16 @@ pub fn literal_number(coded: &Coded, place: u16, len: u16) -> Result<i64, Fault>
     requires { SoundDialect coded.now.parts.dialect }
     ensures { result ≡ literal_number (code_in coded.now) place len }
 {
-    if len < 1 {
+    if len < 1 || coded.parts.dialect.limit < len {
         return Err(Fault::Malformed);
     }
-    if coded.parts.dialect.limit < len {
+    let start = unit_decode::long(place);
+    let end = start + unit_decode::long(len);
+    let literals = coded.literals();
+    if literals.len() < end {
         return Err(Fault::Malformed);
     }
-    let from = unit_decode::long(place);
-    let n = unit_decode::long(len);
-    let most = unit_decode::long(coded.parts.p);
-    if most < from + n {
-        return Err(Fault::Malformed);
-    }
-    let start = unit_decode::literals_offset(coded.parts) + from;
-    let end = start + n;
-    plain_number(&coded.unit[start..end])
+    plain_number(&literals[start..end])
 }
 
 // The number at len bytes of the data: the part that starts at the span's place is handed to the digit reader.
@@ -95,8 +85,7 @@ pub fn read_reference(
         return Err(Fault::Malformed);
     }
     let entry = coded.field(field);
-    let kind = entry.kind;
-    if !unit_decode::is_decimal(kind) {
+    if !unit_decode::is_decimal(entry.kind) {
         return Err(Fault::Malformed);
     }
     let rule = run_spans::rule_of(entry);
@@ -115,8 +104,7 @@ pub fn read_first(coded: &Coded, bytes: &[u8], field: u16) -> Result<i64, Fault>
         return Err(Fault::Malformed);
     }
     let entry = coded.field(field);
-    let kind = entry.kind;
-    if !unit_decode::is_decimal(kind) {
+    if !unit_decode::is_decimal(entry.kind) {
         return Err(Fault::Malformed);
     }
     match run_spans::first_span(bytes.len(), entry) {
@@ -156,20 +144,13 @@ pub fn calculate(top: u64, op: Op, x: i64, y: i64) -> Result<i64, Fault>
 fn place_at(most: usize, decimal: bool, start: usize, len: usize) -> Result<Worked, Fault>
     ensures { result ≡ cond decimal (cond (ltb most len) (Err fault.TooLong) (Ok (worked.Place true start len))) (Ok (worked.Place false start len)) }
 {
-    if !decimal {
-        return Ok(Worked::Place {
-            decimal: false,
-            start: start,
-            len: len,
-        });
-    }
-    if most < len {
+    if decimal && most < len {
         return Err(Fault::TooLong);
     }
     Ok(Worked::Place {
-        decimal: true,
-        start: start,
-        len: len,
+        decimal,
+        start,
+        len,
     })
 }
 
@@ -191,8 +172,7 @@ fn place_by(
         return Err(Fault::Malformed);
     }
     let entry = coded.field(field);
-    let kind = entry.kind;
-    let decimal = unit_decode::is_decimal(kind);
+    let decimal = unit_decode::is_decimal(entry.kind);
     let most = unit_decode::long(coded.parts.dialect.limit);
     let rule = run_spans::rule_of(entry);
     match run_spans::span_by(rule, bytes.len(), entry, form, x, y) {
@@ -209,8 +189,7 @@ pub fn place_first(coded: &Coded, bytes: &[u8], field: u16) -> Result<Worked, Fa
         return Err(Fault::Malformed);
     }
     let entry = coded.field(field);
-    let kind = entry.kind;
-    let decimal = unit_decode::is_decimal(kind);
+    let decimal = unit_decode::is_decimal(entry.kind);
     let most = unit_decode::long(coded.parts.dialect.limit);
     match run_spans::first_span(bytes.len(), entry) {
         Some(span) => place_at(most, decimal, span.start, span.len),
@@ -233,35 +212,25 @@ pub fn place_of(
     requires val_2 { Val (10 ^ 18) y }
     ensures { result ≡ cond (eqb n (form_takes form)) (place_by (code_in coded.now) bytes.now form field x y) (Err fault.Malformed) }
 {
-    let taken = unit_decode::long(unit_decode::form_takes(form));
-    if n == taken {
-        return place_by(coded, bytes, form, field, x, y);
+    if n != unit_decode::long(unit_decode::form_takes(form)) {
+        return Err(Fault::Malformed);
     }
-    Err(Fault::Malformed)
+    place_by(coded, bytes, form, field, x, y)
 }
 
 // A last alpha literal, which stands alone: no values are held.
 pub fn text_by(coded: &Coded, place: u16, len: u16, n: usize) -> Result<Worked, Fault>
     ensures { result ≡ cond (eqb n 0) (cond (textb (code_in coded.now) place len) (Ok (worked.Text place len)) (Err fault.Malformed)) (Err fault.Malformed) }
 {
-    if n != 0 {
+    if n != 0 || !unit_sorts::text_good(coded, place, len) {
         return Err(Fault::Malformed);
     }
-    if unit_sorts::text_good(coded, place, len) {
-        return Ok(Worked::Text {
-            place: place,
-            len: len,
-        });
-    }
-    Err(Fault::Malformed)
+    Ok(Worked::Text { place, len })
 }
 
 // Whether the expression ends at an offset: 00 stands there.
 pub fn ends(es: &[u8], at: usize) -> bool
     ensures { result ≡ (ltb at (length es.now) and eqb (get_or es.now at 0) 0) }
 {
-    if at < es.len() {
-        return es[at] == 0;
-    }
-    false
+    at < es.len() && es[at] == 0
 }

@@ -22,20 +22,19 @@ fn move_number(decimal: bool, start: usize, len: usize, v: i64) -> Result<Turn, 
 {
     if decimal {
         return rules_run::stores(Write::Number {
-            start: start,
-            len: len,
+            start,
+            len,
             value: v,
         });
     }
     rules_run::stores(Write::Show {
-        start: start,
-        len: len,
+        start,
+        len,
         value: v,
     })
 }
 
-// Data that moves: a decimal place is read, an alpha place is read as a number for a decimal destination and moved for an alpha one. The unit is named
-// for the contract alone.
+// Data that moves: a decimal place is read, an alpha place is read as a number for a decimal destination and moved for an alpha one.
 fn move_place(
     coded: &Coded,
     bytes: &[u8],
@@ -60,10 +59,10 @@ fn move_place(
         return move_number(true, start, len, v);
     }
     rules_run::stores(Write::Move {
-        start: start,
-        len: len,
-        from: from,
-        count: count,
+        start,
+        len,
+        from,
+        count,
     })
 }
 
@@ -88,10 +87,10 @@ fn move_literal(
         return move_number(true, start, len, v);
     }
     rules_run::stores(Write::Literal {
-        start: start,
-        len: len,
-        place: place,
-        count: count,
+        start,
+        len,
+        place,
+        count,
     })
 }
 
@@ -134,7 +133,8 @@ fn count_value(top: u64, up: bool, v: i64) -> Result<i64, Fault>
     number::subtract(top, v, 1)
 }
 
-// INCR or DECR of a place that was found: it is read before the sum. The unit is named for the contract alone.
+// INCR or DECR of a place that was found: it is read before the sum. The unit is named for the contract alone; a `Coded` would ask that the parts fill the unit,
+// and the function asks no such thing.
 pub fn count_at(
     unit: &[u8],
     parts: Parts,
@@ -164,9 +164,5 @@ pub fn case_at(upper: bool, decimal: bool, start: usize, len: usize) -> Result<T
     if decimal {
         return Err(Fault::Malformed);
     }
-    rules_run::stores(Write::Case {
-        start: start,
-        len: len,
-        upper: upper,
-    })
+    rules_run::stores(Write::Case { start, len, upper })
 }

@@ -67,21 +67,11 @@ module _ (c : Code) (d : List ℕ) (e end a n : ℕ) (v : ℤ) (t : Result Turn 
   limit_failed f h z = rw (sym q ∙ h) z
 
 module _ (c : Code) (d : List ℕ) (s : Statement) (decimal : Bool) (a n : ℕ) (t : Result Turn Fault) where
-  pub enter_alpha : not decimal ≡ true → t ≡ Err fault.Malformed → t ≡ enter_at c d s decimal a n
-  enter_alpha h q = rw (not-true decimal h) q
-
   -- r is what the callee found of the start, e the code's own offset of the limit
   module _ (h : not decimal ≡ false) (r : Result ℤ Fault) (q : r ≡ value_at c d s.b) where
     pub start_known : {v : ℤ} (e : ℕ) → r ≡ Ok v → SFits w64 v → e ≡ next_at c s.b → t ≡ enter_limit c d e s.c a n (to_z w64 (of_z w64 v)) → t ≡ enter_at c d s decimal a n
     unfolding enter_limit enter_step
     start_known e g f i z = rw (not-false decimal h, sym q ∙ g) (rw (i, back f) at z)
-
-    pub start_failed : (f : Fault) → r ≡ Err f → t ≡ Err f → t ≡ enter_at c d s decimal a n
-    start_failed f g z = rw (not-false decimal h, sym q ∙ g) z
-
--- The control place is decimal where the start is worked out.
-pub decimal_short : (decimal : Bool) (n : ℕ) → not decimal ≡ false → (decimal ≡ true → n ≤ 18) → n ≤ 18
-decimal_short decimal n h f = f (not-false decimal h)
 
 -- ---- the whole
 

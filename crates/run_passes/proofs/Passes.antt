@@ -61,27 +61,13 @@ module _ (c : Code) (l : Look) (a n : ℕ) (t : Result Turn Fault) (x y : ℤ) (
   unfolding pass_by
   sum_failed f h z = rw (sym sum ∙ h) z
 
--- It is in the range of values.
-pub sum_again : (p : Parts) (x y : ℤ) (r : Result ℤ Fault) (v : ℤ) → SoundDialect p.dialect → r ≡ add_of p.dialect.top x y → r ≡ Ok v → Val (10 ^ 18) (to_z w64 (of_z w64 v))
-sum_again p x y r v dialect q h = again (val_any dialect.bound (of_range (sym q ∙ h) (range_kept p.dialect.top (x +ℤ y))))
-
--- The step can be an operand; z is the code's own copy of it.
-pub step_again : (u : List ℕ) (p : Parts) (l : Look) (z : ℤ) → SoundDialect p.dialect → LoopSound (code_of u p) l.last → z ≡ l.last.step → Val (10 ^ 18) z
-step_again u p l z dialect known e = rw e (val_any dialect.bound known.step)
-
 -- ---- the control place is found and read
 
 module _ (u : List ℕ) (p : Parts) (l : Look) (d : List ℕ) (decimal : Bool) (a n : ℕ) (t : Result Turn Fault) where
-  pub pass_alpha : not decimal ≡ true → t ≡ Err fault.Malformed → t ≡ pass_at (code_of u p) l d decimal a n
-  pass_alpha h q = rw (not-true decimal h) q
-
   module _ (h : not decimal ≡ false) (r : Result ℤ Fault) (q : r ≡ read_of p.dialect.limit p.dialect.sign (take n (drop a d))) where
     pub read_known : {x : ℤ} → r ≡ Ok x → SFits w64 x → t ≡ pass_by (code_of u p) l a n (to_z w64 (of_z w64 x)) → t ≡ pass_at (code_of u p) l d decimal a n
     unfolding pass_by
     read_known g f z = rw (not-false decimal h, sym q ∙ g) (rw (back f) at z)
-
-    pub read_failed : (f : Fault) → r ≡ Err f → t ≡ Err f → t ≡ pass_at (code_of u p) l d decimal a n
-    read_failed f g z = rw (not-false decimal h, sym q ∙ g) z
 
 -- ---- the loop opened last
 

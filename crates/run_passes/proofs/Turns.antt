@@ -16,7 +16,3 @@ use Rattle.run_passes.specs.Passes.{loop_turn}
 -- v is the verb of s; t is what the arm of w answers
 pub loop_as : (c : Code) (l : Look) (d : List ℕ) (v w : Verb) (s : Statement) (t : Result Turn Fault) → v ≡ w → t ≡ loop_turn c l d w s → t ≡ loop_turn c l d v s
 loop_as c l d v w s t h q = rw h q
-
--- The loop end of a FOR.
-pub for_end : (v : Verb) (s : Statement) → (v ≡ verb.For → s.c < 65535) → v ≡ verb.For → s.c < 65535
-for_end v s f h = f h

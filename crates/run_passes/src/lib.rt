@@ -50,11 +50,11 @@ fn control(start: usize, len: usize, v: i64, flow: Flow) -> Result<Turn, Fault>
     }
     Ok(Turn {
         write: Write::Number {
-            start: start,
-            len: len,
+            start,
+            len,
             value: v,
         },
-        flow: flow,
+        flow,
     })
 }
 
@@ -66,10 +66,7 @@ fn enter_flow(end: u16, v: i64, limit: i64, step: i64) -> Flow
     ensures { result ≡ enter_flow end v limit step }
 {
     if test(v, limit, step) {
-        return Flow::Enter {
-            limit: limit,
-            step: step,
-        };
+        return Flow::Enter { limit, step };
     }
     Flow::Goto(end + 1)
 }
@@ -183,7 +180,7 @@ fn enter(coded: &Coded, bytes: &[u8], look: Look, s: Statement) -> Result<Turn, 
 
 // ---- loop end and NEXTLOOP
 
-// Where a pass goes on with the control value v: behind the entry s of the loop opened last, or behind the loop end that it names. The unit is named for
+// Where a pass goes on with the control value v: behind the entry s of the loop opened last, or behind the loop end that it names. `coded` is named for
 // the contract alone.
 fn pass_flow(coded: &Coded, look: Look, s: Statement, v: i64) -> Flow
     requires s_value { s ≡ entry_of (code_in coded.now) look }

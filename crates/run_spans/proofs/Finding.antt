@@ -20,7 +20,6 @@ use Rattle.rules_unit.specs.declared.Form.TheVariants as form
 use Rattle.rules_run.specs.declared.Span.{Span}
 use Rattle.rules_run.specs.Spans.{within, subscript_span, start_end_span, pos_length_span, span_of, held_to, span_by, span_at}
 use Rattle.rules_run.proofs.Strict as strict
-use Rattle.rules_run.proofs.Strict.{held_in, held_past}
 
 -- ---- numbers
 
@@ -65,20 +64,6 @@ module _ (size : ℕ) (f : Field) (x y : ℤ) {h : Form} where
   span_pos_length e p q = rw (e, back p, back q)
 
 -- ---- strict fields
-
--- low and end are where the field starts and where it ends, as the code has them
-module _ (f : Field) (a n low end : ℕ) (l : low ≡ f.offset) (e : end ≡ f.offset + f.count * f.size) where
-  pub field_low : a < low → None ≡ held_to rule.Strict f (span_at a n)
-  field_low h = sym (held_past f a n (λ i. omega (arith, i.0)))
-
-  pub field_behind : end < a → None ≡ held_to rule.Strict f (span_at a n)
-  field_behind h = sym (held_past f a n (λ i. omega (arith, i.1)))
-
-  pub field_long : end - a < n → None ≡ held_to rule.Strict f (span_at a n)
-  field_long h = sym (held_past f a n (λ i. omega (arith, i.1)))
-
-  pub field_here : low ≤ a → a ≤ end → n ≤ end - a → span_at a n ≡ held_to rule.Strict f (span_at a n)
-  field_here h k m = sym (held_in f rule.Strict a n (omega arith, omega arith))
 
 -- what was found is s, and r what is left of it
 module _ (f : Field) (s r : Option Span) where

@@ -15,10 +15,7 @@ use rules_unit::{Field, Form, Rule};
 fn inside(size: usize, a: usize, n: usize) -> Option<Span>
     ensures { result ≡ within size (pos a) n }
 {
-    if size < a {
-        return None;
-    }
-    if size - a < n {
+    if size < a || size - a < n {
         return None;
     }
     Some(Span { start: a, len: n })
@@ -43,11 +40,7 @@ fn backward(size: usize, offset: usize, n: usize, k: usize) -> Option<Span>
     if offset < k {
         return None;
     }
-    let back = k * n;
-    if offset < back {
-        return None;
-    }
-    inside(size, offset - back, n)
+    inside(size, offset.checked_sub(k * n)?, n)
 }
 
 // The element s, of n bytes. One of no bytes is where the field starts, whatever s is.
@@ -76,18 +69,12 @@ fn start_end_span(size: usize, offset: usize, s: i64, e: i64) -> Option<Span>
     requires val_2 { Val (10 ^ 18) e }
     ensures { result ≡ start_end_span size offset s e }
 {
-    if number::is_neg(s) {
-        return None;
-    }
-    if number::is_neg(e) {
+    if number::is_neg(s) || number::is_neg(e) {
         return None;
     }
     let a = number::magnitude(s) as usize;
     let b = number::magnitude(e) as usize;
-    if a == 0 {
-        return None;
-    }
-    if b < a {
+    if a == 0 || b < a {
         return None;
     }
     inside(size, offset + (a - 1), b - a + 1)
@@ -105,17 +92,11 @@ fn pos_length_span(size: usize, offset: usize, p: i64, n: i64) -> Option<Span>
     }
     let a = number::magnitude(p) as usize;
     let k = number::magnitude(n) as usize;
-    if a == 0 {
-        return None;
-    }
-    if k == 0 {
+    if a == 0 || k == 0 {
         return None;
     }
     if number::is_neg(n) {
-        if offset + a < k {
-            return None;
-        }
-        return inside(size, offset + a - k, k);
+        return inside(size, (offset + a).checked_sub(k)?, k);
     }
     inside(size, offset + (a - 1), k)
 }
@@ -169,29 +150,18 @@ fn held(field: Field, start: usize, len: usize) -> Option<Span>
     ensures { result ≡ held_to rule.Strict field (span_at start len) }
 {
     let end = unit_decode::end_of(field);
-    if start < unit_decode::long(field.offset) {
+    if start < unit_decode::long(field.offset) || end < start || end - start < len {
         return None;
     }
-    if end < start {
-        return None;
-    }
-    if end - start < len {
-        return None;
-    }
-    Some(Span {
-        start: start,
-        len: len,
-    })
+    Some(Span { start, len })
 }
 
 // What the strict rule makes of a span that was found.
 fn held_to(field: Field, span: Option<Span>) -> Option<Span>
     ensures { result ≡ held_to rule.Strict field span }
 {
-    match span {
-        Some(span) => held(field, span.start, span.len),
-        None => None,
-    }
+    let span = span?;
+    held(field, span.start, span.len)
 }
 
 // The span of a reference by the strict rule. It does not go by `span_of`: that has one caller in a run, `span_by`, so that the compiler puts it there.

@@ -100,15 +100,7 @@ module _ (w : List ℕ) where
 
   pub loops_all : (k : ℕ) (m : List Loop) → length m ≡ 16 → 16 ≤ k → take k m ≡ take k (listed 16 (loop_at w)) → m ≡ listed 16 (loop_at w)
   loops_all k m e h q = sym (take_all k m (omega arith)) ∙ q ∙ take_all k (listed 16 (loop_at w)) (omega (arith, length_listed 16 (loop_at w)))
-
   -- ---- the whole
-
-  pub read_all : (returns : List ℕ) (loops : List Loop) (h : Option ℕ) (e : Option Caught) → stateb w ≡ true → returns ≡ listed 50 (return_at w) → loops ≡ listed 16 (loop_at w)
-      → h ≡ handler_of (get_or w 101 0)
-      → e ≡ caught_of (get_or w 102 0) (get_or w 103 0)
-      → ◌≡◌ {A = State} (record { at = get_or w 0 0; depth = get_or w 1 0; returns = returns; opened = get_or w 52 0; loops = loops; trap = record { handler = h; caught = e } }) (state_of w)
-  unfolding state_of
-  read_all returns loops h e f p q r t = rw (f, p, q, r, t)
 
 -- ---- a slot
 

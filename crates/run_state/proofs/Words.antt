@@ -38,31 +38,16 @@ module _ (v : ℤ) (f : SFits w64 v) where
     turned_fits : SFits w64 (neg_ℤ (pos (mag v)))
     turned_fits = abs_fits (omega (arith, abs_neg (pos (mag v)), f.sfits))
 
-    pub up_fits : SFits w64 (to_z w64 (of_z w64 v) +ℤ pos 1)
-    up_fits = rw (back f, up v low) turned_fits
-
     up_back : to_z w64 (of_z w64 (to_z w64 (of_z w64 v) +ℤ pos 1)) ≡ neg_ℤ (pos (mag v))
     up_back = rw (back f, up v low) (back turned_fits)
 
     mag_fits : SFits w64 (pos (mag v))
     mag_fits = abs_fits (omega (arith, f.sfits))
 
-    pub turn_fits : SFits w64 (pos 0 -ℤ to_z w64 (of_z w64 (to_z w64 (of_z w64 v) +ℤ pos 1)))
-    turn_fits = rw (up_back, twice (mag v)) mag_fits
-
-    pub turn_back : to_z w64 (of_z w64 (pos 0 -ℤ to_z w64 (of_z w64 (to_z w64 (of_z w64 v) +ℤ pos 1)))) ≡ pos (mag v)
-    turn_back = rw (up_back, twice (mag v)) (back mag_fits)
-
-    pub mag_word : Fits w64 (mag v)
-    mag_word = record { fits = omega (arith, f.sfits) }
-
   module _ (t : lt_z (to_z w64 (of_z w64 v)) (pos 0) ≡ false) where
     plain : (z : ℤ) → lt_z z (pos 0) ≡ false → T (non_neg z) × (nat_abs z ≡ mag z) × (nat_abs z ≡ word z)
     plain (pos n) e = (tt, refl, refl)
     plain (negsuc n) e = absurd (true≢false e)
-
-    pub plain_cast : T (non_neg (to_z w64 (of_z w64 v))) × Fits w64 (nat_abs (to_z w64 (of_z w64 v)))
-    plain_cast = let q = plain v (rw (back f) at t) in rw (back f) (q.0, record { fits = omega (arith, q.1, f.sfits) })
 
 -- ---- the numbers, put one after the other
 

@@ -19,16 +19,8 @@ use Rattle.rules_run.specs.Turns.{stores, edit_by, edit_at}
 -- ---- the mask is found; y is what the callee found of the number, r what the rule has
 
 module _ (a n : ℕ) (r y : Result ℤ Fault) (t : Result Turn Fault) (e : y ≡ r) where
-  pub place_value : (from k : ℕ) {v : ℤ} → y ≡ Ok v → SFits w64 v → t ≡ stores (write.Edit a n from k (to_z w64 (of_z w64 v))) → t ≡ edit_by a n (Ok (worked.Place false from k)) r
-  place_value from k h f q = rw (sym e ∙ h) (q ∙ ap (λ (z : ℤ). stores (write.Edit a n from k z)) (back f))
-
   pub place_none : (from k : ℕ) (f : Fault) → y ≡ Err f → t ≡ Err f → t ≡ edit_by a n (Ok (worked.Place false from k)) r
   place_none from k f h q = rw (sym e ∙ h) q
-
-  -- p and l are the code's own copies of the literal's place and of its length
-  pub literal_value : (place k p l : ℕ) {v : ℤ} → y ≡ Ok v → SFits w64 v → p ≡ place → l ≡ k → t ≡ stores (write.EditLiteral a n p l (to_z w64 (of_z w64 v)))
-      → t ≡ edit_by a n (Ok (worked.Text place k)) r
-  literal_value place k p l h f i j q = rw (sym e ∙ h, ← i, ← j) (q ∙ ap (λ (z : ℤ). stores (write.EditLiteral a n p l z)) (back f))
 
   pub literal_none : (place k : ℕ) (f : Fault) → y ≡ Err f → t ≡ Err f → t ≡ edit_by a n (Ok (worked.Text place k)) r
   literal_none place k f h q = rw (sym e ∙ h) q

@@ -22,14 +22,6 @@ use Rattle.rules_run.specs.declared.Turn.{Turn}
 use Rattle.rules_run.specs.Evaluation.{number_of}
 use Rattle.rules_run.specs.Turns.{goes, on_number, if_zero, choose}
 
--- x is what the callee found, w what the rule has, and r the number that it is
-module _ (c : Code) (d : List ℕ) (x w : Result Worked Fault) (r : Result ℤ Fault) (k : ℤ → Flow) (t : Result Turn Fault) (e : x ≡ w) (q : r ≡ number_of c d x) where
-  pub jump_by : (f : Flow) {v : ℤ} → r ≡ Ok v → SFits w64 v → f ≡ k (to_z w64 (of_z w64 v)) → t ≡ goes f → t ≡ on_number (number_of c d w) k
-  jump_by f {v} h s g j = rw (← e, sym q ∙ h) (j ∙ ap goes (g ∙ ap k (back s)))
-
-  pub jump_failed : (f : Fault) → r ≡ Err f → t ≡ Err f → t ≡ on_number (number_of c d w) k
-  jump_failed f h j = rw (← e, sym q ∙ h) j
-
 -- ---- go to the target if a number is zero
 
 module _ (target : ℕ) (v : ℤ) where

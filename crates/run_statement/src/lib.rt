@@ -122,9 +122,9 @@ fn at_place(
             run_moves::move_worked(coded, bytes, decimal, start, len, w)
         }
         Act::Clear => rules_run::stores(Write::Clear {
-            start: start,
-            len: len,
-            decimal: decimal,
+            start,
+            len,
+            decimal,
         }),
         Act::Count { up } => run_moves::count_at(
             coded.unit,

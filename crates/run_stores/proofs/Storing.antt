@@ -17,11 +17,8 @@ use Rattle.rules.specs.Masks.{formatted}
 use Rattle.rules.proofs.Signed.{back}
 use Rattle.rules.proofs.Decimals.{length_written, length_shown, length_fitted, length_upcased, length_locased, length_blanks, length_zeros}
 use Rattle.rules.proofs.Masks.{length_formatted}
-use Rattle.rules_unit.specs.declared.Parts.{Parts}
-use Rattle.rules_unit.specs.Decode.{Fills, literals_at, code_of}
 use Rattle.rules_run.specs.Turns.{stored, cased, cleared}
 use Rattle.rules_run.proofs.Stored.{stored_part}
-use Rattle.unit_decode.proofs.Literals.{literal_end, literal_is}
 
 -- the n bytes of the data from a on, lent as the part from a to a + n, and what came back of them
 module _ (d : List ℕ) (a n : ℕ) (room : a + n ≤ length d) where
@@ -68,32 +65,23 @@ module _ (d : List ℕ) (a n : ℕ) (room : a + n ≤ length d) where
   part_locased ys upper h e =
       rw h (put_back ys (locased (take n (drop a d))) (length_locased (take n (drop a d)) ∙ ap length (sym lent) ∙ lent_length) (e ∙ ap locased lent))
 
--- the count characters of the literals at place, as a part of the unit: x, y and z are the code's own copies
-pub part_literal : (u : List ℕ) (p : Parts) → Fills u p → (place count x y z : ℕ) → x ≡ literals_at p → y ≡ place → z ≡ count → place + count ≤ length (code_of u p).literals
-    → (d : List ℕ) (a n : ℕ) (ys : List ℕ) → a + n ≤ length d → ys ≡ fitted (length (take (a + n - a) (drop a d))) (take (x + y + z - (x + y)) (drop (x + y) u))
-    → put_mid a (a + n - a) d ys ≡ stored d a (fitted n (take count (drop place (code_of u p).literals)))
-part_literal u p fills place count x y z ex ey ez inside d a n ys h e =
-    let new : List ℕ = take count (drop place (code_of u p).literals) in
-    let is = literal_is u p fills place count x y z ex ey ez inside in
-    made d a n h ys (λ k. fitted k new) (length_fitted n new) (e ∙ ap (fitted (length (take (a + n - a) (drop a d)))) is)
+-- the count characters of the literals at place, as the part of them that is read: x and y are the code's own copies of place and count
+module _ (literals : List ℕ) (place count : ℕ) where
+  part : (read : List ℕ) (x y : ℕ) → read ≡ literals → x ≡ place → y ≡ count → take (x + y - x) (drop x read) ≡ take count (drop place literals)
+  part read x y e p q = rw (e, p, q, add-sub_cancel_left place count)
 
--- the same of a mask that is a literal: x is the code's own copy of where the literals start
-module _ (u : List ℕ) (p : Parts) (fills : Fills u p) (place count x : ℕ) (ex : x ≡ literals_at p) (inside : place + count ≤ length (code_of u p).literals) where
-  pub mask_end : x + place + count ≤ length u
-  mask_end = literal_end u p fills place count x place count ex refl refl inside
+  module _ (d : List ℕ) (a n : ℕ) (ys read : List ℕ) (room : a + n ≤ length d) (same : read ≡ literals) where
+    pub part_literal : (x y : ℕ) → x ≡ place → y ≡ count → ys ≡ fitted (length (take (a + n - a) (drop a d))) (take (x + y - x) (drop x read))
+        → put_mid a (a + n - a) d ys ≡ stored d a (fitted n (take count (drop place literals)))
+    part_literal x y p q e =
+        let new : List ℕ = take count (drop place literals) in
+        made d a n room ys (λ k. fitted k new) (length_fitted n new) (e ∙ ap (fitted (length (take (a + n - a) (drop a d)))) (part read x y same p q))
 
-  pub place_fits : length u < 2 ^ 64 → Fits w64 (x + place)
-  place_fits l = omega (arith, l, mask_end)
-
-  pub mask_fits : length u < 2 ^ 64 → Fits w64 (x + place + count)
-  mask_fits l = omega (arith, l, mask_end)
-
-  pub part_formatted : (d : List ℕ) (a n : ℕ) (ys : List ℕ) {v : ℤ} → a + n ≤ length d → SFits w64 v
-      → ys ≡ formatted (length (take (a + n - a) (drop a d))) (take (x + place + count - (x + place)) (drop (x + place) u)) (to_z w64 (of_z w64 v))
-      → put_mid a (a + n - a) d ys ≡ stored d a (formatted n (take count (drop place (code_of u p).literals)) v)
-  part_formatted d a n ys {v} h f e =
-      let new : List ℕ = take count (drop place (code_of u p).literals) in
-      let is = literal_is u p fills place count x place count ex refl refl inside in
-      let long : ℕ = length (take (a + n - a) (drop a d)) in
-      made d a n h ys (λ k. formatted k new v) (length_formatted n new v)
-      (e ∙ ap (λ (m : List ℕ). formatted long m (to_z w64 (of_z w64 v))) is ∙ ap (formatted long new) (back f))
+    -- the same of a mask that is a literal
+    pub part_formatted : {v : ℤ} → SFits w64 v → ys ≡ formatted (length (take (a + n - a) (drop a d))) (take (place + count - place) (drop place read)) (to_z w64 (of_z w64 v))
+        → put_mid a (a + n - a) d ys ≡ stored d a (formatted n (take count (drop place literals)) v)
+    part_formatted {v} f e =
+        let new : List ℕ = take count (drop place literals) in
+        let long : ℕ = length (take (a + n - a) (drop a d)) in
+        made d a n room ys (λ k. formatted k new v) (length_formatted n new v)
+        (e ∙ ap (λ (m : List ℕ). formatted long m (to_z w64 (of_z w64 v))) (part read place count same refl refl) ∙ ap (formatted long new) (back f))

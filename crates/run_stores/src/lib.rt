@@ -36,39 +36,12 @@ fn store_shown(bytes: &mut [u8], start: usize, len: usize, v: i64)
     text::show(&mut bytes[start..end], v)
 }
 
-// Moves n bytes from the front: for a destination that stands before its source.
-fn move_up(bytes: &mut [u8], to: usize, from: usize, n: usize)
-    requires { (to ≤ from) × (from + n ≤ length bytes.old) }
-    ensures { bytes.new ≡ stored bytes.old to (take n (drop from bytes.old)) }
-{
-    let mut i = 0;
-    while i < n {
-        bytes[to + i] = bytes[from + i];
-        i += 1;
-    }
-}
-
-// Moves n bytes from the back: for a destination that stands behind its source.
-fn move_down(bytes: &mut [u8], to: usize, from: usize, n: usize)
-    requires { (from ≤ to) × (to + n ≤ length bytes.old) }
-    ensures { bytes.new ≡ stored bytes.old to (take n (drop from bytes.old)) }
-{
-    let mut i = n;
-    while 0 < i {
-        i -= 1;
-        bytes[to + i] = bytes[from + i];
-    }
-}
-
 // Moves n bytes as if they had been copied away first.
 fn shift(bytes: &mut [u8], to: usize, from: usize, n: usize)
     requires { (to + n ≤ length bytes.old) × (from + n ≤ length bytes.old) }
     ensures { bytes.new ≡ stored bytes.old to (take n (drop from bytes.old)) }
 {
-    if to <= from {
-        return move_up(bytes, to, from, n);
-    }
-    move_down(bytes, to, from, n)
+    bytes.copy_within(from..from + n, to);
 }
 
 // Alpha to alpha inside the data: the count bytes at from, cut or filled to len, stored at start.
@@ -91,10 +64,10 @@ fn store_literal(coded: &Coded, bytes: &mut [u8], start: usize, len: usize, plac
     requires count_in_bounds { place + count ≤ length (code_in coded.now).literals }
     ensures { bytes.new ≡ stored bytes.old start (fitted len (take count (drop place (code_in coded.now).literals))) }
 {
-    let from = unit_decode::literals_offset(coded.parts) + unit_decode::long(place);
+    let from = unit_decode::long(place);
     let to = from + unit_decode::long(count);
     let end = start + len;
-    alpha::fit(&mut bytes[start..end], &coded.unit[from..to])
+    alpha::fit(&mut bytes[start..end], &coded.literals()[from..to])
 }
 
 // The character that CLEAR writes: a zero to decimal, a space to alpha.
@@ -169,10 +142,9 @@ fn format_literal(
     requires count_in_bounds { place + count ≤ length (code_in coded.now).literals }
     ensures { bytes.new ≡ stored bytes.old start (formatted len (take count (drop place (code_in coded.now).literals)) v) }
 {
-    let from = unit_decode::literals_offset(coded.parts) + place;
-    let to = from + count;
+    let last = place + count;
     let end = start + len;
-    run_masks::format(&mut bytes[start..end], &coded.unit[from..to], v)
+    run_masks::format(&mut bytes[start..end], &coded.literals()[place..last], v)
 }
 
 // Stores what a statement answered; UPCASE and LOCASE go by the charts. Data changes here and nowhere else.

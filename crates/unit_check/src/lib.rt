@@ -19,36 +19,29 @@ fn is_goto(s: Statement) -> bool
 }
 
 // Whether the n statements from i on are GOTO statements.
+#[tactic(auto, using(crate::proofs::Scans::goto_laws))]
 fn gotos(coded: &Coded, i: u16, n: u16) -> bool
     requires { i + n ≤ coded.now.parts.n }
     ensures { result ≡ gotosb (code_in coded.now) n i }
 {
-    let end = i + n;
-    let mut j = i;
-    while j < end {
+    for j in i..i + n {
         if !is_goto(coded.statement(j)) {
             return false;
         }
-        j += 1;
     }
     true
 }
 
 // Whether n is a count for the computed GOTO at i, and as many GOTO statements stand behind it.
+#[tactic(auto, unfolding(rules_unit::specs::Checks::tableb))]
 fn table_good(coded: &Coded, i: u16, n: u16) -> bool
     requires { i < coded.now.parts.n }
     ensures { result ≡ tableb (code_in coded.now) i n }
 {
-    if n < 1 {
-        return false;
-    }
-    if 255 < n {
-        return false;
-    }
-    if unit_decode::long(coded.parts.n) <= unit_decode::long(i) + unit_decode::long(n) {
-        return false;
-    }
-    gotos(coded, i + 1, n)
+    1 <= n
+        && n <= 255
+        && usize::from(i) + usize::from(n) < usize::from(coded.parts.n)
+        && gotos(coded, i + 1, n)
 }
 
 // Whether a statement is a loop end.
@@ -59,16 +52,11 @@ fn is_loop_end(s: Statement) -> bool
 }
 
 // Whether the statement `end` is the loop end of a FOR at i: it stands behind it, inside the unit.
+#[tactic(auto, unfolding(rules_unit::specs::Checks::endb))]
 fn end_good(coded: &Coded, i: u16, end: u16) -> bool
     ensures { result ≡ endb (code_in coded.now) i end }
 {
-    if end <= i {
-        return false;
-    }
-    if coded.parts.n <= end {
-        return false;
-    }
-    is_loop_end(coded.statement(end))
+    i < end && end < coded.parts.n && is_loop_end(coded.statement(end))
 }
 
 // Whether the part x of the statement at i is right, by its role.
@@ -78,49 +66,45 @@ fn role_good(coded: &Coded, i: u16, role: Role, x: u16) -> bool
 {
     match role {
         Role::Unused => x == 0,
-        Role::Written(_) => true,
-        Role::Read(_) => true,
+        Role::Written(_) | Role::Read(_) | Role::Numbers => true,
         Role::Target => x < coded.parts.n,
         Role::Table => table_good(coded, i, x),
-        Role::Numbers => true,
         Role::End => end_good(coded, i, x),
         Role::Never => false,
     }
 }
 
 // Whether the three parts of the statement at i are right.
+#[tactic(auto, unfolding(rules_unit::specs::Checks::rowb))]
 fn row_good(coded: &Coded, i: u16, row: Row, s: Statement) -> bool
     requires { i < coded.now.parts.n }
     ensures { result ≡ rowb (code_in coded.now) i row s }
 {
-    let a = row.a;
-    let b = row.b;
-    let c = row.c;
-    if !role_good(coded, i, a, s.a) {
-        return false;
-    }
-    if !role_good(coded, i, b, s.b) {
-        return false;
-    }
-    role_good(coded, i, c, s.c)
+    role_good(coded, i, row.a, s.a)
+        && role_good(coded, i, row.b, s.b)
+        && role_good(coded, i, row.c, s.c)
 }
 
 // Check 5 of the statement i.
+#[tactic(auto, unfolding(rules_unit::specs::Checks::shapeb))]
 fn shape_good(coded: &Coded, i: u16) -> bool
     requires { i < coded.now.parts.n }
     ensures { result ≡ shapeb (code_in coded.now) i }
 {
     let s = coded.statement(i);
-    if s.zero != 0 {
-        return false;
-    }
-    let row = unit_decode::row_of(unit_decode::verb_of(s.code));
-    row_good(coded, i, row, s)
+    s.zero == 0
+        && row_good(
+            coded,
+            i,
+            unit_decode::row_of(unit_decode::verb_of(s.code)),
+            s,
+        )
 }
 
 // ---- the check
 
 // What is found of the statement i: 5 before 4. What is found of its expressions is noted.
+#[tactic(auto, unfolding(rules_unit::specs::Checks::found_of))]
 fn found_of(coded: &Coded, notes: &mut [u8], rows: &mut [u16], i: u16) -> Found
     requires noted_of { NotedIn coded.now notes.old }
     requires rows_of { RowsIn coded.now rows.old }
@@ -145,30 +129,19 @@ fn statements_noted(coded: &Coded, notes: &mut [u8], rows: &mut [u16]) -> Result
     requires rows_of { RowsIn coded.now rows.old }
     ensures { result ≡ statements_from coded.now.unit.now coded.now.parts coded.now.parts.n 0 }
 {
-    let mut i: u16 = 0;
-    while i < coded.parts.n {
-        let found = found_of(coded, notes, rows, i);
-        match found {
+    for i in 0..coded.parts.n {
+        match found_of(coded, notes, rows, i) {
             Found::Good => {}
             Found::BadShape => return Err(Refusal::BadStatement(i)),
             Found::BadExpression => return Err(Refusal::BadExpression(i)),
         }
-        i += 1;
     }
     Ok(coded.parts)
 }
 
 // Whether a unit has a FOR; its answer decides only how much room there is for notes.
 fn has_for(coded: &Coded) -> bool {
-    let mut i: u16 = 0;
-    while i < coded.parts.n {
-        let s = coded.statement(i);
-        if s.code == 14 {
-            return true;
-        }
-        i += 1;
-    }
-    false
+    (0..coded.parts.n).any(|i| coded.statement(i).code == 14)
 }
 
 // Checks 4 and 5 of a unit with a FOR. There are two notes for each offset of the expressions, and nothing is noted yet.
@@ -185,14 +158,16 @@ fn statements(coded: &Coded) -> Result<Parts, Refusal>
     ensures { result ≡ statements_from coded.now.unit.now coded.now.parts coded.now.parts.n 0 }
 {
     if has_for(coded) {
-        return statements_rows(coded);
+        statements_rows(coded)
+    } else {
+        let mut notes = [0u8; 16384];
+        let mut rows = [0u16; 1];
+        statements_noted(coded, &mut notes, &mut rows)
     }
-    let mut notes = [0u8; 16384];
-    let mut rows = [0u16; 1];
-    statements_noted(coded, &mut notes, &mut rows)
 }
 
 // Checks 2 to 5 of a unit that its parts fill.
+#[tactic(auto, unfolding(rules_unit::specs::Checks::parts_check))]
 fn parts_check(coded: &Coded) -> Result<Parts, Refusal>
     ensures { result ≡ parts_check coded.now.unit.now coded.now.parts }
 {

@@ -95,12 +95,6 @@ zeros zero e = refl
 zeros (suc m) zero = refl
 zeros (suc m) (suc e) = zeros m e
 
-pub note_out : (rows : List ℕ) (at n : ℕ) → length rows ≤ at → rows ≡ set rows at n
-note_out rows at n h = sym (set_out rows at n h)
-
-pub note_past : (rows : List ℕ) (at : ℕ) → length rows ≤ at → ◌≡◌ {A = ℕ} 0 (get_or rows at 0)
-note_past rows at h = sym (get_or-eq_default rows 0 h)
-
 -- Where every note is 0, nothing is noted, and so every note is so.
 pub rows_none : (s : List ℕ) (m : ℕ) → Rows s (replicate m 0)
 rows_none s m = record { so = λ e h. absurd (omega (arith, zeros m e, h)) }

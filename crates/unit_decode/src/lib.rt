@@ -23,14 +23,14 @@ pub use filled::Coded;
 pub fn wide(x: u8) -> u16
     ensures { (result ≡ x) × (result < 256) }
 {
-    x as u16
+    u16::from(x)
 }
 
 // A word as an index.
 pub fn long(x: u16) -> usize
     ensures { result ≡ x }
 {
-    x as usize
+    usize::from(x)
 }
 
 // The number of two bytes at an offset, high byte first.
@@ -55,6 +55,7 @@ fn eighteen() -> Dialect
 }
 
 // What the mark says, which is the last two bytes of the unit.
+#[tactic(auto, unfolding(rules_unit::specs::Decode::mark_of))]
 pub fn mark_of(u: &[u8]) -> Option<Dialect>
     requires { 12 ≤ length u.now }
     ensures { result ≡ mark_of u.now }
@@ -82,6 +83,7 @@ fn dialect_of(mark: Option<Dialect>) -> Dialect
 // ---- the parts
 
 // The parts that the trailer names, with the dialect that its mark names.
+#[tactic(auto, unfolding(rules_unit::specs::Decode::parts_of))]
 pub fn parts_of(u: &[u8]) -> Parts
     requires { 12 ≤ length u.now }
     ensures { result ≡ parts_of u.now }
@@ -130,6 +132,7 @@ pub fn full_length(parts: Parts) -> usize
 // ---- fields
 
 // The kind of a field, by its byte; Bad for a byte that is none.
+#[tactic(auto, unfolding(rules_unit::specs::Decode::kind_of))]
 fn kind_of(b: u8) -> Kind
     ensures { result ≡ kind_of b }
 {
@@ -145,15 +148,11 @@ fn kind_of(b: u8) -> Kind
 pub fn is_decimal(kind: Kind) -> bool
     ensures { result ≡ is_decimal kind }
 {
-    match kind {
-        Kind::Alpha => false,
-        Kind::Decimal => true,
-        Kind::Record => false,
-        Kind::Bad => false,
-    }
+    matches!(kind, Kind::Decimal)
 }
 
 // The field entry at an offset of the unit.
+#[tactic(auto, unfolding(rules_unit::specs::Decode::field_at))]
 fn field_at(u: &[u8], at: usize) -> Field
     requires { at + 8 ≤ length u.now }
     ensures { result ≡ field_at u.now at }
@@ -177,13 +176,14 @@ pub fn end_of(field: Field) -> usize
 // ---- expressions
 
 // The reference at an offset of the expressions s; Bad where their end cuts it.
+#[tactic(auto, unfolding(rules_unit::specs::Decode::reference_at))]
 fn reference_at(s: &[u8], at: usize, form: Form) -> Item
     requires { at < length s.now }
     ensures { result ≡ reference_at s.now at form }
 {
     if 2 < s.len() - at {
         Item::Reference {
-            form: form,
+            form,
             field: word(s, at + 1),
         }
     } else {
@@ -192,6 +192,7 @@ fn reference_at(s: &[u8], at: usize, form: Form) -> Item
 }
 
 // The number literal at an offset of the expressions s; Bad where their end cuts it.
+#[tactic(auto, unfolding(rules_unit::specs::Decode::number_at))]
 fn number_at(s: &[u8], at: usize) -> Item
     requires { at < length s.now }
     ensures { result ≡ number_at s.now at }
@@ -207,6 +208,7 @@ fn number_at(s: &[u8], at: usize) -> Item
 }
 
 // The alpha literal at an offset of the expressions s; Bad where their end cuts it.
+#[tactic(auto, unfolding(rules_unit::specs::Decode::text_at))]
 fn text_at(s: &[u8], at: usize) -> Item
     requires { at < length s.now }
     ensures { result ≡ text_at s.now at }
@@ -222,6 +224,7 @@ fn text_at(s: &[u8], at: usize) -> Item
 }
 
 // The operator of a code above those of literals and references; Bad for a code that is none. The bytes are named for the contract alone.
+#[tactic(auto, unfolding(rules_unit::specs::Decode::item_by))]
 pub fn operator_at(s: &[u8], at: usize, code: u8) -> Item
     requires { 6 < code }
     ensures { result ≡ item_by s.now at code }
@@ -248,6 +251,7 @@ pub fn operator_at(s: &[u8], at: usize, code: u8) -> Item
 }
 
 // The item of the code given, which stands at the offset.
+#[tactic(auto, unfolding(rules_unit::specs::Decode::item_by))]
 fn item_by(s: &[u8], at: usize, code: u8) -> Item
     requires { at < length s.now }
     ensures { result ≡ item_by s.now at code }
@@ -265,6 +269,7 @@ fn item_by(s: &[u8], at: usize, code: u8) -> Item
 }
 
 // The item at an offset of the expressions s; Bad past their end.
+#[tactic(auto, unfolding(rules_unit::specs::Decode::item_at))]
 pub fn item_at(s: &[u8], at: usize) -> Item
     ensures { result ≡ item_at s.now at }
 {
@@ -279,12 +284,10 @@ pub fn width_of(item: Item) -> usize
     ensures { result ≡ width_of item }
 {
     match item {
-        Item::Number { place: _, len: _ } => 4,
-        Item::Reference { form: _, field: _ } => 3,
-        Item::Text { place: _, len: _ } => 5,
-        Item::Operator(_) => 1,
-        Item::End => 1,
-        Item::Bad => 1,
+        Item::Number { .. } => 4,
+        Item::Reference { .. } => 3,
+        Item::Text { .. } => 5,
+        Item::Operator(_) | Item::End | Item::Bad => 1,
     }
 }
 
@@ -293,22 +296,8 @@ pub fn op_takes(op: Op) -> u16
     ensures { result ≡ op_takes op }
 {
     match op {
-        Op::Add => 2,
-        Op::Subtract => 2,
-        Op::Multiply => 2,
-        Op::Divide => 2,
-        Op::Round => 2,
-        Op::Negate => 1,
-        Op::Eq => 2,
-        Op::Ne => 2,
-        Op::Gt => 2,
-        Op::Lt => 2,
-        Op::Ge => 2,
-        Op::Le => 2,
-        Op::Not => 1,
-        Op::And => 2,
-        Op::Or => 2,
-        Op::Xor => 2,
+        Op::Negate | Op::Not => 1,
+        _ => 2,
     }
 }
 
@@ -319,8 +308,7 @@ pub fn form_takes(form: Form) -> u16
     match form {
         Form::First => 0,
         Form::Subscript => 1,
-        Form::StartEnd => 2,
-        Form::PosLength => 2,
+        Form::StartEnd | Form::PosLength => 2,
     }
 }
 
@@ -329,12 +317,9 @@ pub fn takes_of(item: Item) -> u16
     ensures { result ≡ takes item }
 {
     match item {
-        Item::Number { place: _, len: _ } => 0,
-        Item::Reference { form, field: _ } => form_takes(form),
-        Item::Text { place: _, len: _ } => 0,
+        Item::Reference { form, .. } => form_takes(form),
         Item::Operator(op) => op_takes(op),
-        Item::End => 0,
-        Item::Bad => 0,
+        _ => 0,
     }
 }
 
@@ -344,14 +329,7 @@ pub fn takes_of(item: Item) -> u16
 pub fn closes(item: Item) -> bool
     ensures { result ≡ closesb item }
 {
-    match item {
-        Item::Number { place: _, len: _ } => false,
-        Item::Reference { form: _, field: _ } => false,
-        Item::Text { place: _, len: _ } => false,
-        Item::Operator(_) => false,
-        Item::End => true,
-        Item::Bad => true,
-    }
+    matches!(item, Item::End | Item::Bad)
 }
 
 // Where the expression behind the one at an offset starts, as it is noted; 0 where nothing is.
@@ -419,6 +397,7 @@ fn note_rows(s: &[u8], rows: &mut [u16], at: usize, next: u16)
 // ---- statements
 
 // What a statement of a code does; Bad for a code that is none.
+#[tactic(auto, unfolding(rules_unit::specs::Table::verb_of))]
 pub fn verb_of(code: u8) -> Verb
     ensures { result ≡ verb_of code }
 {
@@ -450,7 +429,7 @@ pub fn verb_of(code: u8) -> Verb
 fn row_with(a: Role, b: Role, c: Role) -> Row
     ensures { result ≡ row_with a b c }
 {
-    Row { a: a, b: b, c: c }
+    Row { a, b, c }
 }
 
 // What the parts of a statement with a place are, by what it does there.
@@ -505,6 +484,7 @@ pub fn row_of(verb: Verb) -> Row
 }
 
 // The statement at an offset of the unit.
+#[tactic(auto, unfolding(rules_unit::specs::Decode::statement_at))]
 fn statement_at(u: &[u8], at: usize) -> Statement
     requires { at + 8 ≤ length u.now }
     ensures { result ≡ statement_at u.now at }

@@ -83,14 +83,6 @@ pub ruleset last_laws = (last_other, last_end)
 -- ---- a statement, and the unit
 
 module _ (u : List ℕ) (p : Parts) (z : Stretch) where
-  pub source_by : (source a b n : ℕ) → a ≡ expressions_at p → b ≡ literals_at p → n ≡ source
-      → z ≡ lone_text b (items_at (take (b - a) (drop a u)) n) → z ≡ lone_text (literals_at p) ((code_of u p).items source)
-  source_by source a b n e f g w =
-      let k : b - a ≡ p.e = omega arith in
-      w ∙ ap (λ (x : ℕ). lone_text b (items_at (take x (drop a u)) n)) k
-      ∙ ap₂ (λ (x y : ℕ). lone_text y (items_at (take p.e (drop x u)) n)) e f
-      ∙ ap (λ (x : ℕ). lone_text (literals_at p) ((code_of u p).items x)) g
-
   pub by_none : (s : Statement) → (s.code ≡ 1 → ⊥) → z ≡ nowhere → z ≡ stretch_by (code_of u p) (literals_at p) s
   by_none s h w = rw (ne_eqb s.code 1 h) w
 
@@ -160,9 +152,6 @@ module _ (u : List ℕ) (i : ℕ) (s : Stretch) (found : s ≡ stretch_of u i) w
   pub stretch_inside : s.at + s.len ≤ length u
   unfolding stretch_of
   stretch_inside = rw found (inside_in u i (check_of u) refl)
-
-  pub literal_none : s.len < 1 → [] ≡ literal_of u i
-  literal_none h = let e : s.len ≡ 0 = omega arith in rw (← found, e)
 
   pub literal_part : take (s.at + s.len - s.at) (drop s.at u) ≡ literal_of u i
   literal_part = rw (← found, add-sub_cancel_left s.at s.len)

@@ -1,4 +1,3 @@
-pub mod Items
 pub mod Leads
 pub mod Literals
 pub mod Notes

@@ -14,7 +14,7 @@ use Rattle.rules.specs.Values.{is_from}
 use Rattle.rules_unit.specs.declared.Parts.{Parts}
 use Rattle.rules_unit.specs.Decode.{Fills, literals_at, code_of}
 use Rattle.rules_unit.specs.Expressions.{digitsb, numberb, textb}
-use Rattle.unit_decode.proofs.Literals.{literals_length, literal_is, number_there}
+use Rattle.unit_decode.proofs.Literals.{literals_length, literal_is, number_empty, number_long, number_past, number_there}
 
 -- ---- digits
 
@@ -42,14 +42,12 @@ module _ (s : List ℕ) (i : ℕ) (z : Bool) where
   unfolding digitsb
   digits_end e h = rw (drop_of_length-le s h) at e
 
+pub ruleset digits_loop = (digits_low, digits_high, digits_more, digits_end)
+
 -- ---- literals
 
 -- f, n and m are the code's own copies of the place, the length and P
 module _ (u : List ℕ) (p : Parts) (place len : ℕ) where
-  pub text_empty : len < 1 → false ≡ textb (code_of u p) place len
-  unfolding textb
-  text_empty h = sym (rw (lt-leb 1 len h))
-
   module _ (fills : Fills u p) (some : 1 ≤ len) (f n m : ℕ) (ef : f ≡ place) (en : n ≡ len) (em : m ≡ p.p) where
     pub digits_there : (start : ℕ) (r : Bool) → len ≤ p.dialect.limit → f + n ≤ m → start ≡ literals_at p
         → r ≡ digitsb (take (start + f + n - (start + f)) (drop (start + f) u)) → r ≡ numberb (code_of u p) place len
@@ -60,3 +58,5 @@ module _ (u : List ℕ) (p : Parts) (place len : ℕ) where
     pub text_there : leb (f + n) m ≡ textb (code_of u p) place len
     unfolding textb
     text_there = rw (le-leb 1 len some, literals_length u p fills, ef, en, em)
+
+pub ruleset number_laws = (number_empty, number_long, number_past, digits_there)

@@ -8,7 +8,7 @@ use native.Mathlib.Omega.{arith}
 use lib.Dec.{T, eqb, ltb}
 use lib.ListN.{length, get_or, set, replicate, get_or-eq_default}
 use lib.Seq.{get_or-set_same, get_or-set_other, set_out}
-use borrow.Author.Tests.{eq-eqb, ne_eqb, eqb-true, eqb-false, ltb-true, ltb-false}
+use borrow.Author.Tests.{eqb-true, eqb-false, ltb-true, ltb-false}
 use Rattle.rules.proofs.Walk.{cond_same}
 use Rattle.rules_unit.specs.declared.Sort.{Sort}
 use Rattle.rules_unit.specs.declared.Sort.TheVariants as sort
@@ -42,29 +42,6 @@ module _ (notes : List ℕ) (e n : ℕ) where
 
   pub noted_out : length notes ≤ e → sort.Wrong ≡ noted_at notes e n
   noted_out h = sym (blank (get_or-eq_default notes 0 h))
-
-  -- b is the byte, q the values held and m the note of the sort
-  module _ (b q : ℕ) (eb : b ≡ get_or notes e 0) (eq : q ≡ b / 8) where
-    pub noted_other : (q ≡ n → ⊥) → sort.Wrong ≡ noted_at notes e n
-    unfolding noted_at
-    noted_other h = rw (← eb, ← eq, ne_eqb q n h)
-
-    pub noted_there : (m : ℕ) (k : Sort) → m ≡ b % 8 → q ≡ n → k ≡ sort_by m → k ≡ noted_at notes e n
-    unfolding noted_at
-    noted_there m k em h f = rw (← eb, ← eq, eq-eqb q n h, ← em) f
-
-pub ruleset noted_laws = (noted_out, noted_other, noted_there)
-
--- ---- writing a note
-
-module _ (notes : List ℕ) (e n : ℕ) (k : Sort) where
-  pub note_out : length notes ≤ e → notes ≡ set notes e (n * 8 + note_of k)
-  note_out h = sym (set_out notes e (n * 8 + note_of k) h)
-
-  pub note_put : (r : ℕ) → r ≡ note_of k → set notes e (n * 8 + r) ≡ set notes e (n * 8 + note_of k)
-  note_put r h = rw h
-
-pub ruleset note_laws = (note_out, note_put)
 
 -- ---- which notes are so
 

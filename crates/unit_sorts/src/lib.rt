@@ -14,37 +14,26 @@ use rules_unit::{Item, Parts, Sort};
 use unit_decode::Coded;
 
 // Whether all characters are 0 to 9.
+#[tactic(auto, using(crate::proofs::Literals::digits_loop))]
 fn digits(s: &[u8]) -> bool
     ensures { result ≡ digitsb s.now }
 {
-    let mut i: usize = 0;
-    while i < s.len() {
-        let b = s[i];
-        if b < 48 {
+    for b in s {
+        if *b < 48 || 57 < *b {
             return false;
         }
-        if 57 < b {
-            return false;
-        }
-        i += 1;
     }
     true
 }
 
 // Whether a number literal has 1 to the dialect's digits and lies inside the literals.
+#[tactic(auto, using(crate::proofs::Literals::number_laws))]
 fn number_good(coded: &Coded, place: u16, len: u16) -> bool
     ensures { result ≡ numberb (code_in coded.now) place len }
 {
-    if len < 1 {
-        return false;
-    }
-    if coded.parts.dialect.limit < len {
-        return false;
-    }
-    let from = unit_decode::long(place);
-    let n = unit_decode::long(len);
-    let most = unit_decode::long(coded.parts.p);
-    if most < from + n {
+    let from = usize::from(place);
+    let n = usize::from(len);
+    if len < 1 || coded.parts.dialect.limit < len || usize::from(coded.parts.p) < from + n {
         return false;
     }
     let start = unit_decode::literals_offset(coded.parts) + from;
@@ -52,14 +41,12 @@ fn number_good(coded: &Coded, place: u16, len: u16) -> bool
     digits(&coded.unit[start..end])
 }
 
-// Whether an alpha literal has characters and lies inside the literals. The unit is named for the contract alone.
+// Whether an alpha literal has characters and lies inside the literals.
+#[tactic(auto, using(crate::proofs::Literals::text_there), unfolding(rules_unit::specs::Expressions::textb))]
 pub fn text_good(coded: &Coded, place: u16, len: u16) -> bool
     ensures { result ≡ textb (code_in coded.now) place len }
 {
-    if len < 1 {
-        return false;
-    }
-    unit_decode::long(place) + unit_decode::long(len) <= unit_decode::long(coded.parts.p)
+    1 <= len && usize::from(place) + usize::from(len) <= usize::from(coded.parts.p)
 }
 
 // Whether an item keeps its own rule.
@@ -71,8 +58,7 @@ fn item_good(coded: &Coded, item: Item) -> bool
         Item::Reference { form: _, field } => field < coded.parts.f,
         Item::Text { place, len } => text_good(coded, place, len),
         Item::Operator(_) => true,
-        Item::End => false,
-        Item::Bad => false,
+        Item::End | Item::Bad => false,
     }
 }
 
@@ -88,9 +74,7 @@ fn field_sort(coded: &Coded, i: u16) -> Sort
     requires { i < coded.now.parts.f }
     ensures { result ≡ place_sort (is_decimal ((code_in coded.now).field i).kind) }
 {
-    let field = coded.field(i);
-    let kind = field.kind;
-    place_sort(unit_decode::is_decimal(kind))
+    place_sort(unit_decode::is_decimal(coded.field(i).kind))
 }
 
 // The sort that an item gives as the last one.
@@ -99,26 +83,18 @@ fn sort_of(coded: &Coded, item: Item) -> Sort
     ensures { result ≡ sort_of (code_in coded.now) item }
 {
     match item {
-        Item::Number { place: _, len: _ } => Sort::Number,
+        Item::Number { .. } | Item::Operator(_) => Sort::Number,
         Item::Reference { form: _, field } => field_sort(coded, field),
-        Item::Text { place: _, len: _ } => Sort::Text,
-        Item::Operator(_) => Sort::Number,
-        Item::End => Sort::Wrong,
-        Item::Bad => Sort::Wrong,
+        Item::Text { .. } => Sort::Text,
+        Item::End | Item::Bad => Sort::Wrong,
     }
 }
 
-// Whether another item may stand after one of this sort.
+// Whether another item may stand after one of this sort: 06 stands only last, and every reference but the last is to a decimal field.
 fn goes_on(k: Sort) -> bool
     ensures { result ≡ goes_on k }
 {
-    match k {
-        Sort::Wrong => false,
-        Sort::Number => true,
-        Sort::Text => false, // 06 stands only last.
-        Sort::Decimal => true,
-        Sort::Alpha => false, // Every reference but the last is to a decimal field.
-    }
+    matches!(k, Sort::Number | Sort::Decimal)
 }
 
 // ---- notes
@@ -127,13 +103,7 @@ fn goes_on(k: Sort) -> bool
 fn is_wrong(k: Sort) -> bool
     ensures { result ≡ is_wrong k }
 {
-    match k {
-        Sort::Wrong => true,
-        Sort::Number => false,
-        Sort::Text => false,
-        Sort::Decimal => false,
-        Sort::Alpha => false,
-    }
+    matches!(k, Sort::Wrong)
 }
 
 // The note of a sort: 1 to 4, and 0 of Wrong, which is not noted.
@@ -150,36 +120,28 @@ fn note_of(k: Sort) -> u8
 }
 
 // The sort of which m is the note; Wrong where it is that of none.
+#[tactic(auto, unfolding(crate::specs::Notes::sort_by))]
 fn sort_by(m: u8) -> Sort
     ensures { result ≡ sort_by m }
 {
-    if m == 1 {
-        return Sort::Number;
+    match m {
+        1 => Sort::Number,
+        2 => Sort::Text,
+        3 => Sort::Decimal,
+        4 => Sort::Alpha,
+        _ => Sort::Wrong,
     }
-    if m == 2 {
-        return Sort::Text;
-    }
-    if m == 3 {
-        return Sort::Decimal;
-    }
-    if m == 4 {
-        return Sort::Alpha;
-    }
-    Sort::Wrong
 }
 
 // The sort noted for the items from an offset on, where n values are held before them; Wrong where none is noted.
+#[tactic(auto, using(crate::proofs::Notes::noted_out), unfolding(crate::specs::Notes::noted_at))]
 fn noted(notes: &[u8], at: usize, n: u16) -> Sort
     ensures { result ≡ noted_at notes.now at n }
 {
-    if notes.len() <= at {
-        return Sort::Wrong;
+    match notes.get(at) {
+        Some(b) if u16::from(*b / 8) == n => sort_by(*b % 8),
+        _ => Sort::Wrong,
     }
-    let b = notes[at];
-    if unit_decode::wide(b / 8) != n {
-        return Sort::Wrong;
-    }
-    sort_by(b % 8)
 }
 
 // Notes the sort k for the items from an offset on, where n values are held before them. An offset outside the notes is not noted.
@@ -187,16 +149,15 @@ fn note(notes: &mut [u8], at: usize, n: u16, k: Sort)
     requires { n ≤ 16 }
     ensures { notes.new ≡ set notes.old at (n * 8 + note_of k) }
 {
-    if notes.len() <= at {
-        return;
+    if at < notes.len() {
+        notes[at] = (n * 8) as u8 + note_of(k);
     }
-    let held = (n * 8) as u8;
-    notes[at] = held + note_of(k);
 }
 
 // ---- expressions
 
 // The sort of the expression at an offset of the expressions s.
+#[tactic(auto, using(rules::proofs::Walk::seen_yes, rules_unit::proofs::Items::width_some, rules_unit::proofs::Items::width_most))]
 fn sort_in(coded: &Coded, s: &[u8], notes: &[u8], at: usize) -> Sort
     requires { Noted (code_in coded.now) s.now notes.now }
     ensures { result ≡ sort_from (code_in coded.now) (items_at s.now at) 0 sort.Number }
@@ -204,6 +165,7 @@ fn sort_in(coded: &Coded, s: &[u8], notes: &[u8], at: usize) -> Sort
     let mut k = Sort::Number;
     let mut n: u16 = 0;
     let mut i = at;
+    // How far a turn steps is known only once it has read its item.
     while i < s.len() {
         let item = unit_decode::item_at(s, i);
         if let Item::End = item {
@@ -223,21 +185,18 @@ fn sort_in(coded: &Coded, s: &[u8], notes: &[u8], at: usize) -> Sort
             return Sort::Wrong;
         }
         let taken = unit_decode::takes_of(item);
-        if n < taken {
-            return Sort::Wrong;
-        }
-        if 16 < n - taken + 1 {
+        if n < taken || 16 < n - taken + 1 {
             return Sort::Wrong;
         }
         k = sort_of(coded, item);
         n = n - taken + 1;
-        i = i + unit_decode::width_of(item);
+        i += unit_decode::width_of(item);
     }
     Sort::Wrong
 }
 
-// Notes the sort k of the expression at an offset of the expressions s, for each of its items up to one for which it is noted. The unit is
-// named for the contract alone.
+// Notes the sort k of the expression at an offset of the expressions s, for each of its items up to one for which it is noted.
+#[tactic(auto, using(crate::proofs::Leads::lead_start, rules_unit::proofs::Items::width_some, rules_unit::proofs::Items::width_most))]
 fn note_in(coded: &Coded, s: &[u8], notes: &mut [u8], at: usize, k: Sort)
     requires noted { Noted (code_in coded.now) s.now notes.old }
     requires k_value { is_wrong k ≡ false }
@@ -246,7 +205,8 @@ fn note_in(coded: &Coded, s: &[u8], notes: &mut [u8], at: usize, k: Sort)
 {
     let mut n: u16 = 0;
     let mut i = at;
-    while i < unit_decode::long(coded.parts.e) {
+    // How far a turn steps is known only once it has read its item.
+    while i < usize::from(coded.parts.e) {
         let item = unit_decode::item_at(s, i);
         if let Item::End = item {
             return;
@@ -256,7 +216,7 @@ fn note_in(coded: &Coded, s: &[u8], notes: &mut [u8], at: usize, k: Sort)
         }
         note(notes, i, n, k);
         n = n - unit_decode::takes_of(item) + 1;
-        i = i + unit_decode::width_of(item);
+        i += unit_decode::width_of(item);
     }
 }
 
@@ -267,7 +227,7 @@ pub fn sort_at(coded: &Coded, notes: &mut [u8], e: u16) -> Sort
     ensures noted_of_2 { NotedIn coded.now notes.new }
 {
     let s = coded.expressions();
-    let at = unit_decode::long(e);
+    let at = usize::from(e);
     let k = sort_in(coded, s, notes, at);
     if is_wrong(k) {
         return k;

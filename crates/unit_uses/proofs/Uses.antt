@@ -15,13 +15,11 @@ use Rattle.rules_unit.specs.declared.Verb.{Verb}
 use Rattle.rules_unit.specs.declared.Role.{Role}
 use Rattle.rules_unit.specs.declared.Role.TheVariants as role
 use Rattle.rules_unit.specs.declared.Row.{Row}
-use Rattle.rules_unit.specs.declared.Sort.{Sort}
-use Rattle.rules_unit.specs.declared.Want.{Want}
 use Rattle.rules_unit.specs.declared.Use.{Use}
 use Rattle.rules_unit.specs.Codes.{Code}
 use Rattle.rules_unit.specs.Decode.{code_of}
-use Rattle.rules_unit.specs.Expressions.{sort_at, next_at, suits, useb, usesb}
-use Rattle.rules_unit.specs.Table.{verb_of, row_of, use_of, more_of, uses_by, uses_of, used}
+use Rattle.rules_unit.specs.Expressions.{next_at, useb, usesb}
+use Rattle.rules_unit.specs.Table.{verb_of, row_of, use_of, more_of, uses_by, uses_of}
 
 -- ---- any list of uses
 
@@ -41,14 +39,6 @@ unfolding usesb
 uses_end c us k h = rw (drop_of_length-le us h)
 
 -- ---- the uses of a statement
-
--- the use of a part, where its role is known
-pub use_as : (r q : Role) (x : ℕ) (y : Option Use) → r ≡ q → y ≡ use_of q x → y ≡ use_of r x
-use_as r q x y e w = rw e w
-
--- how many uses, where the role of b is known
-pub count_as : (c : Code) (r : Row) (s : Statement) (q : Role) (n : ℕ) → r.b ≡ q → n ≡ 3 + length (more_of c q s.b) → n ≡ length (uses_by c r s)
-count_as c r s q n e w = rw e (omega (arith, w))
 
 -- only numbers in a row have more uses
 more_numbers : (c : Code) (r : Role) (x : ℕ) → 0 < length (more_of c r x) → r ≡ role.Numbers
@@ -110,12 +100,8 @@ module _ (u : List ℕ) (p : Parts) (us : List (Option Use)) (k : ℕ) (z : Bool
     pub uses_on : not r ≡ false → usesb (code_of u p) (drop (k + 1) us) ≡ z
     uses_on h = sym (rw (not-false r h) at step) ∙ left
 
--- ---- one use
+pub ruleset use_laws = (use_a, use_b, use_c, use_more)
 
-module _ (u : List ℕ) (p : Parts) where
-  pub no_use : (x : Option Use) → x ≡ None → true ≡ useb (code_of u p) x
-  no_use x e = rw e
+pub ruleset behind_laws = (behind_second, behind_third, behind_none)
 
-  pub use_rule : (x : Option Use) (w : Want) (at : ℕ) (t : Bool) (k : Sort) (r : Bool) → x ≡ used w at t → k ≡ sort_at (code_of u p) at → r ≡ suits w k
-      → r ≡ useb (code_of u p) x
-  use_rule x w at t k r e f q = rw e (q ∙ ap (suits w) f)
+pub ruleset loop_laws = (uses_refused, uses_on, uses_over)

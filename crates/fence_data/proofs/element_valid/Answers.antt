@@ -7,24 +7,6 @@ use native.Mathlib.Omega.{arith}
 use borrow.Author.Rules.{rules}
 use Rattle.fence_data.proofs.element_valid.Goals as goal
 
-pub field-entry-requires : goal.field-entry-requires
-field-entry-requires c = search (rules, passed_fills) depth 3
-
-pub overflow_mul-start : goal.overflow_mul-start
-overflow_mul-start c =
-    let low : c.long.result + c.long-2.result * c.long-size.result + c.long-size.result ≤ 16383 = search element_low depth 3 in
-    omega (arith, low)
-
-pub overflow_add-start : goal.overflow_add-start
-overflow_add-start c =
-    let low : c.long.result + c.long-2.result * c.long-size.result + c.long-size.result ≤ 16383 = search element_low depth 3 in
-    omega (arith, low)
-
-pub overflow_add-end : goal.overflow_add-end
-overflow_add-end c =
-    let low : c.long.result + c.long-2.result * c.long-size.result + c.long-size.result ≤ 16383 = search element_low depth 3 in
-    omega (arith, low)
-
 pub slice_bounds-is_valid-end : goal.slice_bounds-is_valid-end
 slice_bounds-is_valid-end c = search element_high depth 3
 

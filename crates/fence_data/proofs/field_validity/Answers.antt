@@ -5,9 +5,6 @@ use Rattle.rules_unit.proofs.Sound.{passed_fills}
 use Rattle.fence_data.proofs.Decimals.{field_decimal, field_other}
 use Rattle.fence_data.proofs.field_validity.Goals as goal
 
-pub field-entry-requires : goal.field-entry-requires
-field-entry-requires c = search (rules, passed_fills) depth 3
-
 pub returns-then-is_decimal : goal.returns-then-is_decimal
 returns-then-is_decimal c = search field_decimal depth 3
 

@@ -6,14 +6,11 @@ use Rattle.rules_unit.proofs.Statements.{left_all}
 use Rattle.fence_data.proofs.Decimals.{fields_over, fields_stop, fields_on}
 use Rattle.fence_data.proofs.fields_validity.Goals as goal
 
-pub loop-f-init : goal.loop-f-init
-loop-f-init c = (search rules, rw left_all)
-
 pub returns-then-not-is_all : goal.returns-then-not-is_all
 returns-then-not-is_all c = search fields_stop depth 3
 
 pub loop-f-preserved : goal.loop-f-preserved
-loop-f-preserved c = (search rules, search fields_on depth 3)
+loop-f-preserved c = search fields_on depth 3
 
 pub returns : goal.returns
 returns c = search fields_over depth 3

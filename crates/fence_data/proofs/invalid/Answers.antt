@@ -8,9 +8,6 @@ use Rattle.fence_data.proofs.invalid.Goals as goal
 pub invariant_of-validity_by : goal.invariant_of-validity_by
 invariant_of-validity_by c = record { fills = search fills_by depth 3; words = search rules }
 
-pub validity_by-requires : goal.validity_by-requires
-validity_by-requires c = search passed_by depth 3
-
 pub returns-in-Ok : goal.returns-in-Ok
 returns-in-Ok c = search invalid_passed depth 3
 

@@ -1,7 +1,7 @@
 -- `fence_list::list_all` meets its contract: each turn lists the next statement.
--- The invariant: what is left gives the answer of the whole, and rows are noted as they are. The measure: the statements left.
+-- The invariant: what is left gives the answer of the whole, and rows are noted as they are.
 -- Assumes nothing.
-use Prim.Native.Nat.{◌-◌, ◌≤◌}
+use Prim.Native.Nat.{◌-◌}
 use mathlib.Core.Path.{◌≡◌}
 use lib.ListN.{length}
 use Rattle.rules_fence.specs.Listed.{statements_broken}
@@ -12,10 +12,5 @@ use Rattle.fence_list.proofs.list_all.Given as goal
 
 abbrev pub invariant-loop-i : goal.invariant-loop-i
 invariant-loop-i l =
-    (l.i ≤ l.coded.parts.n)
-    × (gathered l.skip (statements_broken (code_in l.coded) (l.coded.parts.n - l.i) l.i) (G l.n l.rows) ≡ gathered l.skip (statements_broken (code_in l.coded) l.coded.parts.n 0) (G 0 l.initial.rows))
+    (gathered l.skip (statements_broken (code_in l.coded) (l.coded.parts.n - l.i) l.i) (G l.n l.rows) ≡ gathered l.skip (statements_broken (code_in l.coded) l.coded.parts.n 0) (G 0 l.initial.rows))
     × RowsIn l.coded l.noted × (length l.noted ≡ length l.initial.noted) × (length l.rows ≡ length l.initial.rows)
-
-abbrev pub decreases-loop-i : goal.decreases-loop-i
-decreases-loop-i l =
-    l.coded.parts.n - l.i

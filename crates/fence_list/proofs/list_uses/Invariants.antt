@@ -16,7 +16,3 @@ invariant-loop-k l =
     (gathered l.skip (uses_broken (code_in l.coded) l.i (drop l.k (uses_by (code_in l.coded) l.row l.s))) (G l.n l.rows)
     ≡ gathered l.skip (uses_broken (code_in l.coded) l.i (uses_by (code_in l.coded) l.row l.s)) (G l.count l.initial.rows))
     × RowsIn l.coded l.noted × (length l.noted ≡ length l.initial.noted) × (length l.rows ≡ length l.initial.rows)
-
-abbrev pub decreases-loop-k : goal.decreases-loop-k
-decreases-loop-k l =
-    l.uses - l.k

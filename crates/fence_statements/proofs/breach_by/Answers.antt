@@ -3,13 +3,9 @@
 use mathlib.Core.Path.{ap}
 use mathlib.Core.Bool.{not}
 use borrow.Author.Rules.{rules}
-use Prim.Native.Nat.{◌-◌}
-use Rattle.fence_statements.proofs.Notes.{both_still, both_kept}
-use Rattle.fence_statements.proofs.Statements.{left_all, use_good, uses_over, uses_break, uses_on}
+use Rattle.fence_statements.proofs.Notes.{both_kept}
+use Rattle.fence_statements.proofs.Statements.{use_good, uses_over, uses_break, uses_on}
 use Rattle.fence_statements.proofs.breach_by.Goals as goal
-
-pub loop-k-init : goal.loop-k-init
-loop-k-init c = (search left_all, search rules, search rules, search rules, search rules, search rules)
 
 pub use_breach-b-requires-clause-u_value : goal.use_breach-b-requires-clause-u_value
 use_breach-b-requires-clause-u_value c = search use_good depth 3
@@ -30,6 +26,3 @@ loop-k-preserved c = (
 
 pub returns-clause-value : goal.returns-clause-value
 returns-clause-value c = search uses_over depth 3
-
-pub returns-clause-both_if : goal.returns-clause-both_if
-returns-clause-both_if c = search both_still depth 3

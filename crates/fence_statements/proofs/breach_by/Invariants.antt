@@ -1,7 +1,6 @@
 -- `fence_statements::breach_by` meets its contract: each turn tests the next use.
--- The invariant: what is left gives the answer of the whole, what is noted keeps the rules, and rows are noted as they are. The measure: the uses that are left.
+-- The invariant: what is left gives the answer of the whole, what is noted keeps the rules, and rows are noted as they are.
 -- Assumes nothing.
-use Prim.Native.Nat.{◌-◌}
 use mathlib.Core.Path.{◌≡◌}
 use lib.ListN.{length}
 use Rattle.unit_decode.specs.Units.{RowsIn}
@@ -13,6 +12,3 @@ abbrev pub invariant-loop-k : goal.invariant-loop-k
 invariant-loop-k l =
     Left l.coded.unit.now l.coded.parts l.row l.s l.k × Both l.coded l.reads l.writes × RowsIn l.coded l.rows
     × (length l.reads ≡ length l.initial.reads) × (length l.writes ≡ length l.initial.writes) × (length l.rows ≡ length l.initial.rows)
-
-abbrev pub decreases-loop-k : goal.decreases-loop-k
-decreases-loop-k l = l.count - l.k

@@ -10,8 +10,8 @@ place_by-requires-clause-val c = search again depth 3
 pub place_by-requires-clause-val_2 : goal.place_by-requires-clause-val_2
 place_by-requires-clause-val_2 c = search again depth 3
 
-pub returns-then-n-taken : goal.returns-then-n-taken
-returns-then-n-taken c = search place_bounds depth 3
+pub returns-then-n-long : goal.returns-then-n-long
+returns-then-n-long c = search place_unbound depth 3
 
 pub returns : goal.returns
-returns c = search place_unbound depth 3
+returns c = search place_bounds depth 3

@@ -1,16 +1,17 @@
 -- `run_spans::held` meets its contract: at each `return` the tests say that the span leaves the field, or that it lies inside.
 -- Assumes nothing.
-use Rattle.run_spans.proofs.Finding.{field_low, field_behind, field_long, field_here}
+use mathlib.Core.Path.{sym}
+use native.Mathlib.Omega.{arith}
+use Rattle.rules_unit.specs.declared.Rule.TheVariants as rule
+use Rattle.rules_run.proofs.Strict.{held_in, held_past}
 use Rattle.run_spans.proofs.held.Goals as goal
 
 pub returns-then-start-long : goal.returns-then-start-long
-returns-then-start-long c = search field_low depth 3
-
-pub returns-then-end-start : goal.returns-then-end-start
-returns-then-end-start c = search field_behind depth 3
-
-pub returns-then-end-start-2 : goal.returns-then-end-start-2
-returns-then-end-start-2 c = search field_long depth 3
+returns-then-start-long c =
+    let s = c.args in
+    sym (held_past s.field s.start s.len (λ i. grind (arith, i.0, i.1)))
 
 pub returns : goal.returns
-returns c = search field_here depth 3
+returns c =
+    let s = c.args in
+    sym (held_in s.field rule.Strict s.start s.len (omega arith, omega arith))

@@ -1,10 +1,15 @@
 -- `run_spans::held_to` meets its contract: a span that was found is held to its field, and none stays none.
 -- Assumes nothing.
+use Rattle.std.specs.Prelude.{None}
+use mathlib.Core.Path.{◌≡◌, ◌∙◌}
+use borrow.Author.Rules.{rules}
 use Rattle.run_spans.proofs.Finding.{field_at, field_none}
 use Rattle.run_spans.proofs.held_to.Goals as goal
 
-pub returns-in-Some : goal.returns-in-Some
-returns-in-Some c = search field_at depth 3
+pub returns-in_err-span : goal.returns-in_err-span
+returns-in_err-span c =
+    let same : c.from_residual.result ≡ None = search rules in
+    same ∙ field_none c.args.field c.args.span c.from_residual.result (search rules)
 
-pub returns-in-None : goal.returns-in-None
-returns-in-None c = search field_none depth 3
+pub returns : goal.returns
+returns c = field_at c.args.field c.args.span c.held.result _ _ (search rules) c.held.ensures

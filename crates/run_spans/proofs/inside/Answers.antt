@@ -7,8 +7,5 @@ use Rattle.run_spans.proofs.inside.Goals as goal
 pub returns-then-size-a : goal.returns-then-size-a
 returns-then-size-a c = let s = c.args in past s.size s.a s.n (omega arith)
 
-pub returns-then-size-a-2 : goal.returns-then-size-a-2
-returns-then-size-a-2 c = let s = c.args in past s.size s.a s.n (omega arith)
-
 pub returns : goal.returns
 returns c = let s = c.args in found s.size s.a s.n (omega arith)

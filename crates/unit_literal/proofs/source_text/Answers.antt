@@ -3,4 +3,4 @@
 use Rattle.unit_literal.proofs.source_text.Goals as goal
 
 pub returns : goal.returns
-returns c = rw (c.expressions.ensures.value, c.long.ensures, c.literals_offset-from.ensures) at c.lone_text.ensures
+returns c = rw (c.expressions.ensures.value, c.from.ensures, c.literals_offset-from.ensures) at c.lone_text.ensures
