@@ -53,7 +53,7 @@ fn recase(chart: &[u8; 256], s: &mut [u8])
 }
 
 // The two charts, which a run binds once and lends: a constant that is indexed is laid out anew each time.
-#[derive(Drop)]
+#[derive(Clone, Copy)]
 pub struct Cases {
     pub uppers: [u8; 256],
     pub lowers: [u8; 256],
@@ -92,10 +92,13 @@ pub fn fill(s: &mut [u8], b: u8)
 }
 
 // Alpha to alpha, from text that lies elsewhere: what fits is copied, and spaces fill the rest.
+// Tried: `copy_from_slice`, for which the archive for C would need `memmove` from outside.
 pub fn fit(s: &mut [u8], from: &[u8])
     ensures { s.new ≡ fitted (length s.old) from.now }
 {
     let n = s.len().min(from.len());
-    s[..n].copy_from_slice(&from[..n]);
+    for i in 0..n {
+        s[i] = from[i];
+    }
     s[n..].fill(32)
 }

@@ -148,11 +148,12 @@ impl Breaking {
     }
 }
 
-// A reference that is kept: that of the first statement that has it; how many more statements have the same one, the last of them, and the first eight.
+// A reference that is kept: that of the first statement that has it; how many more statements have the same one, the last of them, and the first eight. There is
+// room for many, so each number is as narrow as it can be.
 #[derive(Clone, Copy, Default)]
 pub struct Kept {
     pub breaking: Breaking,
-    pub more: usize,
+    pub more: u16,
     last: u16,
     others: [u16; OTHERS_MOST],
 }
@@ -164,7 +165,7 @@ impl Kept {
             return;
         }
         self.last = i;
-        if let Some(place) = self.others.get_mut(self.more) {
+        if let Some(place) = self.others.get_mut(usize::from(self.more)) {
             *place = i;
         }
         self.more = self.more.saturating_add(1);
@@ -172,30 +173,31 @@ impl Kept {
 
     // The first of the other statements.
     pub fn others(&self) -> &[u16] {
-        let n = self.more.min(OTHERS_MOST);
+        let n = usize::from(self.more).min(OTHERS_MOST);
         &self.others[..n]
     }
 }
 
-// A number for each offset of the expressions at which a reference stands that is read, and for each at which one is written.
+// A number for each offset of the expressions at which a reference stands that is read, and for each at which one is written. It is held plus one, and none as
+// 0: with an Option in each place the program needs 128 KB more stack.
 #[derive(Drop)]
 pub struct PerUse {
-    read: [Option<u16>; OFFSETS],
-    written: [Option<u16>; OFFSETS],
+    read: [u16; OFFSETS],
+    written: [u16; OFFSETS],
 }
 
 impl PerUse {
     pub fn new() -> PerUse {
         PerUse {
-            read: [None; OFFSETS],
-            written: [None; OFFSETS],
+            read: [0; OFFSETS],
+            written: [0; OFFSETS],
         }
     }
 
     // The number of a reference.
     fn get(&self, r: Breaking) -> Option<u16> {
         let numbers = if r.written { &self.written } else { &self.read };
-        numbers.get(usize::from(r.at)).copied().flatten()
+        numbers.get(usize::from(r.at))?.checked_sub(1)
     }
 
     // Gives the reference at an offset its number, or nothing past the end.
@@ -206,7 +208,7 @@ impl PerUse {
             &mut self.read
         };
         if let Some(place) = numbers.get_mut(at) {
-            *place = u16::try_from(n).ok();
+            *place = u16::try_from(n.saturating_add(1)).unwrap_or(0);
         }
     }
 }

@@ -194,7 +194,7 @@ fn put_others<F: FnMut(u16) -> usize>(l: &mut Line, kept: &Kept, mut number: F)
         }
         write!(l, "{}", number(*i));
     }
-    if kept.others().len() < kept.more {
+    if kept.others().len() < usize::from(kept.more) {
         l.text(b" ..");
     }
 }

@@ -22,8 +22,10 @@ const LENGTH_MOST: usize = 5;
 
 const CRC_FIGURES: usize = 8;
 
-// How many names of fields and of labels are noted.
-const SLOTS: usize = 4096;
+// How many places there are for the names of fields and for labels: twice as many as a unit has of each.
+const FIELD_SLOTS: usize = 1024;
+
+const LABEL_SLOTS: usize = 4096;
 
 // The longest name of a file.
 const PATH_MOST: usize = PATH - 1;
@@ -206,11 +208,14 @@ fn head_of(line: &[u8]) -> Option<Head<'_>> {
     (fits && is_crc(crc) && is_source(source)).then_some(Head { length, crc })
 }
 
-// Whether a first line has the length and the CRC of a unit.
+// Whether a first line has the length and the CRC of a unit, which is worked out only where the length fits.
 fn is_of(head: Head<'_>, unit: &[u8]) -> bool {
+    if number_in(head.length) != unit.len() {
+        return false;
+    }
     let mut l = Line::new();
     write!(l, "{:08X}", crc_of(unit));
-    number_in(head.length) == unit.len() && head.crc == l.bytes()
+    head.crc == l.bytes()
 }
 
 // ---- the rows of a names file
@@ -262,10 +267,10 @@ fn mixed(n: usize, b: u8) -> usize {
 }
 
 // Notes a name among those that stand above, each where a number for it says or behind that; and answers whether there is no other like it.
-fn is_new<'a>(seen: &mut [Option<&'a [u8]>; SLOTS], name: &'a [u8]) -> bool {
+fn is_new<'a>(seen: &mut [Option<&'a [u8]>], name: &'a [u8]) -> bool {
     let n = name.iter().fold(0, |n, b| mixed(n, *b));
-    for k in 0..SLOTS {
-        let slot = n.saturating_add(k) % SLOTS;
+    for k in 0..seen.len() {
+        let slot = n.saturating_add(k) % seen.len();
         let Some(held) = seen[slot] else {
             seen[slot] = Some(name);
             return true;
@@ -301,8 +306,8 @@ fn checked_row(
 
 // Checks the rows behind the first line, up to a fault. Labels have places of their own.
 fn check_rows(names: &[u8], parts: Parts) -> Result<(), Misfit<'_>> {
-    let mut fields = [None; SLOTS];
-    let mut labels = [None; SLOTS];
+    let mut fields = [None; FIELD_SLOTS];
+    let mut labels = [None; LABEL_SLOTS];
     let mut last = None;
     let lines = names.split_inclusive(is_line_end).enumerate();
     for (i, line) in lines.skip(1) {

@@ -44,7 +44,11 @@ impl<'a> Unit<'a> {
     // The unit of some bytes with its names, if it passes its check.
     pub fn new(bytes: &'a [u8], names: Names<'a>, show: Show) -> Result<Unit<'a>, Refusal> {
         let parts = dibol::check(bytes)?;
-        let coded = Coded { unit: bytes, parts };
+        let coded = Coded {
+            unit: bytes,
+            parts,
+            first: unit_decode::statements_offset(parts),
+        };
         Ok(Unit { coded, names, show })
     }
 

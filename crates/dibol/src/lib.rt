@@ -47,7 +47,14 @@ pub fn field(unit: &[u8], i: usize) -> Option<Field>
 {
     let checked = unit_check::check(unit);
     match checked {
-        Ok(parts) => field_by(&Coded { unit, parts }, i),
+        Ok(parts) => field_by(
+            &Coded {
+                unit,
+                parts,
+                first: unit_decode::statements_offset(parts),
+            },
+            i,
+        ),
         Err(_) => None,
     }
 }
@@ -173,7 +180,11 @@ pub fn run(unit: &[u8], bytes: &mut [u8], state: State, allowance: u64) -> Outco
             if bytes.len() != parts.d as usize {
                 return refused(Stop::WrongSize, 0, state);
             }
-            let coded = Coded { unit, parts };
+            let coded = Coded {
+                unit,
+                parts,
+                first: unit_decode::statements_offset(parts),
+            };
             if !run_state::sound(&coded, state) {
                 return refused(Stop::Unsound, 0, state);
             }

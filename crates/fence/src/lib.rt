@@ -54,7 +54,11 @@ pub fn fence(unit: &[u8]) -> Verdict
 {
     let answer = unit_check::check(unit);
     match answer {
-        Ok(parts) => verdict_of(&Coded { unit, parts }),
+        Ok(parts) => verdict_of(&Coded {
+            unit,
+            parts,
+            first: unit_decode::statements_offset(parts),
+        }),
         Err(r) => Verdict::Refused(r),
     }
 }
@@ -90,7 +94,14 @@ pub fn breach(unit: &[u8], i: usize) -> Breach
 {
     let answer = unit_check::check(unit);
     match answer {
-        Ok(parts) => breach_by(&Coded { unit, parts }, i),
+        Ok(parts) => breach_by(
+            &Coded {
+                unit,
+                parts,
+                first: unit_decode::statements_offset(parts),
+            },
+            i,
+        ),
         Err(_) => Breach::None,
     }
 }

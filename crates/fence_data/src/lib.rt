@@ -114,7 +114,14 @@ pub fn invalid(unit: &[u8], bytes: &[u8]) -> Validity
 {
     let answer = unit_check::check(unit);
     match answer {
-        Ok(parts) => validity_by(&Coded { unit, parts }, bytes),
+        Ok(parts) => validity_by(
+            &Coded {
+                unit,
+                parts,
+                first: unit_decode::statements_offset(parts),
+            },
+            bytes,
+        ),
         Err(r) => Validity::Refused(r),
     }
 }

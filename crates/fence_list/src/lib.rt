@@ -352,7 +352,15 @@ pub fn breaches(unit: &[u8], skip: usize, rows: &mut [u64]) -> usize
 {
     let answer = unit_check::check(unit);
     match answer {
-        Ok(parts) => list_unit(&Coded { unit, parts }, skip, rows),
+        Ok(parts) => list_unit(
+            &Coded {
+                unit,
+                parts,
+                first: unit_decode::statements_offset(parts),
+            },
+            skip,
+            rows,
+        ),
         Err(_) => 0,
     }
 }
@@ -386,7 +394,16 @@ pub fn statement_breaches(unit: &[u8], i: usize, skip: usize, rows: &mut [u64]) 
 {
     let answer = unit_check::check(unit);
     match answer {
-        Ok(parts) => list_by(&Coded { unit, parts }, i, skip, rows),
+        Ok(parts) => list_by(
+            &Coded {
+                unit,
+                parts,
+                first: unit_decode::statements_offset(parts),
+            },
+            i,
+            skip,
+            rows,
+        ),
         Err(_) => 0,
     }
 }

@@ -31,7 +31,7 @@ const POWERS: [u64; 19] = [
 ];
 
 // The table, for one who looks powers up in a loop: a constant indexed there would be laid out anew on every turn.
-#[derive(Drop)]
+#[derive(Clone, Copy)]
 pub struct Tens {
     pub table: [u64; 19],
     pub ghost powers: { Powers table },

@@ -154,14 +154,14 @@ aim_destination c i h b z =
 -- ---- the store
 
 module _ (c : Code) (s : SoundCode c) (d : List ℕ) (e : length d ≡ c.size) (v : AllValid c d) (span : Option Span) (w : Write) (room : Room c (length d) w) where
-  applied_valid : Aimed c d span w → AllValid c (applied c d w)
+  pub applied_valid : Aimed c d span w → AllValid c (applied c d w)
   unfolding applied
   applied_valid (still q) = rw q v
   applied_valid (aims decimal k fresh) =
       rw (applied_stored c d w)
       (store_valid c s d e v k.field (start_of w) (len_of w) (new_of c d w) k.known k.fenced (length_new c d w room) k.some (λ t. fresh (sym k.kind ∙ t)))
 
-  touches_covered : Aimed c d span w → (b : ℕ) → Touches w b → Covers span b
+  pub touches_covered : Aimed c d span w → (b : ℕ) → Touches w b → Covers span b
   touches_covered (still q) b t = let x : Touches write.Nothing b = subst (λ (y : Write). Touches y b) q t in absurd (omega (arith, x.to))
   touches_covered (aims decimal k fresh) b t = rw k.is (t.from, t.to)
 

@@ -18,11 +18,11 @@ use Rattle.rules_unit.specs.declared.Form.{Form}
 use Rattle.rules_unit.specs.declared.Form.TheVariants as form
 use Rattle.rules_run.specs.declared.Span.{Span}
 
--- "A span may leave its field in either direction; it must stay inside the D bytes. Otherwise 21."
 -- The n bytes from a.
 abbrev pub span_at : ℕ → ℕ → Option Span
 span_at a n = Some (record { start = a; len = n })
 
+-- "A span may leave its field in either direction; it must stay inside the D bytes. Otherwise 21."
 unfoldable pub within : ℕ → ℤ → ℕ → Option Span
 within size (pos a) n = cond (leb (a + n) size) (span_at a n) None
 within size (negsuc a) n = None

@@ -1,7 +1,7 @@
 -- The statements, as one table (document 01, "The coded unit"; requests of document 02): what each code does, and what its parts a, b and c are.
 --   verb_of code      what a statement of that code does
 --   row_of v          what its parts are: a row of the table
---   use_of r x        how the part x, of the role r, uses an expression; Nothing where it uses none
+--   use_of r x        how the part x, of the role r, uses an expression; None where it uses none
 --   more_of c r x     the uses of the expressions behind that one, where there are several in a row
 --   uses_of c s       the uses of a statement, one for each part and then those in a row
 --   WritesA code     the codes whose place a is written

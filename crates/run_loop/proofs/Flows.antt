@@ -84,7 +84,7 @@ module _ (P : Result Turn Fault → Type 0) (depth : ℕ) (fails : (e : Fault) �
   by_either t own (flow.Arm i) = own
   by_either t own flow.Disarm = own
 
-  under_either : (t : Result Turn Fault) → P t → P (turn_under depth t)
+  pub under_either : (t : Result Turn Fault) → P t → P (turn_under depth t)
   unfolding turn_under
   under_either (Ok t) own = by_either t own t.flow
   under_either (Err e) own = fails e

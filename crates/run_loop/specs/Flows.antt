@@ -1,6 +1,6 @@
 -- What keeps a statement from being completed (document 01, "Stops and their numbers").
 --   turn_under depth t    what the turn t comes to where depth calls are open
--- The rule itself is `moved_by` of rules_run; proofs/Flows.antt has the law that a turn's flow leads where the rule says.
+-- The rule itself is `led_by` of rules_run; proofs/Flows.antt has the law that a turn leads where the rule says.
 -- Assumes nothing.
 use Rattle.std.specs.Prelude.{ℕ, cond, ltb, eqb, Result, Err, Ok}
 use Rattle.rules.specs.declared.Fault.{Fault}

@@ -36,12 +36,36 @@ fn store_shown(bytes: &mut [u8], start: usize, len: usize, v: i64)
     text::show(&mut bytes[start..end], v)
 }
 
+// Moves n bytes from the front: for a destination that stands before its source.
+fn move_up(bytes: &mut [u8], to: usize, from: usize, n: usize)
+    requires { (to ≤ from) × (from + n ≤ length bytes.old) }
+    ensures { bytes.new ≡ stored bytes.old to (take n (drop from bytes.old)) }
+{
+    for i in 0..n {
+        bytes[to + i] = bytes[from + i];
+    }
+}
+
+// Moves n bytes from the back: for a destination that stands behind its source.
+fn move_down(bytes: &mut [u8], to: usize, from: usize, n: usize)
+    requires { (from ≤ to) × (to + n ≤ length bytes.old) }
+    ensures { bytes.new ≡ stored bytes.old to (take n (drop from bytes.old)) }
+{
+    for i in (0..n).rev() {
+        bytes[to + i] = bytes[from + i];
+    }
+}
+
 // Moves n bytes as if they had been copied away first.
+// Tried: `copy_within`. The edit that moves every text from the front then plants a loop, and a right loop there would be refused too.
 fn shift(bytes: &mut [u8], to: usize, from: usize, n: usize)
     requires { (to + n ≤ length bytes.old) × (from + n ≤ length bytes.old) }
     ensures { bytes.new ≡ stored bytes.old to (take n (drop from bytes.old)) }
 {
-    bytes.copy_within(from..from + n, to);
+    if to <= from {
+        return move_up(bytes, to, from, n);
+    }
+    move_down(bytes, to, from, n)
 }
 
 // Alpha to alpha inside the data: the count bytes at from, cut or filled to len, stored at start.

@@ -189,5 +189,9 @@ pub fn check(unit: &[u8]) -> Result<Parts, Refusal>
         return Err(Refusal::NotFilled);
     }
     let parts = unit_decode::parts_of(unit);
-    parts_check(&Coded { unit, parts })
+    parts_check(&Coded {
+        unit,
+        parts,
+        first: unit_decode::statements_offset(parts),
+    })
 }

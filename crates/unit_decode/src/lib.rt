@@ -115,18 +115,18 @@ pub fn literals_offset(parts: Parts) -> usize
     expressions_offset(parts) + long(parts.e)
 }
 
-// Where the statement i stands in the unit.
-fn statement_offset(parts: Parts, i: u16) -> usize
-    ensures { result ≡ statements_at parts + i * 8 }
+// Where the statements start in the unit.
+pub fn statements_offset(parts: Parts) -> usize
+    ensures { result ≡ statements_at parts }
 {
-    literals_offset(parts) + long(parts.p) + long(i) * 8
+    literals_offset(parts) + long(parts.p)
 }
 
 // The length of the unit that the parts fill.
 pub fn full_length(parts: Parts) -> usize
     ensures { result ≡ full_length parts }
 {
-    statement_offset(parts, parts.n) + 12
+    statements_offset(parts) + long(parts.n) * 8 + 12
 }
 
 // ---- fields
@@ -561,6 +561,6 @@ impl Coded<'_> {
         requires { i < self.now.parts.n }
         ensures { result ≡ (code_in self.now).statement i }
     {
-        statement_at(self.unit, statement_offset(self.parts, i))
+        statement_at(self.unit, self.first + long(i) * 8)
     }
 }

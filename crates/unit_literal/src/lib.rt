@@ -81,7 +81,14 @@ pub fn stretch(unit: &[u8], i: usize) -> Stretch
     ensures { result ≡ stretch_of unit.now i }
 {
     match unit_check::check(unit) {
-        Ok(parts) => stretch_in(&Coded { unit, parts }, i),
+        Ok(parts) => stretch_in(
+            &Coded {
+                unit,
+                parts,
+                first: unit_decode::statements_offset(parts),
+            },
+            i,
+        ),
         Err(_) => empty_stretch(),
     }
 }

@@ -6,7 +6,7 @@ use Rattle.rules_unit.proofs.Sound.{fills_by}
 use Rattle.dibol.proofs.field.Goals as goal
 
 pub invariant_of-field_by : goal.invariant_of-field_by
-invariant_of-field_by c = record { fills = search fills_by depth 3; words = search rules }
+invariant_of-field_by c = record { fills = search fills_by depth 3; words = search rules; starts = search rules }
 
 pub returns-in-Ok : goal.returns-in-Ok
 returns-in-Ok c = search entry_passed depth 3

@@ -6,7 +6,7 @@ use Rattle.dibol.proofs.Ways.{unit_dialect, call_ways, sound_by}
 use Rattle.dibol.proofs.run.Goals as goal
 
 pub invariant_of-coded : goal.invariant_of-coded
-invariant_of-coded c = record { fills = search fills_by depth 3; words = search rules }
+invariant_of-coded c = record { fills = search fills_by depth 3; words = search rules; starts = search rules }
 
 pub returns-then-bytes-parts : goal.returns-then-bytes-parts
 returns-then-bytes-parts c = search call_ways depth 3

@@ -6,7 +6,7 @@ use Rattle.fence.proofs.Answers.{breach_passed, breach_refused}
 use Rattle.fence.proofs.breach.Goals as goal
 
 pub invariant_of-breach_by : goal.invariant_of-breach_by
-invariant_of-breach_by c = record { fills = search fills_by depth 3; words = search rules }
+invariant_of-breach_by c = record { fills = search fills_by depth 3; words = search rules; starts = search rules }
 
 pub returns-in-Ok : goal.returns-in-Ok
 returns-in-Ok c = search breach_passed depth 3

@@ -6,7 +6,7 @@ use Rattle.fence.proofs.Answers.{fence_passed, fence_refused}
 use Rattle.fence.proofs.fence.Goals as goal
 
 pub invariant_of-verdict_of : goal.invariant_of-verdict_of
-invariant_of-verdict_of c = record { fills = search fills_by depth 3; words = search rules }
+invariant_of-verdict_of c = record { fills = search fills_by depth 3; words = search rules; starts = search rules }
 
 pub returns-in-Ok : goal.returns-in-Ok
 returns-in-Ok c = search fence_passed depth 3

@@ -6,7 +6,7 @@ use Rattle.fence_data.proofs.Decimals.{invalid_passed, invalid_refused}
 use Rattle.fence_data.proofs.invalid.Goals as goal
 
 pub invariant_of-validity_by : goal.invariant_of-validity_by
-invariant_of-validity_by c = record { fills = search fills_by depth 3; words = search rules }
+invariant_of-validity_by c = record { fills = search fills_by depth 3; words = search rules; starts = search rules }
 
 pub returns-in-Ok : goal.returns-in-Ok
 returns-in-Ok c = search invalid_passed depth 3

@@ -6,7 +6,7 @@ use Rattle.fence_list.proofs.Statements.{all_passed, all_refused}
 use Rattle.fence_list.proofs.breaches.Goals as goal
 
 pub invariant_of-list_unit : goal.invariant_of-list_unit
-invariant_of-list_unit c = record { fills = search fills_by depth 3; words = search rules }
+invariant_of-list_unit c = record { fills = search fills_by depth 3; words = search rules; starts = search rules }
 
 pub list_unit-requires : goal.list_unit-requires
 list_unit-requires c = search passed_by depth 3

@@ -6,7 +6,7 @@ use Rattle.fence_list.proofs.Statements.{one_passed, one_refused}
 use Rattle.fence_list.proofs.statement_breaches.Goals as goal
 
 pub invariant_of-list_by : goal.invariant_of-list_by
-invariant_of-list_by c = record { fills = search fills_by depth 3; words = search rules }
+invariant_of-list_by c = record { fills = search fills_by depth 3; words = search rules; starts = search rules }
 
 pub list_by-requires : goal.list_by-requires
 list_by-requires c = search passed_by depth 3

@@ -17,4 +17,4 @@ pub returns : goal.returns
 returns c = search check_laws depth 3
 
 pub invariant_of-parts_check : goal.invariant_of-parts_check
-invariant_of-parts_check c = record { fills = search filled_fills depth 3; words = search rules }
+invariant_of-parts_check c = record { fills = search filled_fills depth 3; words = search rules; starts = search rules }

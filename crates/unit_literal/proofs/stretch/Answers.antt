@@ -6,7 +6,7 @@ use Rattle.unit_literal.proofs.Stretches.{stretch_passed, stretch_refused}
 use Rattle.unit_literal.proofs.stretch.Goals as goal
 
 pub invariant_of-stretch_in : goal.invariant_of-stretch_in
-invariant_of-stretch_in c = record { fills = search fills_by depth 3; words = search rules }
+invariant_of-stretch_in c = record { fills = search fills_by depth 3; words = search rules; starts = search rules }
 
 pub returns-in-Ok : goal.returns-in-Ok
 returns-in-Ok c = search stretch_passed depth 3

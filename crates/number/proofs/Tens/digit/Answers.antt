@@ -4,4 +4,4 @@ use Rattle.rules.proofs.Signed.{pow_pos10}
 use Rattle.number.proofs.Tens.digit.Goals as goal
 
 pub nonzero_div-result : goal.nonzero_div-result
-nonzero_div-result c = rw c.power.ensures (pow_pos10 c.args.k)
+nonzero_div-result c = rw c.power.ensures (search pow_pos10)

@@ -4,4 +4,4 @@ use Rattle.rules_unit.proofs.Sound.{fills_by}
 use Rattle.boxlever.proofs.parts.Unit.new.Goals as goal
 
 pub invariant_of-coded : goal.invariant_of-coded
-invariant_of-coded c = record { fills = fills_by _ _ c.check.ensures _ c.in_ok-parts.was; words = search rules }
+invariant_of-coded c = record { fills = fills_by _ _ c.check.ensures _ c.in_ok-parts.was; words = search rules; starts = search rules }
