@@ -22,10 +22,8 @@ const LENGTH_MOST: usize = 5;
 
 const CRC_FIGURES: usize = 8;
 
-// How many places there are for the names of fields and for labels: twice as many as a unit has of each.
-const FIELD_SLOTS: usize = 1024;
-
-const LABEL_SLOTS: usize = 4096;
+// How many names of fields, and how many labels, are noted.
+const SLOTS: usize = 4096;
 
 // The longest name of a file.
 const PATH_MOST: usize = PATH - 1;
@@ -267,10 +265,10 @@ fn mixed(n: usize, b: u8) -> usize {
 }
 
 // Notes a name among those that stand above, each where a number for it says or behind that; and answers whether there is no other like it.
-fn is_new<'a>(seen: &mut [Option<&'a [u8]>], name: &'a [u8]) -> bool {
+fn is_new<'a>(seen: &mut [Option<&'a [u8]>; SLOTS], name: &'a [u8]) -> bool {
     let n = name.iter().fold(0, |n, b| mixed(n, *b));
-    for k in 0..seen.len() {
-        let slot = n.saturating_add(k) % seen.len();
+    for k in 0..SLOTS {
+        let slot = n.saturating_add(k) % SLOTS;
         let Some(held) = seen[slot] else {
             seen[slot] = Some(name);
             return true;
@@ -304,22 +302,20 @@ fn checked_row(
     Ok((key, name))
 }
 
-// Checks the rows behind the first line, up to a fault. Labels have places of their own.
+// Checks the rows behind the first line, up to a fault. Labels take the places of the names of fields, which stand before them all: places of their own would
+// take 64 KB more stack.
 fn check_rows(names: &[u8], parts: Parts) -> Result<(), Misfit<'_>> {
-    let mut fields = [None; FIELD_SLOTS];
-    let mut labels = [None; LABEL_SLOTS];
+    let mut seen = [None; SLOTS];
     let mut last = None;
     let lines = names.split_inclusive(is_line_end).enumerate();
     for (i, line) in lines.skip(1) {
         let number = i.saturating_add(1);
         let row = checked_row(line, parts, last);
         let (key, name) = row.map_err(|fault| Misfit::Line(number, fault))?;
-        let is_new = match (key, name) {
-            (Key::Field(_), Some(name)) => is_new(&mut fields, name),
-            (Key::Statement(_), Some(name)) => is_new(&mut labels, name),
-            (_, None) => true,
-        };
-        if !is_new {
+        if matches!((last, key), (Some(Key::Field(_)), Key::Statement(_))) {
+            seen.fill(None);
+        }
+        if name.is_some_and(|name| !is_new(&mut seen, name)) {
             return Err(Misfit::Line(number, Fault::Twice));
         }
         last = Some(key);

@@ -47,7 +47,7 @@ impl<'a> Unit<'a> {
         let coded = Coded {
             unit: bytes,
             parts,
-            first: unit_decode::statements_offset(parts),
+            tail: unit_decode::tail_of(bytes, parts),
         };
         Ok(Unit { coded, names, show })
     }

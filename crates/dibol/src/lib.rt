@@ -51,7 +51,7 @@ pub fn field(unit: &[u8], i: usize) -> Option<Field>
             &Coded {
                 unit,
                 parts,
-                first: unit_decode::statements_offset(parts),
+                tail: unit_decode::tail_of(unit, parts),
             },
             i,
         ),
@@ -183,7 +183,7 @@ pub fn run(unit: &[u8], bytes: &mut [u8], state: State, allowance: u64) -> Outco
             let coded = Coded {
                 unit,
                 parts,
-                first: unit_decode::statements_offset(parts),
+                tail: unit_decode::tail_of(unit, parts),
             };
             if !run_state::sound(&coded, state) {
                 return refused(Stop::Unsound, 0, state);

@@ -57,7 +57,7 @@ pub fn fence(unit: &[u8]) -> Verdict
         Ok(parts) => verdict_of(&Coded {
             unit,
             parts,
-            first: unit_decode::statements_offset(parts),
+            tail: unit_decode::tail_of(unit, parts),
         }),
         Err(r) => Verdict::Refused(r),
     }
@@ -98,7 +98,7 @@ pub fn breach(unit: &[u8], i: usize) -> Breach
             &Coded {
                 unit,
                 parts,
-                first: unit_decode::statements_offset(parts),
+                tail: unit_decode::tail_of(unit, parts),
             },
             i,
         ),

@@ -118,7 +118,7 @@ pub fn invalid(unit: &[u8], bytes: &[u8]) -> Validity
             &Coded {
                 unit,
                 parts,
-                first: unit_decode::statements_offset(parts),
+                tail: unit_decode::tail_of(unit, parts),
             },
             bytes,
         ),

@@ -356,7 +356,7 @@ pub fn breaches(unit: &[u8], skip: usize, rows: &mut [u64]) -> usize
             &Coded {
                 unit,
                 parts,
-                first: unit_decode::statements_offset(parts),
+                tail: unit_decode::tail_of(unit, parts),
             },
             skip,
             rows,
@@ -398,7 +398,7 @@ pub fn statement_breaches(unit: &[u8], i: usize, skip: usize, rows: &mut [u64]) 
             &Coded {
                 unit,
                 parts,
-                first: unit_decode::statements_offset(parts),
+                tail: unit_decode::tail_of(unit, parts),
             },
             i,
             skip,

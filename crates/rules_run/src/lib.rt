@@ -251,13 +251,7 @@ impl State {
         requires { self.at < 65535 }
         ensures { result ≡ armed self h }
     {
-        let trap = self.trap;
-        let caught = trap.caught;
-        let next = Trap {
-            handler: h,
-            caught: caught,
-        };
-        self.trap = next;
+        self.trap.handler = h;
         self.at = self.at + 1;
         self
     }

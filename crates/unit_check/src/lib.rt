@@ -192,6 +192,6 @@ pub fn check(unit: &[u8]) -> Result<Parts, Refusal>
     parts_check(&Coded {
         unit,
         parts,
-        first: unit_decode::statements_offset(parts),
+        tail: unit_decode::tail_of(unit, parts),
     })
 }

@@ -2,13 +2,13 @@
 // statements; and the table of statements. Nothing is checked here.
 #![tactic(auto)]
 
-ghost use Rattle.std.specs.Prelude.{◌≡◌, ◌+◌, ◌*◌, ◌<◌, ◌≤◌, length, get_or, set};
+ghost use Rattle.std.specs.Prelude.{◌≡◌, ◌+◌, ◌*◌, ◌<◌, ◌≤◌, length, drop, get_or, set};
 ghost use Rattle.unit_decode.specs.Units.{code_in, expressions_in, RowsIn};
 ghost use Rattle.rules_unit.specs.declared.Verb.TheVariants as verb;
 ghost use Rattle.rules_unit.specs.Codes.{is_decimal};
 ghost use Rattle.rules_unit.specs.Expressions.{op_takes, form_takes, takes, closesb, extent_of, next_at};
 ghost use Rattle.rules_unit.specs.Table.{verb_of, row_with, row_of};
-ghost use Rattle.rules_unit.specs.Decode.{word_at, eighteen, mark_of, dialect_of, parts_of, kind_of, field_at, reference_at, number_at, text_at, item_by, item_at, width_of, statement_at, expressions_at, literals_at, statements_at, full_length, items_at};
+ghost use Rattle.rules_unit.specs.Decode.{word_at, eighteen, mark_of, dialect_of, parts_of, kind_of, field_at, reference_at, number_at, text_at, item_by, item_at, width_of, statement_at, expressions_at, literals_at, statements_at, full_length, items_at, Fills};
 ghost use Rattle.unit_decode.specs.Rows.{Rows};
 
 use rules_unit::{
@@ -116,10 +116,18 @@ pub fn literals_offset(parts: Parts) -> usize
 }
 
 // Where the statements start in the unit.
-pub fn statements_offset(parts: Parts) -> usize
+fn statements_offset(parts: Parts) -> usize
     ensures { result ≡ statements_at parts }
 {
     literals_offset(parts) + long(parts.p)
+}
+
+// The bytes of the unit from its first statement on.
+pub fn tail_of(unit: &[u8], parts: Parts) -> &[u8]
+    requires { Fills unit.now parts }
+    ensures { result.now ≡ drop (statements_at parts) unit.now }
+{
+    &unit[statements_offset(parts)..]
 }
 
 // The length of the unit that the parts fill.
@@ -561,6 +569,6 @@ impl Coded<'_> {
         requires { i < self.now.parts.n }
         ensures { result ≡ (code_in self.now).statement i }
     {
-        statement_at(self.unit, self.first + long(i) * 8)
+        statement_at(self.tail, long(i) * 8)
     }
 }

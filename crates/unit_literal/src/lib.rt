@@ -85,7 +85,7 @@ pub fn stretch(unit: &[u8], i: usize) -> Stretch
             &Coded {
                 unit,
                 parts,
-                first: unit_decode::statements_offset(parts),
+                tail: unit_decode::tail_of(unit, parts),
             },
             i,
         ),

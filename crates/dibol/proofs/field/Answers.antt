@@ -5,6 +5,9 @@ use Rattle.dibol.proofs.Entries.{entry_passed, entry_refused}
 use Rattle.rules_unit.proofs.Sound.{fills_by}
 use Rattle.dibol.proofs.field.Goals as goal
 
+pub tail_of-requires : goal.tail_of-requires
+tail_of-requires c = search fills_by depth 3
+
 pub invariant_of-field_by : goal.invariant_of-field_by
 invariant_of-field_by c = record { fills = search fills_by depth 3; words = search rules; starts = search rules }
 

@@ -5,6 +5,9 @@ use Rattle.rules_unit.proofs.Sound.{passed_by, fills_by}
 use Rattle.dibol.proofs.Ways.{unit_dialect, call_ways, sound_by}
 use Rattle.dibol.proofs.run.Goals as goal
 
+pub tail_of-requires : goal.tail_of-requires
+tail_of-requires c = search fills_by depth 3
+
 pub invariant_of-coded : goal.invariant_of-coded
 invariant_of-coded c = record { fills = search fills_by depth 3; words = search rules; starts = search rules }
 

@@ -5,6 +5,9 @@ use Rattle.rules_unit.proofs.Sound.{fills_by}
 use Rattle.fence.proofs.Answers.{breach_passed, breach_refused}
 use Rattle.fence.proofs.breach.Goals as goal
 
+pub tail_of-requires : goal.tail_of-requires
+tail_of-requires c = search fills_by depth 3
+
 pub invariant_of-breach_by : goal.invariant_of-breach_by
 invariant_of-breach_by c = record { fills = search fills_by depth 3; words = search rules; starts = search rules }
 

@@ -5,6 +5,9 @@ use Rattle.rules_unit.proofs.Sound.{fills_by}
 use Rattle.fence.proofs.Answers.{fence_passed, fence_refused}
 use Rattle.fence.proofs.fence.Goals as goal
 
+pub tail_of-requires : goal.tail_of-requires
+tail_of-requires c = search fills_by depth 3
+
 pub invariant_of-verdict_of : goal.invariant_of-verdict_of
 invariant_of-verdict_of c = record { fills = search fills_by depth 3; words = search rules; starts = search rules }
 

@@ -5,6 +5,9 @@ use Rattle.rules_unit.proofs.Sound.{passed_by, fills_by}
 use Rattle.fence_data.proofs.Decimals.{invalid_passed, invalid_refused}
 use Rattle.fence_data.proofs.invalid.Goals as goal
 
+pub tail_of-requires : goal.tail_of-requires
+tail_of-requires c = search fills_by depth 3
+
 pub invariant_of-validity_by : goal.invariant_of-validity_by
 invariant_of-validity_by c = record { fills = search fills_by depth 3; words = search rules; starts = search rules }
 

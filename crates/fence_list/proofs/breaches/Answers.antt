@@ -5,6 +5,9 @@ use Rattle.rules_unit.proofs.Sound.{passed_by, fills_by}
 use Rattle.fence_list.proofs.Statements.{all_passed, all_refused}
 use Rattle.fence_list.proofs.breaches.Goals as goal
 
+pub tail_of-requires : goal.tail_of-requires
+tail_of-requires c = search fills_by depth 3
+
 pub invariant_of-list_unit : goal.invariant_of-list_unit
 invariant_of-list_unit c = record { fills = search fills_by depth 3; words = search rules; starts = search rules }
 

@@ -5,6 +5,9 @@ use Rattle.rules_unit.proofs.Sound.{passed_by, fills_by}
 use Rattle.fence_list.proofs.Statements.{one_passed, one_refused}
 use Rattle.fence_list.proofs.statement_breaches.Goals as goal
 
+pub tail_of-requires : goal.tail_of-requires
+tail_of-requires c = search fills_by depth 3
+
 pub invariant_of-list_by : goal.invariant_of-list_by
 invariant_of-list_by c = record { fills = search fills_by depth 3; words = search rules; starts = search rules }
 

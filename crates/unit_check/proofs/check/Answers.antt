@@ -10,6 +10,9 @@ returns-then-not-filled c = search check_laws depth 3
 pub parts_of-parts-requires : goal.parts_of-parts-requires
 parts_of-parts-requires c = search filled_least depth 3
 
+pub tail_of-requires : goal.tail_of-requires
+tail_of-requires c = search filled_fills depth 3
+
 pub parts_check-requires : goal.parts_check-requires
 parts_check-requires c = search filled_fills depth 3
 

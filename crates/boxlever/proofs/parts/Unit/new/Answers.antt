@@ -3,5 +3,8 @@ use Rattle.std.proofs.Common.{rules}
 use Rattle.rules_unit.proofs.Sound.{fills_by}
 use Rattle.boxlever.proofs.parts.Unit.new.Goals as goal
 
+pub tail_of-requires : goal.tail_of-requires
+tail_of-requires c = fills_by _ _ c.check.ensures _ c.in_ok-parts.was
+
 pub invariant_of-coded : goal.invariant_of-coded
 invariant_of-coded c = record { fills = fills_by _ _ c.check.ensures _ c.in_ok-parts.was; words = search rules; starts = search rules }
